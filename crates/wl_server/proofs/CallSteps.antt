@@ -1,5 +1,6 @@
 -- How a call is a step of the server.
 pub mod Doing
+pub mod Moved
 pub mod Numbering
 pub mod Slots
 pub mod Lent

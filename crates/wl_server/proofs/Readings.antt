@@ -1,11 +1,8 @@
 -- How messages that are handled join to a reading, and how an action ends.
 pub mod Notes
-pub mod Flushing
 pub mod Hearing
-pub mod NewIds
 pub mod Texts
 pub mod Finishing
-pub mod Opened
 pub mod Handling
 pub mod Requesting
 pub mod OneMessage

@@ -1,12 +1,14 @@
 -- What a client's method did, from what its part became and what was noted.
-use Rattle.std.proofs.Common.{◌≡◌, List, [], Result, MatchResult, append-nil, arith, refl}
+use Rattle.std.proofs.Common.{ℕ, ◌≡◌, List, [], Result, MatchResult, Bool, false, append-nil, arith}
 use Rattle.wl_wire.specs.declared.error.IoFault.{IoFault}
 use Rattle.wl_server.specs.Inside.Client.{Does}
 use Rattle.wl_server.specs.Deeds.{Deed}
-use Rattle.wl_link.specs.Link.{with_transport}
-use Rattle.wl_server.specs.Part.{Part, with_link}
-use Rattle.wl_server.specs.PartStep.{WithTransport}
+use Rattle.wl_server.specs.Part.{Part}
 use Rattle.wl_server.specs.Server.{Stored, no_times, untimed}
+use Rattle.wl_server.specs.Felt.{FlushedTo, FlushesLive}
+use Rattle.wl_link.specs.Exchange.{Queue}
+use Rattle.wl_link.proofs.Calls.Branches.{at_false}
+use Rattle.wl_link.specs.Puts.{lacks_memory}
 
 module _ {T U C : Type 0} where
   -- the same, whatever the numbers of its notes
@@ -19,7 +21,6 @@ module _ {T U C : Type 0} where
       → Does s R (record { serial = s.serial; part = q; made = s.made; times = no_times })
   does_quietly s R q does = ([], q, does, grind (arith, append-nil))
 
-  -- its transport was changed by its program
-  pub moved : (s : Stored T U C) (becomes : T → T → Type 0) (t : T) → becomes s.part.link.transport t
-      → Does s (λ p did q. (did ≡ []) × WithTransport becomes p q) (record s { part = with_link s.part (with_transport s.part.link t) })
-  moved s becomes t is = does_quietly s (λ p did q. (did ≡ []) × WithTransport becomes p q) _ (refl, (t, is, refl))
+  pub live_flushed : (sends : T → Queue → Result ℕ IoFault → T → Type 0) (s s' : Stored T U C) (answer : Result (Unit {0}) IoFault) (lacked : Bool) → s.part.is_killed ≡ false
+      → lacked ≡ lacks_memory answer → Does s (λ p did q. FlushedTo sends p answer (lacks_memory answer) did q) s' → Does s (λ p did q. FlushesLive sends p lacked did q) s'
+  live_flushed sends s s' answer lacked live is (did, q, flushed, made) = rw is (did, q, at_false _ s.part.is_killed live (answer, flushed), made)

@@ -18,8 +18,8 @@ use Rattle.wl_server.specs.Ids.{ClientParts}
 use Rattle.wl_server.specs.Inside.Leaving.{Flushes, FlushesKilled, all_staying, collected, with_data, ends_at, ends_of, given_at, id_in, staying}
 use Rattle.wl_server.specs.NoteOrder.{RiseFromSlot}
 use Rattle.wl_server.specs.Server.{Stored, note_of}
-use Rattle.wl_server.proofs.Readings.Flushing.{live_flushed, does_nothing}
 use Rattle.wl_server.proofs.CleanupSteps.Gathering.{map_set, rest_at}
+use Rattle.wl_server.proofs.CallSteps.Doing.{live_flushed, does_quietly}
 use Rattle.wl_sets.proofs.Lists.{get_set_other, get_set_same, other_of}
 use Rattle.wl_link.proofs.Calls.Branches.{at_true, at_false}
 
@@ -42,7 +42,7 @@ module _ {T U C : Type 0} where
   -- ---- what waits for a killed client
 
   pub not_killed : (sends : T → Queue → Result ℕ IoFault → T → Type 0) (s : Stored T U C) → s.part.is_killed ≡ false → Does s (λ p did q. FlushesKilled sends p false did q) s
-  not_killed sends s live = does_nothing s (λ p did q. FlushesKilled sends p false did q) (at_false _ s.part.is_killed live (refl, refl, refl))
+  not_killed sends s live = does_quietly s (λ p did q. FlushesKilled sends p false did q) s.part (at_false _ s.part.is_killed live (refl, refl, refl))
 
   pub flushes_where : (sends : T → Queue → Result ℕ IoFault → T → Type 0) (killed : Bool) (s s' : Stored T U C) (answer : Result (Unit {0}) IoFault) (lacked : Bool)
       → s.part.is_killed ≡ killed → lacked ≡ lacks_memory answer → Does s (λ p did q. FlushedTo sends p answer (lacks_memory answer) did q) s'
@@ -53,7 +53,8 @@ module _ {T U C : Type 0} where
   pub not_flushed : (sends : T → Queue → Result ℕ IoFault → T → Type 0) (killed : Bool) (s : Stored T U C) → (s.part.is_killed ≡ killed → ⊥)
       → Does s (λ p did q. Flushes sends killed p false did q) s
   not_flushed sends true s other = not_killed sends s (grind (arith, s.part.is_killed))
-  not_flushed sends false s other = does_nothing s (λ p did q. FlushesLive sends p false did q) (at_true _ s.part.is_killed (grind (arith, s.part.is_killed)) (refl, refl, refl))
+  not_flushed sends false s other = does_quietly s (λ p did q. FlushesLive sends p false did q) s.part (at_true _ s.part.is_killed
+      (grind (arith, s.part.is_killed)) (refl, refl, refl))
 
   -- ---- what is noted of one client
 

@@ -25,8 +25,7 @@ use Rattle.wl_server.specs.Inside.Puts.{Puts}
 use Rattle.wl_server.specs.Server.{Stored, no_times, untimed}
 use Rattle.wl_server.specs.Telling.{Core, Tells, closed_down, core_of, end_deeds, part_of, tells}
 use Rattle.wl_link.proofs.Calls.Branches.{at_false}
-use Rattle.wl_server.proofs.CallSteps.Doing.{told_untimed}
-use Rattle.wl_server.proofs.Readings.Flushing.{does_nothing}
+use Rattle.wl_server.proofs.CallSteps.Doing.{does_quietly, told_untimed}
 use Rattle.wl_server.proofs.ObjectCalls.Closing.{client_of, closing, told_by}
 use Rattle.wl_server.proofs.ObjectCalls.Destroying.{named_is_held}
 use Rattle.wl_server.proofs.Readings.Notes.{notes_append, notes_of_sends}
@@ -162,11 +161,11 @@ module _ {T U C : Type 0} (client : ClientParts) (m : SessionMessage) (sender : 
 module _ {T U C : Type 0} (sends : T → Queue → Result ℕ IoFault → T → Type 0) (client : ClientParts) (table : List InterfaceRow) (s : Stored T U C) (m : SessionMessage) where
   -- to a killed client nothing is sent
   pub to_killed : s.part.is_killed ≡ true → Does s (λ p did q. SendsEvent sends client table p m (Ok tt) false did q) s
-  to_killed killed = does_nothing s (λ p did q. SendsEvent sends client table p m (Ok tt) false did q) (rw killed (refl, refl, refl, refl))
+  to_killed killed = does_quietly s (λ p did q. SendsEvent sends client table p m (Ok tt) false did q) s.part (rw killed (refl, refl, refl, refl))
 
   pub was_refused : (e : EventError) → s.part.is_killed ≡ false → event_check client s.part.store table m ≡ Err e
       → Does s (λ p did q. SendsEvent sends client table p m (Err e) false did q) s
-  was_refused e live is = does_nothing s (λ p did q. SendsEvent sends client table p m (Err e) false did q) (rw (live, is) (refl, refl, refl, refl))
+  was_refused e live is = does_quietly s (λ p did q. SendsEvent sends client table p m (Err e) false did q) s.part (rw (live, is) (refl, refl, refl, refl))
 
   pub was_granted : (sender : Object (Kept U)) (ends : Bool) (answer : Result (Unit {0}) EventError) (lacked : Bool) (after : Stored T U C)
       → s.part.is_killed ≡ false → event_check client s.part.store table m ≡ Ok (sender, ends)

@@ -17,14 +17,11 @@ use Rattle.wl_server.specs.Requests.{Outcome, Whole, Wrong, convert, start}
 use Rattle.wl_server.specs.Telling.{Core, Told, deeds_in, deeds_of, end_deeds, objects_in}
 use Rattle.wl_server.proofs.OverRuns.Announced.RequestCases.{request_case}
 use Rattle.wl_server.proofs.OverRuns.Moves.BaseMoves.{Doings}
-use Rattle.wl_server.proofs.OverRuns.Moves.DoingsLaws.{deeds_given, doings_in_both, doings_puts, doings_turns, told_deeds}
+use Rattle.wl_server.proofs.OverRuns.Moves.DoingsLaws.{deeds_given, doings_in_both, doings_puts, told_deeds}
 use Rattle.wl_server.proofs.Readings.Notes.{notes_append}
-use Rattle.wl_server.proofs.Readings.OneMessage.{deeds_append}
+use Rattle.wl_server.proofs.Readings.OneMessage.{deeds_append, notes_of_exchanges}
 
 module _ {U : Type 0} where
-  turns_unnoted : (turns : List Turn) → notes_in {U = U} (exchanges_in turns) ≡ []
-  turns_unnoted turns = let (es, rs, is) = doings_turns turns in ap (λ (d : Doings U). d.notes) is
-
   -- neither a note nor a receive
   abbrev pub Bare : List (Deed U) → Type 0
   Bare did = (notes_in did ≡ []) × (came_in did ≡ [])
@@ -76,4 +73,4 @@ module _ {T U G C : Type 0} (sends : T → Queue → Result ℕ IoFault → T �
   -- only the end of the client is noted
   pub notes_of_reading : (left : ℕ) (before : ReaderState T (Core U C)) (turns : List Turn) (out : Gives (Told U)) (end : ReaderState T (Core U C))
       → Reads sends (server a) receives left before turns out end → notes_in (deeds_of (exchanges_in turns) out.gave end.core) ≡ notes_in (end_deeds {U = U} end.core.ended)
-  notes_of_reading left before turns out end reads = grind (arith, notes_append, exchanges_in, deeds_in, end_deeds, turns_unnoted, reads_bare)
+  notes_of_reading left before turns out end reads = grind (arith, notes_append, exchanges_in, deeds_in, end_deeds, notes_of_exchanges, reads_bare)

@@ -1,5 +1,5 @@
 -- How the end of an action is a verdict that was carried out.
-use Rattle.std.proofs.Common.{arith, ◌||◌, append-nil, append_assoc, not, is_none, is_some, MatchResult, inl, inr, ◌≡◌, ◌∙◌, ℕ, Bool, true, false, eqb, List, [], ◌++◌, Option, None, Some, Result, Ok, Err, MatchOption, refl, sym, ap, subst}
+use Rattle.std.proofs.Common.{arith, append-nil, append_assoc, not, is_none, is_some, MatchResult, inl, inr, ◌≡◌, ◌∙◌, ℕ, Bool, true, false, eqb, List, [], ◌++◌, Option, None, Some, Result, Ok, Err, MatchOption, refl, sym, ap, subst}
 use Rattle.std.proofs.lemmas.Option.{none-some}
 use Rattle.std.proofs.lemmas.Bool.{false≢true}
 use Rattle.wl_wire.specs.declared.error.IoFault.{IoFault}
@@ -20,22 +20,25 @@ use Rattle.wl_server.specs.declared.error.FinishRefused.{FinishRefused}
 use Rattle.wl_server.specs.declared.objects.Kept.{Kept}
 use Rattle.wl_server.specs.declared.notes.DisconnectReason.TheVariants.{ConnectionClosed}
 use Rattle.wl_server.specs.declared.notes.Happening.{Happening}
-use Rattle.wl_server.specs.Inside.Carried.{IsCarried, told_notes}
+use Rattle.wl_server.specs.Inside.Carried.{IsCarried}
 use Rattle.wl_server.specs.Inside.Client.{Does}
-use Rattle.wl_server.specs.Deeds.{notes_in}
-use Rattle.wl_server.specs.Finish.{FinishesOpen, Refuses, core_finished, data_given, ended_by, ending, ends, ends_request, refusal, store_with_data}
+use Rattle.wl_server.specs.Deeds.{notes_in, Deed}
+use Rattle.wl_server.specs.Finish.{FinishesOpen, Refuses, core_finished, data_given, ended_by, ends, ends_request, refusal, store_with_data}
 use Rattle.wl_server.specs.Inside.Finishing.{EndsObject, EndsSender, is_out_of_memory, part_finished}
-use Rattle.wl_server.specs.Objects.{unless_refused, without}
+use Rattle.wl_server.specs.Objects.{unless_refused}
 use Rattle.wl_server.specs.Ids.{ClientParts, IdParts}
 use Rattle.wl_server.specs.Part.{id_of, named, note_of_end, registries_without, serial_of, with_link, with_user_data, Part}
 use Rattle.wl_server.specs.Inside.Puts.{Puts}
 use Rattle.wl_server.specs.Server.{NoteTimes, Stored, no_times, untimed}
-use Rattle.wl_server.specs.Telling.{Core, Kills, killed, closed_down, core_of, deletions, end_deeds, part_of, speaker}
+use Rattle.wl_server.specs.Telling.{Kills, killed, closed_down, core_of, deletions, end_deeds, part_of, speaker}
 use Rattle.wl_server.proofs.CallSteps.Doing.{does_quietly}
-use Rattle.wl_server.proofs.Readings.Notes.{tells_carried}
+use Rattle.wl_server.proofs.Readings.Notes.{tells_carried, made_end}
 use Rattle.wl_server.proofs.ObjectCalls.Posting.{kills_is}
 use Rattle.wl_server.proofs.GlobalCalls.Putting.{puts_none}
 use Rattle.wl_server.proofs.ObjectCalls.Destroying.{named_is_held}
+use Rattle.wl_server.specs.declared.reading.action.OpenAction.{OpenAction}
+use Rattle.wl_link.proofs.Calls.Branches.{either_option}
+use Rattle.std.proofs.Math.Bool.{or-false}
 
 -- ---- its end
 
@@ -76,12 +79,6 @@ module _ {U : Type 0} where
 pub wanted_memory : (wrote : Result (Unit {0}) IoFault) → lacks_memory wrote ≡ true → wrote ≡ Err fault.OutOfMemory
 wanted_memory h1 is = grind (arith, false≢true)
 
-module _ {U C : Type 0} where
-  -- the core where all was put, and where a write failed
-  abbrev closing : Core U C → Result (Unit {0}) IoFault → Core U C
-  closing c (Ok _) = c
-  closing c (Err _) = closed_down c
-
 -- a write that failed kills the client, and changes none of its objects
 pub store_unless_written : {T U C : Type 0} (s after : Stored T U C) (wrote : Result (Unit {0}) IoFault)
     → MatchResult wrote (λ _. after ≡ s) (λ _. Does s (λ p did q. Kills p ConnectionClosed did q) after) → after.part.store ≡ s.part.store
@@ -95,14 +92,8 @@ where_none h1 is h3 h4 h = grind (arith, none-some)
 pub where_some : {X : Type 0} (o : Option X) (x : X) → Some x ≡ o → (A : Type 0) (B : X → Type 0) → B x → MatchOption o A B
 where_some {X} o x is A B h = subst (λ (o : Option X). MatchOption o A B) is h
 
-inner : (wrote : Result (Unit {0}) IoFault) → ◌≡◌ {A = Result (Result (Unit {0}) IoFault) OutOfMemory} (Ok wrote) (Ok (Ok tt)) → wrote ≡ Ok tt
-inner wrote same = cc
-
 module _ {T U C : Type 0} (sends : T → Queue → Result ℕ IoFault → T → Type 0) (client : ClientParts) (s : Stored T U C) (sender : IdParts) (is_destructor : Bool)
     (created : Option IdParts) (u : Option U) where
-  abbrev noting : Part T U C → List (Happening U) → Stored T U C
-  noting p notes = record { serial = s.serial; part = p; made = s.made ++ notes; times = no_times }
-
   -- the action is finished
   abbrev finished : Stored T U C → Stored T U C
   finished mid = record (untimed mid) { part = part_finished mid.part created u }
@@ -110,36 +101,15 @@ module _ {T U C : Type 0} (sends : T → Queue → Result ℕ IoFault → T → 
   abbrev ReachedBy : Option (Object (Kept U)) → Bool → Stored T U C → Type 0
   ReachedBy o refused after = IsCarried sends (ends client (core_of s.part) sender o created u) s refused after
 
-  abbrev with_notes : Part T U C → List (Happening U) → Stored T U C
-  with_notes p made = record { serial = s.serial; part = p; made = made; times = no_times }
-
-  -- nothing is noted
-  quietly : (p : Part T U C) (notes : List (Happening U)) → notes ≡ [] → with_notes p s.made ≡ noting p (notes ++ [])
-  quietly p notes none = ap (with_notes p) (sym (append-nil s.made)) ∙ ap (λ (l : List (Happening U)). noting p (l ++ [])) (sym none)
-
   -- the object stays where there was no memory
   stays : (x : Object (Kept U)) (e : OutOfMemory) (after : Stored T U C) → named s.part.store sender ≡ Some x → EndsObject sends client s sender x (Err e) after
       → ReachedBy (Some x) true after
-  stays x e after kept (inl (asks, same)) = (
-    core_of s.part,
-    s.part.link,
-    inr (asks, refl, refl, refl),
-    ap untimed same ∙ quietly s.part (told_notes (ending client sender x (core_of s.part))) (rw kept refl),
-  )
+  stays x e after kept (inl (asks, same)) = (core_of s.part, s.part.link, inr (asks, refl, refl, refl), ap untimed same ∙ rw kept (made_end s s.part))
   stays x e after kept (inr (wrote, lacks, puts, is)) = (
     core_of s.part,
     after.part.link,
-    inl (
-      wrote,
-      after.part.link,
-      [],
-      false,
-      puts,
-      (refl, refl, refl),
-      sym (ap (came_to speaker (ends client (core_of s.part) sender (Some x) created u)) (wanted_memory wrote lacks)),
-      sym (ap (λ (b : Bool). b || false) lacks),
-    ),
-    ap untimed is ∙ quietly (with_link s.part after.part.link) (told_notes (ending client sender x (core_of s.part))) (rw kept refl),
+    inl (wrote, after.part.link, [], false, puts, (refl, refl, refl), rw (wanted_memory wrote lacks) refl, sym (or-false _ ∙ lacks)),
+    ap untimed is ∙ rw kept (made_end s (with_link s.part after.part.link)),
   )
 
   -- it leaves
@@ -147,50 +117,36 @@ module _ {T U C : Type 0} (sends : T → Queue → Result ℕ IoFault → T → 
       → MatchResult wrote (λ _. untimed after ≡ finished mid) (λ _. Does (finished mid) (λ p did q. Kills p ConnectionClosed did q) after)
       → ReachedBy (Some x) false after
   leaves x wrote mid after (puts, lacks, is) tells = (
-    closing (core_finished (without (core_of s.part) sender.number x) created u) wrote,
+    came_to speaker (ends client (core_of s.part) sender (Some x) created u) wrote,
     mid.part.link,
-    inl (
-      wrote,
-      mid.part.link,
-      [],
-      false,
-      puts,
-      (refl, refl, refl),
-      (grind (arith, false≢true, core_of s.part)),
-      sym (ap (λ (b : Bool). b || false) lacks),
-    ),
-    grind (arith, finished, is, noting, x, created, client, append-nil, append_assoc, end_deeds, killed, core_of, part_of, closing, notes_in, id_of, named, not_named),
+    inl (wrote, mid.part.link, [], false, puts, (refl, refl, refl), refl, sym (or-false _ ∙ lacks)),
+    grind (arith, finished, is, x, created, client, append-nil, append_assoc, end_deeds, killed, core_of, part_of, came_to, speaker, closed_down, false≢true, notes_in, id_of, named, not_named),
   )
 
   -- of the sender, where it is ended and kept, and else of none
   pub ends_starved : (e : OutOfMemory) (after : Stored T U C) → EndsSender sends client s sender is_destructor (Err e) after
       → ReachedBy (ended_by s.part.store sender is_destructor) true after
-  ends_starved e after = at (ended_by s.part.store sender is_destructor) refl
-    where
-      at : (o : Option (Object (Kept U))) → ended_by s.part.store sender is_destructor ≡ o
-          → MatchOption o ((◌≡◌ {A = Result (Result (Unit {0}) IoFault) OutOfMemory} (Err e) (Ok (Ok tt))) × (after ≡ s)) (λ x. EndsObject sends client s sender x (Err e) after)
-          → ReachedBy o true after
-      at None is h = absurd (grind (arith, h.0))
-      at (Some x) is h = stays x e after (ended_named s.part.store sender x is_destructor is) h
+  ends_starved e after h =
+      elim (either_option (ended_by s.part.store sender is_destructor) h) [
+        | inl (none, (is, same)) ↦ absurd cc
+        | inr (x, is, h) ↦ rw is (stays x e after (ended_named s.part.store sender x is_destructor is) h)
+      ]
 
   pub ends_done : (wrote : Result (Unit {0}) IoFault) (mid after : Stored T U C) → EndsSender sends client s sender is_destructor (Ok wrote) mid
       → MatchResult wrote (λ _. untimed after ≡ finished mid) (λ _. Does (finished mid) (λ p did q. Kills p ConnectionClosed did q) after)
       → ReachedBy (ended_by s.part.store sender is_destructor) false after
-  ends_done wrote mid after = at (ended_by s.part.store sender is_destructor) refl
-    where
-      at : (o : Option (Object (Kept U))) → ended_by s.part.store sender is_destructor ≡ o
-          → MatchOption o ((◌≡◌ {A = Result (Result (Unit {0}) IoFault) OutOfMemory} (Ok wrote) (Ok (Ok tt))) × (mid ≡ s)) (λ x. EndsObject sends client s sender x (Ok wrote) mid)
-          → MatchResult wrote (λ _. untimed after ≡ finished mid) (λ _. Does (finished mid) (λ p did q. Kills p ConnectionClosed did q) after)
-          → ReachedBy o false after
-      at None is h tells = (
-        core_finished (core_of s.part) created u,
-        s.part.link,
-        inl (Ok tt, s.part.link, [], false, puts_none sends s.part.link, (refl, refl, refl), refl, refl),
-        subst (λ (w : Result (Unit {0}) IoFault). MatchResult w (λ _. untimed after ≡ finished mid) (λ _. Does (finished mid) (λ p did q. Kills p ConnectionClosed did q) after))
-            (inner wrote h.0) tells
-            ∙ ap finished h.1 ∙ quietly (part_finished s.part created u) [] refl,
-      )
-      at (Some x) is h tells = leaves x wrote mid after h tells
+  ends_done wrote mid after h tells =
+      elim (either_option (ended_by s.part.store sender is_destructor) h) [
+        | inl (none, (is, same)) ↦
+            let all_put : wrote ≡ Ok tt = cc in
+            rw none (
+              core_finished (core_of s.part) created u,
+              s.part.link,
+              inl (Ok tt, s.part.link, [], false, puts_none sends s.part.link, (refl, refl, refl), refl, refl),
+              (rw all_put at tells) ∙ ap finished same ∙ made_end s (part_finished s.part created u),
+            )
+        | inr (x, is, h) ↦ rw is (leaves x wrote mid after h tells)
+      ]
 
   -- ---- a request that is finished with these data, or refused
 
@@ -210,3 +166,25 @@ module _ {T U C : Type 0} (sends : T → Queue → Result ℕ IoFault → T → 
       does_quietly s (λ p did q. FinishesOpen sends client p (opened.Request sender is_destructor created) u (Err (record { error = e; user_data = u })) (is_out_of_memory e) did q)
       s.part
       (grind (arith, where_some, refusal, is_out_of_memory, is_some, is_none, not))
+
+-- ---- the end of what is open, a request or a bind
+
+module _ {T U C D : Type 0} (s : Stored T U C) (d : D) (Ends : OpenAction → Part T U C → Result (Unit {0}) (FinishRefused D) → Bool → List (Deed U) → Part T U C → Type 0) where
+  abbrev ByAction : Result (Unit {0}) (FinishRefused D) → Bool → Stored T U C → Type 0
+  ByAction answer refused after =
+      Does s (λ p did q. MatchOption p.action (Refuses p d finish.NoOpenAction answer refused did q) (λ a. Ends a p answer refused did q)) after
+
+  pub none_open : s.part.action ≡ None → ByAction (Err (record { error = finish.NoOpenAction; user_data = d })) false s
+  none_open none =
+      does_quietly s (λ p did q. MatchOption p.action (Refuses p d finish.NoOpenAction (Err (record { error = finish.NoOpenAction; user_data = d })) false did q)
+      (λ a. Ends a p (Err (record { error = finish.NoOpenAction; user_data = d })) false did q)) s.part (where_none s.part.action (sym none) _ _ (refl, refl, refl, refl))
+
+  pub is_open : (a : OpenAction) (answer : Result (Unit {0}) (FinishRefused D)) (refused : Bool) (after : Stored T U C) → s.part.action ≡ Some a
+      → Does s (λ p did q. Ends a p answer refused did q) after → ByAction answer refused after
+  is_open a answer refused after is (did, q, does, same) = (did, q, where_some s.part.action a (sym is) _ _ does, same)
+
+  -- what is open is not ended so, for this reason
+  pub is_refused : (a : OpenAction) (e : FinishError) → s.part.action ≡ Some a → Ends a s.part (Err (record { error = e; user_data = d })) false [] s.part
+      → ByAction (Err (record { error = e; user_data = d })) false s
+  is_refused a e is ends =
+      is_open a (Err (record { error = e; user_data = d })) false s is (does_quietly s (λ p did q. Ends a p (Err (record { error = e; user_data = d })) false did q) s.part ends)

@@ -1,5 +1,5 @@
 -- How a verdict that was carried out is told: what was put, the deeds, and the notes among them.
-use Rattle.std.proofs.Common.{◌≡◌, ℕ, Bool, true, ◌||◌, List, [], ◌∷◌, ◌++◌, map, Result, refl, sym, ap, subst, inl, inr, arith}
+use Rattle.std.proofs.Common.{◌≡◌, ℕ, Bool, ◌||◌, List, [], ◌∷◌, ◌++◌, map, Result, refl, sym, ap, inl, inr, arith, Ok, Err, MatchResult, append-nil, false, ◌∙◌}
 use Rattle.wl_wire.specs.declared.error.IoFault.{IoFault}
 use Rattle.wl_link.specs.Exchange.{Queue, Sending}
 use Rattle.wl_link.specs.Link.{LinkState}
@@ -8,31 +8,34 @@ use Rattle.wl_link.specs.Reader.{Given, HandedOut, Queued, Verdict, came_to, put
 use Rattle.wl_server.specs.declared.notes.Happening.{Happening}
 use Rattle.wl_server.specs.Inside.Carried.{IsCarried}
 pub use Rattle.wl_server.specs.Inside.Carried.{told_notes}
-use Rattle.wl_server.specs.Deeds.{Acted, Came, Deed, Left, Noted, NoteTaken, Put, Remembered, Sent, notes_in}
+use Rattle.wl_server.specs.Deeds.{Deed, Sent, notes_in}
 use Rattle.wl_server.specs.Inside.Puts.{Puts}
-use Rattle.wl_server.specs.Part.{Part}
+use Rattle.wl_server.specs.Part.{Part, with_link}
 use Rattle.wl_server.specs.Server.{Stored, no_times, untimed}
-use Rattle.wl_server.specs.Telling.{Core, Tells, Told, deeds_in, deeds_of, end_deeds, part_of, speaker}
+use Rattle.wl_server.specs.Telling.{Core, Tells, Told, deeds_in, deeds_of, end_deeds, part_of, speaker, Kills, core_of, tells, closed_down}
+use Rattle.wl_server.specs.declared.notes.DisconnectReason.TheVariants.{ConnectionClosed}
+use Rattle.wl_server.specs.Inside.Client.{Does}
+use Rattle.wl_server.specs.Inside.ReadingLoop.{linked}
+use Rattle.wl_server.proofs.ObjectCalls.Posting.{kills_is}
+use Rattle.std.proofs.Math.Bool.{or-false}
+
+-- no note is made
+pub made_end : {T U C : Type 0} (s : Stored T U C) (p : Part T U C)
+    → ◌≡◌ {A = Stored T U C} (record { serial = s.serial; part = p; made = s.made; times = no_times }) (record { serial = s.serial; part = p; made = s.made ++ []; times = no_times })
+made_end s p = ap (λ (made : List (Happening _)). let x : Stored _ _ _ = record { serial = s.serial; part = p; made = made; times = no_times } in x) (sym (append-nil s.made))
 
 -- ---- the notes among deeds
 
 module _ {U : Type 0} where
   pub notes_append : (a b : List (Deed U)) → notes_in (a ++ b) ≡ notes_in a ++ notes_in b
   notes_append [] b = refl
-  notes_append (Noted h ∷ a) b = ap (λ (l : List (Happening U)). h ∷ l) (notes_append a b)
-  notes_append (Sent e ∷ a) b = notes_append a b
-  notes_append (Came r ∷ a) b = notes_append a b
-  notes_append (Put m ∷ a) b = notes_append a b
-  notes_append (Remembered r ∷ a) b = notes_append a b
-  notes_append (Left id ∷ a) b = notes_append a b
-  notes_append (Acted h ∷ a) b = notes_append a b
-  notes_append (NoteTaken h ∷ a) b = notes_append a b
+  notes_append (d ∷ a) b = grind (arith, notes_append a b, d)
 
   pub notes_of_sends : (es : List Sending) → notes_in {U = U} (map Sent es) ≡ []
   notes_of_sends [] = refl
   notes_of_sends (e ∷ es) = notes_of_sends es
 
-  notes_of_puts : (put : List Said) (gave : List (Given (Told U))) → notes_in (deeds_in (map Queued put ++ gave)) ≡ notes_in (deeds_in gave)
+  pub notes_of_puts : (put : List Said) (gave : List (Given (Told U))) → notes_in (deeds_in (map Queued put ++ gave)) ≡ notes_in (deeds_in gave)
   notes_of_puts [] gave = refl
   notes_of_puts (m ∷ put) gave = notes_of_puts put gave
 
@@ -56,39 +59,41 @@ module _ {U C : Type 0} where
         notes_told (es ++ others) put (v.events core) core,
       )
 
-  -- there was no memory for it, and nothing was put
-  pub tells_starved : {T : Type 0} (sends : T → Queue → Result ℕ IoFault → T → Type 0) (v : Verdict (Core U C) (Told U)) (before : LinkState T) → v.asks ≡ true
-      → (did : List (Deed U)) × Tells sends v before true did (part_of (record { core = v.starved; link = before }))
-      × (notes_in did ≡ told_notes (v.events v.starved) ++ notes_in (end_deeds v.starved.ended))
-  tells_starved sends v before asks =
-      let end : ReaderState _ (Core U C) = record { core = v.starved; link = before } in (
-        deeds_of [] (map HandedOut (v.events v.starved)) v.starved,
-        ([], map HandedOut (v.events v.starved), end, inr (asks, refl, refl, refl, refl), refl, refl),
-        notes_told [] [] (v.events v.starved) v.starved,
-      )
-
-  module _ {T : Type 0} (sends : T → Queue → Result ℕ IoFault → T → Type 0) (v : Verdict (Core U C) (Told U)) (s after : Stored T U C) (refused : Bool) where
-    abbrev noted_at : Part T U C → List (Happening U) → Stored T U C
-    noted_at q notes = record { serial = s.serial; part = q; made = s.made ++ notes; times = no_times }
-
-    abbrev came_at : Core U C → LinkState T → Stored T U C
-    came_at core link = noted_at (part_of (record { core = core; link = link })) (told_notes (v.events core) ++ notes_in (end_deeds core.ended))
-
+  module _ {T : Type 0} (sends : T → Queue → Result ℕ IoFault → T → Type 0) where
     -- a verdict that was carried out over a client is told to it
-    pub tells_carried : IsCarried sends v s refused after
+    pub tells_carried : (v : Verdict (Core U C) (Told U)) (s after : Stored T U C) (refused : Bool) → IsCarried sends v s refused after
         → (did : List (Deed U)) × (q : Part T U C) × Tells sends v s.part.link refused did q
         × (untimed after ≡ record { serial = s.serial; part = q; made = s.made ++ notes_in did; times = no_times })
-    tells_carried (core, link, inl (wrote, mid, others, lacked, puts, flushes, core-is, refused-is), is) =
-        let t = tells_put sends v s.part.link mid link wrote others lacked puts flushes in (
-          t.0,
-          part_of (record { core = came_to speaker v wrote; link = link }),
-          subst (λ (b : Bool). Tells sends v s.part.link b t.0 (part_of (record { core = came_to speaker v wrote; link = link }))) (sym refused-is) t.1,
-          grind (arith, came_at, noted_at, part_of, came_to, speaker),
+    tells_carried v s after refused (core, link, inl (wrote, mid, others, lacked, (es, put, puts), flushed, core_is, refused_is), is) =
+        let end : ReaderState T (Core U C) = record { core = core; link = link } in
+        let given = ap (λ (c : Core U C). put_and_gave put (v.events c)) core_is in (
+          deeds_of (map Sent (es ++ others)) (put_and_gave put (v.events core)) core,
+          part_of end,
+          (es ++ others, put_and_gave put (v.events core), end, inl (es, others, put, wrote, mid, lacked, puts, flushed, refl, core_is, given, refused_is), refl, refl),
+          is ∙ rw (notes_told (es ++ others) put (v.events core) core) refl,
         )
-    tells_carried (core, link, inr (asks, refused-is, core-is, link-is), is) =
-        let t = tells_starved sends v s.part.link asks in (
-          t.0,
-          part_of (record { core = v.starved; link = s.part.link }),
-          subst (λ (b : Bool). Tells sends v s.part.link b t.0 (part_of (record { core = v.starved; link = s.part.link }))) (sym refused-is) t.1,
-          grind (arith, came_at, noted_at, part_of),
+    tells_carried v s after refused (core, link, inr (asks, refused_is, core_is, link_is), is) =
+        let end : ReaderState T (Core U C) = record { core = core; link = link } in (
+          deeds_of [] (map HandedOut (v.events core)) core,
+          part_of end,
+          ([], map HandedOut (v.events core), end, inr (asks, refused_is, refl, ap (λ (c : Core U C). map HandedOut (v.events c)) core_is, rw (core_is, link_is) refl), refl, refl),
+          is ∙ rw (notes_told [] [] (v.events core) core) refl,
         )
+
+    -- a client was told messages, which closes it down where one cannot be put, and nothing is noted beside its end
+    abbrev pub told_carried : (s after : Stored T U C) (messages : List Said) (events : Core U C → List (Told U)) (wrote : Result (Unit {0}) IoFault) (link : LinkState T)
+        → ((c : Core U C) → told_notes (events c) ≡ []) → Puts sends s.part.link messages wrote link
+        → MatchResult wrote (λ _. after ≡ linked s link) (λ _. Does (linked s link) (λ p did q. Kills p ConnectionClosed did q) after)
+        → IsCarried sends (record (tells (core_of s.part) messages) { events = events }) s (lacks_memory wrote) after
+    told_carried s after messages events (Ok u) link none puts same = (
+      core_of s.part,
+      link,
+      inl (Ok tt, link, [], false, puts, (refl, refl, refl), refl, refl),
+      ap untimed same ∙ rw none (made_end s (with_link s.part link)),
+    )
+    told_carried s after messages events (Err f) link none puts kills = (
+      closed_down (core_of s.part),
+      link,
+      inl (Err f, link, [], false, puts, (refl, refl, refl), grind (arith, came_to, f), sym (or-false _)),
+      kills_is (linked s link) after ConnectionClosed kills ∙ rw none refl,
+    )

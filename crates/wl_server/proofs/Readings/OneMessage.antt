@@ -1,5 +1,5 @@
 -- How turns and receives join to a reading of a client.
-use Rattle.std.proofs.Common.{◌≡◌, nat_le, ◌≢◌, ◌∙◌, ℕ, suc, ◌+◌, ◌<◌, ◌≤◌, Bool, true, false, ◌&&◌, ◌||◌, not, List, [], ◌∷◌, ◌++◌, append-nil, append_assoc, length, map, Option, None, Some, is_some, is_none, option_map, Result, Ok, Err, is_ok, MatchBool, MatchOption, refl, sym, ap, ap₂, subst, arith, true≢false}
+use Rattle.std.proofs.Common.{◌≡◌, nat_le, ◌≢◌, ◌∙◌, ℕ, suc, ◌+◌, ◌<◌, ◌≤◌, Bool, true, false, List, [], ◌∷◌, ◌++◌, append-nil, append_assoc, length, Option, None, Some, is_some, option_map, Result, Ok, Err, is_ok, refl, sym, ap, ap₂, subst, arith, true≢false, MatchResult}
 use mathlib.Core.Logic.{inl, inr}
 use Rattle.wl_wire.specs.declared.argument.Argument.{Argument}
 use Rattle.wl_wire.specs.declared.argument.Token.{Token}
@@ -10,10 +10,10 @@ use Rattle.wl_wire.specs.Message.{WireMessage}
 use Rattle.wl_link.proofs.Calls.Branches.{at_false, at_true}
 use Rattle.wl_link.specs.Exchange.{Queue, Sending}
 use Rattle.wl_link.proofs.Streams.LengthLaws.{carries_stays}
-use Rattle.wl_link.specs.Link.{Filled, FindsRoom, LinkState, ReadOne, grown_capacity}
+use Rattle.wl_link.specs.Link.{Filled, FindsRoom, LinkState, ReadOne, grown_capacity, FilledBy}
 use Rattle.wl_link.proofs.Readings.ReaderLoops.{room_found}
 use Rattle.wl_link.specs.Puts.{lacks_memory}
-use Rattle.wl_link.specs.Reader.{CarriesOut, FrontAsks, Given, Gives, Halts, Handled, Leaves, Reads, Received, Takes, Turn, Unread, Verdict, given_first, handled_in, stops, ReaderState}
+use Rattle.wl_link.specs.Reader.{CarriesOut, Given, Gives, Halts, Handled, Leaves, Reads, Received, Takes, Turn, Unread, Verdict, given_first, handled_in, stops, ReaderState}
 use Rattle.wl_link.specs.declared.object.Object.{Object}
 use Rattle.wl_link.specs.Store.{Store, held}
 use Rattle.wl_wire.specs.Table.{InterfaceRow, message_row}
@@ -23,8 +23,6 @@ use Rattle.wl_server.specs.declared.reading.action.OpenAction.{OpenAction}
 use Rattle.wl_server.specs.declared.reading.action.Reading.{Reading}
 use Rattle.wl_server.specs.declared.error.ActionError.{ActionError}
 use Rattle.wl_server.specs.declared.error.ActionError.TheVariants.{ActionOpen, Io}
-use Rattle.wl_server.specs.declared.notes.DisconnectReason.{DisconnectReason}
-use Rattle.wl_server.specs.declared.notes.Happening.{Happening}
 use Rattle.wl_server.specs.declared.notes.DisconnectReason.TheVariants.{ConnectionClosed}
 use Rattle.wl_server.specs.declared.reading.action.Found.{Found}
 use Rattle.wl_server.specs.declared.reading.action.NoAction.{NoAction}
@@ -35,46 +33,34 @@ use Rattle.wl_server.specs.declared.reading.response.Response.{Response}
 use Rattle.wl_server.specs.Inside.Client.{Does}
 use Rattle.wl_server.specs.Ids.{IdParts}
 use Rattle.wl_server.specs.Inside.Responses.{TookRequest, core_with, response_to}
-use Rattle.wl_server.specs.Deeds.{Deed, Handed, Sent, notes_in}
+use Rattle.wl_server.specs.Deeds.{Deed, Handed, notes_in}
 use Rattle.wl_server.specs.Part.{Part}
-use Rattle.wl_server.specs.Reading.{Around, action_in, NextAction, ReadsNone, ReadsTo, answered, exchanges_in, faulted, read_on, reads_on, request, request_to, row_in, server}
-use Rattle.wl_server.specs.Server.{Stored, no_times, untimed}
+use Rattle.wl_server.specs.Reading.{Around, action_in, NextAction, answered, exchanges_in, faulted, read_on, reads_on, request, request_to, row_in, server}
+use Rattle.wl_server.specs.Server.{Stored}
 use Rattle.wl_server.specs.Telling.{Core, Kills, Told, core_of, deeds_in, deeds_of, end_deeds, part_of, reader_part}
-use Rattle.wl_server.specs.Inside.ReadingLoop.{Acts, Ended, EndsAs, Fills, ReadsOn, WentOn, HasNoNote, IsHandled, IsFront, IsSilent, LacksIn, LacksMore, Live, ReadsIn, MessageResult, HandlesMessage, answer_of, counted, linked, refused_of, stored_as}
+use Rattle.wl_server.specs.Inside.ReadingLoop.{Acts, Ended, EndsAs, Fills, ReadsOn, WentOn, IsHandled, IsFront, LacksIn, LacksMore, Live, ReadsIn, MessageResult, HandlesMessage, answer_of, counted, linked, refused_of, stored_as}
 use Rattle.wl_server.proofs.Readings.Handling.{from_there}
-use Rattle.wl_server.proofs.Readings.Notes.{notes_append, notes_of_sends}
+use Rattle.wl_server.proofs.Readings.Notes.{notes_append, notes_of_sends, made_end}
 use Rattle.wl_server.proofs.ObjectCalls.Posting.{kills_is}
+use Rattle.wl_server.proofs.CallSteps.Doing.{does_quietly}
+use Rattle.wl_server.proofs.Readings.Finishing.{where_none, where_some}
+use Rattle.std.proofs.Math.Bool.{or-false}
 
 abbrev most : ℕ
 most = 0xFFFFFFFFFFFFFFFF
 
 handled_append : (a b : List Turn) → handled_in (a ++ b) ≡ handled_in a + handled_in b
 handled_append [] b = omega arith
-handled_append (Received r ∷ a) b = handled_append a b
-handled_append (Unread es ∷ a) b = handled_append a b
-handled_append (Handled es ∷ a) b = let e = handled_append a b in omega (arith, e)
-
-or_false : (b : Bool) → b ≡ b || false
-or_false true = refl
-or_false false = refl
+handled_append (turn ∷ a) b = grind (arith, handled_append a b, turn)
 
 module _ {U : Type 0} where
   pub deeds_append : (a b : List (Given (Told U))) → deeds_in (a ++ b) ≡ deeds_in a ++ deeds_in b
   deeds_append [] b = refl
-  deeds_append (Rattle.wl_link.specs.Reader.Queued m ∷ a) b = ap (λ (l : List (Deed U)). Rattle.wl_server.specs.Deeds.Put m ∷ l) (deeds_append a b)
-  deeds_append (Rattle.wl_link.specs.Reader.HandedOut (Rattle.wl_server.specs.Telling.Did d) ∷ a) b = ap (λ (l : List (Deed U)). d ∷ l) (deeds_append a b)
-  deeds_append (Rattle.wl_link.specs.Reader.HandedOut (Rattle.wl_server.specs.Telling.Stops f) ∷ a) b = deeds_append a b
-
-  made_none : (made : List (Happening U)) (o : Option DisconnectReason) → o ≡ None → made ++ notes_in (end_deeds {U = U} o) ≡ made
-  made_none made o is = ap (λ (r : Option DisconnectReason). made ++ notes_in (end_deeds {U = U} r)) is ∙ append-nil made
+  deeds_append (given ∷ a) b = grind (arith, deeds_append a b, given)
 
 module _ {T U C : Type 0} where
   live_reads : (p : Part T U C) → Live p → reads_on (core_of p) ≡ true
-  live_reads p (live, unopened) = ap (λ (b : Bool). not b && is_none p.action) live ∙ ap (λ (o : Option OpenAction). is_none o) unopened
-
-  -- a client that lives on is as it was stored, with that part
-  stored_live : (s : Stored T U C) (p : Part T U C) → record { serial = s.serial; part = p; made = s.made; times = no_times } ≡ stored_as s (reader_part p)
-  stored_live s p = ap (λ (m : List (Happening U)). let x : Stored T U C = record { serial = s.serial; part = p; made = m; times = no_times } in x) (sym (append-nil s.made))
+  live_reads p (live, unopened) = rw (live, unopened) refl
 
 -- ---- a read under the signature of the request at the front
 
@@ -108,19 +94,15 @@ module _ {T U G C : Type 0} (sends : T → Queue → Result ℕ IoFault → T �
     made = refl;
   }
 
-  behind_twice : (gave more : List (Given (Told U))) (refused : Bool) (rest : Gives (Told U)) → given_first gave false (given_first more refused rest) ≡ given_first (gave ++ more) refused rest
-  behind_twice gave more refused rest = grind (arith, append_assoc)
-
   pub goes_goes : (s m e : Stored T U C) (r q t : Reading) → ReadsOn sends receives a s r m q → ReadsOn sends receives a m q e t → ReadsOn sends receives a s r e t
   goes_goes s m e r q t one two = record {
     first = one.first ++ two.first;
     gave = one.gave ++ two.gave;
-    leads = λ turns rest end reads. rw (append_assoc one.first two.first turns, ← behind_twice one.gave two.gave false rest)
+    leads = λ turns rest end reads. rw (append_assoc one.first two.first turns, append_assoc one.gave two.gave rest.gave)
         (one.leads (two.first ++ turns) (given_first two.gave false rest) end (two.leads turns rest end reads));
     silent = λ rest. ap action_in (append_assoc one.gave two.gave rest) ∙ one.silent (two.gave ++ rest) ∙ two.silent rest;
     no_note = grind (arith, notes_in, deeds_append, notes_append, deeds_in, one.gave, two.gave, one.no_note, two.no_note);
-    read = two.read ∙ (omega (arith, one.read, r.read, handled_in one.first, handled_in two.first, q.read)) ∙ ap (counted r.read) (sym
-        (handled_append one.first two.first));
+    read = omega (arith, one.read, two.read, handled_append one.first two.first);
     live = two.live;
     serial = two.serial ∙ one.serial;
     made = two.made ∙ one.made;
@@ -136,8 +118,7 @@ module _ {T U G C : Type 0} (sends : T → Queue → Result ℕ IoFault → T �
     answer_is = two.answer_is ∙ quiet two.out.stopped;
     refused_is = two.refused_is;
     left = two.left;
-    read = two.read ∙ (omega (arith, one.read, r.read, handled_in one.first, handled_in two.turns, q.read)) ∙ ap (counted r.read) (sym
-        (handled_append one.first two.turns));
+    read = omega (arith, one.read, two.read, handled_append one.first two.turns);
     no_note = grind (arith, notes_in, deeds_append, notes_append, deeds_in, one.gave, two.out.gave, one.no_note, two.no_note);
     after_is = two.after_is ∙ rw (one.serial, one.made) refl;
   }
@@ -157,54 +138,50 @@ module _ {T U G C : Type 0} (sends : T → Queue → Result ℕ IoFault → T �
         → CarriesOut sends (server a) v link es first lacked mid → Reads sends (server a) receives m mid turns rest end
         → Reads sends (server a) receives m (reader_part s.part) (t es ∷ turns) (given_first first lacked rest) end)
         (left : r'.turns_left ≡ r.turns_left) (read : (es : List Sending) → r'.read ≡ counted r.read (handled_in (t es ∷ []))) where
-      ends_so : (answer : Result Handed NoAction) (gave : List (Given (Told U))) (refused : Bool) (end : ReaderState T (Core U C)) (es : List Sending) (after : Stored T U C)
-          → CarriesOut sends (server a) v link es gave refused end → reads_on end.core ≡ false → answer_of answer ≡ action_in gave → refused_of answer ≡ refused
-          → HasNoNote gave → untimed after ≡ stored_as s end → EndsAs sends receives a s r answer after r'
-      ends_so answer gave refused end es after carried off says refuses none is =
+      ends_so : (answer : Result Handed NoAction) (to : MessageResult) (after : Stored T U C) (i : IsHandled sends v (linked s link) to after)
+          → (i.refused ≡ refused_of answer) × (reads_on i.end.core ≡ false) × (action_in i.gave ≡ answer_of answer) → EndsAs sends receives a s r answer after r'
+      ends_so answer to after i (refuses, off, says) =
           let rest : Gives (Told U) = stops None false r.turns_left in
           record {
-            turns = t es ∷ [];
-            out = given_first gave refused rest;
-            end = end;
-            reads = found r.turns_left es gave refused end [] rest end carried (refl, at_false (Halts sends (server a) r.turns_left end rest) (reads_on end.core) off refl);
-            answer_is = says ∙ ap action_in (sym (append-nil gave));
-            refused_is = refuses ∙ or_false refused;
+            turns = t i.es ∷ [];
+            out = given_first i.gave i.refused rest;
+            end = i.end;
+            reads = found r.turns_left i.es i.gave i.refused i.end [] rest i.end i.carried (refl, at_false (Halts sends (server a) r.turns_left i.end rest) (reads_on i.end.core) off refl);
+            answer_is = sym (ap action_in (append-nil i.gave) ∙ says);
+            refused_is = sym (or-false i.refused ∙ refuses);
             left = left;
-            read = read es;
-            no_note = ap (λ (l : List (Given (Told U))). notes_in (deeds_in l)) (append-nil gave) ∙ none;
-            after_is = is;
+            read = read i.es;
+            no_note = ap (λ (l : List (Given (Told U))). notes_in (deeds_in l)) (append-nil i.gave) ∙ i.no_note;
+            after_is = i.after_is;
           }
 
-      goes_so : (gave : List (Given (Told U))) (refused : Bool) (end : ReaderState T (Core U C)) (es : List Sending) (after : Stored T U C)
-          → CarriesOut sends (server a) v link es gave refused end → refused ≡ false → end.core.ended ≡ None → end.core.is_killed ≡ false → end.core.action ≡ None → IsSilent gave
-          → HasNoNote gave → untimed after ≡ stored_as s end → ReadsOn sends receives a s r after r'
-      goes_so gave refused end es after carried calm unended alive unopened silent none is =
+      goes_so : (after : Stored T U C) → IsHandled sends v (linked s link) WentOn after → ReadsOn sends receives a s r after r'
+      goes_so after i =
+          let (calm, unended, alive, unopened, silent) = i.says in
           record {
-            first = t es ∷ [];
-            gave = gave;
-            leads = λ turns rest last reads. subst (λ (b : Bool). Reads sends (server a) receives r.turns_left (reader_part s.part) (t es ∷ turns) (given_first gave b rest) last) calm
-                (found r.turns_left es gave refused end turns rest last carried (grind (arith, reader_part, server)));
+            first = t i.es ∷ [];
+            gave = i.gave;
+            leads = λ turns rest last reads. subst (λ (b : Bool). Reads sends (server a) receives r.turns_left (reader_part s.part) (t i.es ∷ turns) (given_first i.gave b rest) last) calm
+                (found r.turns_left i.es i.gave i.refused i.end turns rest last i.carried (grind (arith, reader_part, server, i.after_is)));
             silent = silent;
-            no_note = none;
-            read = read es;
-            live = (ap (λ (x : Stored T U C). x.part.is_killed) is ∙ alive, ap (λ (x : Stored T U C). x.part.action) is ∙ unopened);
-            serial = ap (λ (x : Stored T U C). x.serial) is;
-            made = ap (λ (x : Stored T U C). x.made) is ∙ made_none s.made end.core.ended unended;
+            no_note = i.no_note;
+            read = read i.es;
+            live = (ap (λ (x : Stored T U C). x.part.is_killed) i.after_is ∙ alive, ap (λ (x : Stored T U C). x.part.action) i.after_is ∙ unopened);
+            serial = ap (λ (x : Stored T U C). x.serial) i.after_is;
+            made = ap (λ (x : Stored T U C). x.made) i.after_is ∙ rw unended (append-nil s.made);
           }
 
       handles_so : (to : MessageResult) (after : Stored T U C) → IsHandled sends v (linked s link) to after → length link.incoming.bytes < length s.part.link.incoming.bytes
           → HandlesMessage sends receives a s r to after r'
-      handles_so (Acts h) after i fewer =
-          ends_so (Ok h) i.gave i.refused i.end i.es after i.carried i.says.1 (sym i.says.2) (sym i.says.0) i.no_note i.after_is
+      handles_so (Acts h) after i fewer = ends_so (Ok h) (Acts h) after i i.says
       handles_so WentOn after i fewer = (
-        goes_so i.gave i.refused i.end i.es after i.carried i.says.0 i.says.1 i.says.2 i.says.3 i.says.4 i.no_note i.after_is,
+        goes_so after i,
         left,
         (let kept = carries_stays sends (server a) v link i.end i.es i.gave i.refused i.carried in
             omega (arith, ap (λ (x : Stored T U C). length x.part.link.incoming.bytes) i.after_is ∙ ap (λ (q : Queue). length q.bytes) kept.incoming, fewer)),
       )
       handles_so LacksMore after i fewer = absurd i.says
-      handles_so (Ended end) after i fewer =
-          ends_so (Err end) i.gave i.refused i.end i.es after i.carried i.says.1 (sym i.says.2) (sym i.says.0) i.no_note i.after_is
+      handles_so (Ended end) after i fewer = ends_so (Err end) (Ended end) after i i.says
 
     -- the message at the front was taken and handled
     pub message_handled : (v : Verdict (Core U C) (Told U)) (link : LinkState T) (to : MessageResult) (after : Stored T U C) → Takes sends (server a) (reader_part s.part) v link
@@ -221,8 +198,7 @@ module _ {T U G C : Type 0} (sends : T → Queue → Result ℕ IoFault → T �
   message_unread s r end after live within leaves i =
       ends_so s r r live ((server a).malformed (core_of s.part)) s.part.link (λ es. Unread es)
       (λ m es first lacked mid turns rest last carried reads. (on s r r live, ((server a).malformed (core_of s.part), s.part.link, first, lacked, mid, rest, leaves, carried, refl, reads)))
-      refl (λ es. (omega (arith, within, r.read))) (Err end) i.gave i.refused i.end i.es after i.carried i.says.1 (sym i.says.2)
-      (sym i.says.0) i.no_note i.after_is
+      refl (λ es. (omega (arith, within, r.read))) (Err end) (Ended end) after i i.says
 
   -- ---- where it halts
 
@@ -241,7 +217,7 @@ module _ {T U G C : Type 0} (sends : T → Queue → Result ℕ IoFault → T �
         left = refl;
         read = omega (arith, within, r.read);
         no_note = refl;
-        after_is = stored_live s s.part;
+        after_is = made_end s s.part;
       }
 
   -- no receive is left
@@ -286,8 +262,15 @@ module _ {T U G C : Type 0} (sends : T → Queue → Result ℕ IoFault → T �
 
   module _ (s : Stored T U C) (r q : Reading) (live : Live s.part) (within : r.read ≤ most) (lacks : LacksIn sends receives a s.part) (left : r.turns_left ≡ suc q.turns_left)
       (read : q.read ≡ r.read) where
-    abbrev reads_none : List Turn
-    reads_none = []
+    -- a receive, and what follows
+    receive_reads : (rc : Result Queue IoFault) (answer : Result (Unit {0}) IoFault) (link : LinkState T) (turns : List Turn) (out : Gives (Told U))
+        (end : ReaderState T (Core U C)) → FilledBy receives s.part.link rc answer link → FindsRoom s.part.link (grown_capacity s.part.link)
+        → MatchResult answer (λ _. Reads sends (server a) receives q.turns_left (record { core = core_of s.part; link = link }) turns out end)
+        (λ f. (turns ≡ []) × (out ≡ stops (Some f) (lacks_memory (Err f)) q.turns_left) × (end ≡ record { core = faulted (core_of s.part) f; link = link }))
+        → Reads sends (server a) receives r.turns_left (reader_part s.part) (Received rc ∷ turns) out end
+    receive_reads rc answer link turns out end made finds follows =
+        let room = room_found receives s.part.link link rc answer made finds in
+        (live_reads s.part live, lacks, (q.turns_left, left, (link, (made.0, refl, made.2), room, rw (← made.1) follows)))
 
     -- a receive after which it goes on
     pub fills_goes : (after : Stored T U C) → Fills receives s None after → ReadsOn sends receives a s r after q
@@ -295,20 +278,7 @@ module _ {T U G C : Type 0} (sends : T → Queue → Result ℕ IoFault → T �
     fills_goes after (inl (rc, made), finds, is) = record {
       first = Received rc ∷ [];
       gave = [];
-      leads = λ turns rest end reads. (
-        live_reads s.part live,
-        lacks,
-        (
-          q.turns_left,
-          left,
-          (
-            after.part.link,
-            (made.0, refl, made.2),
-            room_found receives s.part.link after.part.link rc (Ok tt) made finds,
-            grind (arith, server, core_of, given_first, stops, lacks_memory, faulted),
-          ),
-        ),
-      );
+      leads = λ turns rest end reads. receive_reads rc (Ok tt) after.part.link turns rest end made finds (rw is at reads);
       silent = λ rest. refl;
       no_note = refl;
       read = read ∙ (omega (arith, within, r.read));
@@ -326,20 +296,7 @@ module _ {T U G C : Type 0} (sends : T → Queue → Result ℕ IoFault → T �
           turns = Received rc ∷ [];
           out = out;
           end = last;
-          reads = (
-            live_reads s.part live,
-            lacks,
-            (
-              q.turns_left,
-              left,
-              (
-                link,
-                (made.0, refl, made.2),
-                room_found receives s.part.link link rc (Err end.fault) made finds,
-                grind (arith, server, core_of, reads_none, stops, lacks_memory, faulted),
-              ),
-            ),
-          );
+          reads = receive_reads rc (Err end.fault) link [] out last made finds (refl, refl, refl);
           answer_is = refl;
           refused_is = refused;
           left = refl;
@@ -365,47 +322,18 @@ module _ {T U G C : Type 0} (sends : T → Queue → Result ℕ IoFault → T �
 
 -- ---- an open action is answered first, and then that the client was killed
 
-live_as : {A : Type 0} (P Q : Type 0) (S : A → Type 0) (o : Option A) (b : Bool) → o ≡ None → b ≡ false → P → MatchOption o (MatchBool b Q P) S
-live_as P Q S o b h1 h2 h3 = grind (arith, true≢false, is_some)
-
-killed_as : {A : Type 0} (P Q : Type 0) (S : A → Type 0) (o : Option A) (b : Bool) → is_some o ≡ false → b ≡ true → Q → MatchOption o (MatchBool b Q P) S
-killed_as P Q S o b h1 h2 h3 = grind (arith, true≢false)
-
-open_as : {A : Type 0} (P : Type 0) (S : A → Type 0) (o : Option A) → is_some o ≡ true → ((x : A) → S x) → MatchOption o P S
-open_as h1 h2 h3 some s = grind (arith, true≢false)
-
 pub live_is : {A : Type 0} (o : Option A) → is_some o ≡ false → o ≡ None
 live_is h1 none = grind (arith, true≢false)
 
 -- a receive is no note, nor is a send
-notes_of_exchanges : {U : Type 0} (turns : List Turn) → notes_in {U = U} (exchanges_in turns) ≡ []
+pub notes_of_exchanges : {U : Type 0} (turns : List Turn) → notes_in {U = U} (exchanges_in turns) ≡ []
 notes_of_exchanges [] = refl
-notes_of_exchanges (Received r ∷ turns) = notes_of_exchanges turns
-notes_of_exchanges {U = U} (Handled es ∷ turns) =
-    notes_append (map Sent es) (exchanges_in turns) ∙ ap (λ (l : List (Happening U)). l ++ notes_in (exchanges_in turns)) (notes_of_sends es) ∙ notes_of_exchanges turns
-notes_of_exchanges {U = U} (Unread es ∷ turns) =
-    notes_append (map Sent es) (exchanges_in turns) ∙ ap (λ (l : List (Happening U)). l ++ notes_in (exchanges_in turns)) (notes_of_sends es) ∙ notes_of_exchanges turns
+notes_of_exchanges {U} (turn ∷ turns) = grind (arith, notes_append, notes_of_sends, notes_of_exchanges {U = U} turns, turn)
 
 module _ {T U G C : Type 0} (sends : T → Queue → Result ℕ IoFault → T → Type 0) (receives : T → ℕ → Result Queue IoFault → T → Type 0) (a : Around G C)
     (s after : Stored T U C) (r r' : Reading) where
   abbrev pub NextDoes : Result Handed ActionError → Bool → Type 0
   NextDoes answer refused = Does s (λ p did q. NextAction sends receives a r p answer r' refused did q) after
-
-  module _ (answer : Result Handed ActionError) (refused : Bool) (did : List (Deed U)) (q : Part T U C) where
-    abbrev Ran : Type 0
-    Ran = ReadsTo sends receives a r s.part answer r' refused did q
-
-    abbrev Refused : ActionError → Type 0
-    Refused e = ReadsNone e r s.part answer r' refused did q
-
-    next_live : Live s.part → Ran → NextAction sends receives a r s.part answer r' refused did q
-    next_live live ran = live_as Ran (Refused (Io fault.Pipe)) (λ _. Refused ActionOpen) s.part.action s.part.is_killed live.1 live.0 ran
-
-    next_killed : is_some s.part.action ≡ false → s.part.is_killed ≡ true → Refused (Io fault.Pipe) → NextAction sends receives a r s.part answer r' refused did q
-    next_killed none dead is = killed_as Ran (Refused (Io fault.Pipe)) (λ _. Refused ActionOpen) s.part.action s.part.is_killed none dead is
-
-    next_open : is_some s.part.action ≡ true → Refused ActionOpen → NextAction sends receives a r s.part answer r' refused did q
-    next_open some is = open_as (MatchBool s.part.is_killed (Refused (Io fault.Pipe)) Ran) (λ _. Refused ActionOpen) s.part.action some (λ x. is)
 
   -- a reading that ended is what is told of one
   pub reading_done : (answer : Result Handed NoAction) → Live s.part → EndsAs sends receives a s r answer after r' → NextDoes (answer_of answer) (refused_of answer)
@@ -413,25 +341,23 @@ module _ {T U G C : Type 0} (sends : T → Queue → Result ℕ IoFault → T �
       let did : List (Deed U) = deeds_of (exchanges_in e.turns) e.out.gave e.end.core in
       let notes : notes_in did ≡ notes_in (end_deeds {U = U} e.end.core.ended)
       = grind (arith, notes_append, exchanges_in, deeds_in, end_deeds, notes_in, notes_of_exchanges) in
-      let reading : r' ≡ read_on r e.out.left (handled_in e.turns)
-      = ap₂ (λ (n m : ℕ). let x : Reading = record { turns_left = n; read = m } in x) e.left e.read in (
+      let reading : r' ≡ read_on r e.out.left (handled_in e.turns) = grind (arith, e.left, e.read) in (
         did,
         part_of e.end,
-        next_live (answer_of answer) (refused_of answer) did (part_of e.end) live (e.turns, e.out, e.end, e.reads, e.answer_is, reading, e.refused_is, refl, refl),
-        e.after_is ∙ ap (λ (l : List (Happening U)). let x : Stored T U C = record { serial = s.serial; part = part_of e.end; made = s.made ++ l; times = no_times } in x) (sym notes),
+        where_none s.part.action (sym live.1) _ _ (at_false _ s.part.is_killed live.0 (e.turns, e.out, e.end, e.reads, e.answer_is, reading, e.refused_is, refl, refl)),
+        e.after_is ∙ rw notes refl,
       )
 
-  abbrev same_as : List (Happening U) → Stored T U C
-  same_as made = record { serial = s.serial; part = s.part; made = made; times = no_times }
-
-  -- nothing is read
+  -- nothing is read: an open action is answered first, and then that the client was killed
   pub open_done : r' ≡ r → after ≡ s → is_some s.part.action ≡ true → NextDoes (Err ActionOpen) false
   open_done left same some =
-      ([], s.part, next_open (Err ActionOpen) false [] s.part some (refl, left, refl, refl, refl), ap untimed same ∙ ap same_as (sym (append-nil s.made)))
+      let (action, is) : (x : OpenAction) × (Some x ≡ s.part.action) = grind (arith, s.part.action) in
+      rw same (does_quietly s (λ p did q. NextAction sends receives a r p (Err ActionOpen) r' false did q) s.part (where_some s.part.action action is _ _ (refl, left, refl, refl, refl)))
 
   pub killed_done : r' ≡ r → after ≡ s → is_some s.part.action ≡ false → s.part.is_killed ≡ true → NextDoes (Err (Io fault.Pipe)) false
   killed_done left same none dead =
-      ([], s.part, next_killed (Err (Io fault.Pipe)) false [] s.part none dead (refl, left, refl, refl, refl), ap untimed same ∙ ap same_as (sym (append-nil s.made)))
+      rw same (does_quietly s (λ p did q. NextAction sends receives a r p (Err (Io fault.Pipe)) r' false did q) s.part
+      (where_none s.part.action (sym (live_is s.part.action none)) _ _ (at_true _ s.part.is_killed dead (refl, left, refl, refl, refl))))
 
 -- a fault after which more may come
 pub fault_stays : {T U C : Type 0} (receives : T → ℕ → Result Queue IoFault → T → Type 0) (s : Stored T U C) (link : LinkState T) (f : IoFault)
@@ -442,7 +368,7 @@ fault_stays receives s link f same filled finds = (
   filled,
   finds,
   refl,
-  stored_live s (record s.part { link = link }) ∙ ap (λ (c : Core _ _). stored_as s (record { core = c; link = link })) (sym same),
+  made_end s (record s.part { link = link }) ∙ ap (λ (c : Core _ _). stored_as s (record { core = c; link = link })) (sym same),
 )
 
 -- a fault that kills

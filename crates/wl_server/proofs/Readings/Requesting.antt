@@ -1,5 +1,5 @@
 -- What requests to displays and registries come to, by their arguments.
-use Rattle.std.proofs.Common.{◌≡◌, ◌∙◌, ℕ, Bool, true, ◌==◌, if◌then◌else◌, List, [], ◌∷◌, Option, None, Some, refl}
+use Rattle.std.proofs.Common.{◌≡◌, ℕ, Bool, true, ◌==◌, if◌then◌else◌, List, [], ◌∷◌, Option, None, Some, refl}
 use Rattle.std.specs.List.{list_any}
 use Rattle.wl_wire.specs.declared.argument.Argument.TheVariants as arg
 use Rattle.wl_wire.specs.Argument.{WireArgument, type_of}
@@ -25,10 +25,6 @@ module _ {U G C : Type 0} (a : Around G C) (c : Core U C) where
   pub display_is : (opcode : ℕ) (args : List WireArgument) → display_request a c opcode args ≡ by_new_id opcode (only_new_id args)
   display_is opcode (arg.NewId m ∷ []) = refl
   display_is opcode _ = refl
-
-  pub display_sync : (opcode : ℕ) (args : List WireArgument) (n : ℕ) (v : Verdict (Core U C) (Told U)) → only_new_id args ≡ Some n → opcode ≡ 0
-      → made_at a c n (syncs a c n) ≡ v → display_request a c opcode args ≡ v
-  display_sync opcode args n v is zero same = display_is opcode args ∙ rw (is, zero) same
 
   abbrev pub by_parts : Option (ℕ × (Option (List ℕ) × (ℕ × ℕ))) → Verdict (Core U C) (Told U)
   by_parts None = garbled c

@@ -14,10 +14,11 @@ use Rattle.wl_server.specs.Part.{Part}
 use Rattle.wl_server.specs.Server.{Stored}
 use Rattle.wl_server.proofs.CallSteps.Feeling.{one_more_felt}
 use Rattle.wl_server.proofs.CleanupSteps.Gathering.{set_itself}
-use Rattle.wl_server.proofs.Readings.Flushing.{does_nothing}
+use Rattle.wl_server.proofs.CallSteps.Doing.{live_flushed, does_quietly}
 use Rattle.wl_server.proofs.Readings.Notes.{notes_of_sends}
 use Rattle.wl_server.proofs.Touched.Kept.{carry, out_here, there}
-use Rattle.wl_link.proofs.Calls.Branches.{at_true, at_false}
+use Rattle.wl_link.proofs.Calls.Branches.{at_true}
+use Rattle.wl_link.specs.Puts.{lacks_memory}
 
 module _ {T U C : Type 0} where
   module _ (sends : T → Queue → Result ℕ IoFault → T → Type 0) where
@@ -26,8 +27,9 @@ module _ {T U C : Type 0} where
     sent_felt slot (Some s) sent = (s, at s.part.is_killed refl, refl)
       where
         at : (b : Bool) → s.part.is_killed ≡ b → Does s (λ p did q. FlushesLive sends p false did q) s
-        at true killed = does_nothing s (λ p did q. FlushesLive sends p false did q) (at_true _ s.part.is_killed killed (refl, refl, refl))
-        at false live = does_nothing s (λ p did q. FlushesLive sends p false did q) (at_false _ s.part.is_killed live (Ok tt, ([], s.part.link, (refl, (sent, refl, refl), refl), refl, refl, refl)))
+        at true killed = does_quietly s (λ p did q. FlushesLive sends p false did q) s.part (at_true _ s.part.is_killed killed (refl, refl, refl))
+        at false live = live_flushed sends s s (Ok tt) false live refl (does_quietly s (λ p did q. FlushedTo sends p (Ok tt) (lacks_memory
+            (Ok tt)) did q) s.part ([], s.part.link, (refl, (sent, refl, refl), refl), refl, refl, refl))
 
     -- a flush of a client that has sent all leaves it so
     pub sent_flushed : (s s' : Stored T U C) (answer : Result (Unit {0}) IoFault) (lacked : Bool) → Does s (λ p did q. FlushedTo sends p answer lacked did q) s'

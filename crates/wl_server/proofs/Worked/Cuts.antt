@@ -7,12 +7,13 @@ use Rattle.wl_link.specs.Exchange.{Queue, nothing}
 use Rattle.wl_link.specs.Link.{LinkState}
 use Rattle.wl_link.specs.Reader.{Given, Gives, ReaderState, Reads, Received, Turn, stops}
 use Rattle.wl_link.specs.Script.{Script}
-use Rattle.wl_link.specs.Served.{Answers, state_as}
+use Rattle.wl_link.proofs.Readings.ServedLaws.{served_one, told_function}
+use Rattle.wl_link.specs.Served.{Answers, AsTold, state_as}
 use Rattle.wl_server.specs.declared.error.ActionError.TheVariants.{Io}
 use Rattle.wl_server.specs.declared.runs.step.Reply.TheVariants as reply
 use Rattle.wl_server.specs.declared.runs.step.Step.TheVariants as step
 use Rattle.wl_server.specs.Cutting.{CutsReading, IsServed}
-use Rattle.wl_server.proofs.OverRuns.Cut.CuttingLaws.{one_served, seen_reads}
+use Rattle.wl_server.proofs.OverRuns.Cut.CuttingLaws.{seen_reads}
 use Rattle.wl_server.specs.Deeds.{Came}
 use Rattle.wl_server.specs.Globals.{Offer}
 use Rattle.wl_server.specs.Part.{Part}
@@ -106,4 +107,5 @@ module _ (offer : Offer ℕ) (p : Part Script ℕ Bool) where
 
   -- with the law of one outcome: as nothing else
   of_half_alone : (gave : List (Given (Told ℕ))) (end : ReaderState Answers (Core ℕ Bool)) → IsServed (around w client offer) (reader_part before) half [] [] gave end → gave ≡ []
-  of_half_alone gave end served = (one_served (around w client offer) (reader_part before) half [] [] gave [] end (state_as (reader_part before) half []) served of_half).0
+  of_half_alone gave end served =
+      (served_one AsTold told_function (server (around w client offer)) (state_as (reader_part before) half []) end _ [] gave [] served of_half).0

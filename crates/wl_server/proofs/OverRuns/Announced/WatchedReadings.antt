@@ -23,7 +23,7 @@ use Rattle.wl_server.specs.declared.globals.KeptGlobal.{KeptGlobal}
 use Rattle.wl_server.proofs.OverRuns.Announced.AnnouncementLaws.{AreOfOthers}
 use Rattle.wl_server.specs.Deeds.{Deed, Handed, Remembered, log_of, registries_in}
 use Rattle.wl_server.specs.Deeds as deeds
-use Rattle.wl_server.proofs.OverRuns.Moves.DoingsLaws.{told_deeds}
+use Rattle.wl_server.proofs.OverRuns.Moves.DoingsLaws.{told_deeds, told_stops}
 use Rattle.wl_server.specs.Errors.{fault_text, since_text}
 use Rattle.wl_server.specs.Globals.{Offer, global_at}
 use Rattle.wl_server.specs.Ids.{ClientParts, GlobalParts, IdParts}
@@ -34,7 +34,7 @@ use Rattle.wl_server.specs.Reading.{Around, NextAction, binds, breaks, converted
 use Rattle.wl_server.proofs.OverRuns.Announced.RequestCases.{request_case}
 use Rattle.wl_server.specs.Requests.{Outcome, Whole, Wrong, convert, is_valid_new, made_id, made_object, start, with_made}
 use Rattle.wl_server.specs.Telling.{Core, Did, Told, deeds_in, delete_message, deletions, done_message, objects_in, reader_part, with_objects}
-use Rattle.wl_server.proofs.OverRuns.Announced.WatchedVerdicts.{CoreLives, Forms, Leads, PartLives, carried_to, lives_not, lives_same, lives_so, lives_then, log_both, registries_both, told_stops, turned, verdict_lives}
+use Rattle.wl_server.proofs.OverRuns.Announced.WatchedVerdicts.{CoreLives, Forms, Leads, PartLives, carried_to, lives_not, lives_same, lives_so, lives_then, log_both, registries_both, turned, verdict_lives}
 use Rattle.wl_server.proofs.OverRuns.Announced.Watching.{Goes, Scene, Steady, born_goes, goes_then, kept_other, others_goes, part_scene, registers_goes, scene_of, set_action_goes, steady_goes, steady_same, steady_then, went_goes}
 use Rattle.wl_server.proofs.Readings.OneMessage.{deeds_append}
 

@@ -16,7 +16,7 @@ use Rattle.wl_server.proofs.OverRuns.Moves.DoingsLaws.{deeds_done, deeds_given, 
 use Rattle.wl_server.specs.Globals.{Offer}
 use Rattle.wl_server.specs.Ids.{ClientParts, GlobalParts}
 use Rattle.wl_server.specs.Part.{Part}
-use Rattle.wl_server.specs.Reading.{exchanges_in, stops_if}
+use Rattle.wl_server.specs.Reading.{exchanges_in}
 use Rattle.wl_server.specs.Telling.{Core, Finish, Tells, Told, closed_down, core_of, deeds_in, deeds_of, speaker}
 use Rattle.wl_server.proofs.OverRuns.Announced.Watching.{Goes, Scene, goes_then, part_scene, scene_of, steady_goes, steady_same}
 use Rattle.wl_server.proofs.GlobalCalls.Putting.{ok_err}
@@ -69,15 +69,12 @@ module _ {U : Type 0} where
 
     pub turned : (turns : List Turn) (gave : List (Given (Told U))) (e : Core U C) → Tell (deeds_of (exchanges_in turns) gave e) (deeds_in gave)
     turned turns gave e =
-        let (es, rs, is) = doings_turns turns in record {
+        let is = doings_turns turns in record {
           put = ap (λ (d : Doings U). d.put) (deeds_done (exchanges_in turns) gave e) ∙ ap (λ (d : Doings U). d.put ++ (log_of (deeds_in gave) ++ [])) is
               ∙ append-nil (log_of (deeds_in gave));
           made = ap (λ (d : Doings U). d.registries) (deeds_done (exchanges_in turns) gave e) ∙ ap (λ (d : Doings U). d.registries ++ (registries_in (deeds_in gave) ++ [])) is
               ∙ append-nil (registries_in (deeds_in gave));
         }
-
-    pub told_stops : (c : Core U C) → told_deeds (stops_if c) ≡ []
-    told_stops c = grind (arith, told_deeds)
 
 module _ {U C : Type 0} where
   -- The forms of a verdict: what follows a failed write leaves the client killed; without memory it is killed, or nothing is

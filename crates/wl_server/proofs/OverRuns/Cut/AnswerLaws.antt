@@ -1,9 +1,9 @@
 -- What the readings of a client of a server answer, and how they leave it: an action, or that the client was killed, or that
 -- more may be received later.
-use Rattle.std.proofs.Common.{◌≡◌, ◌≢◌, ◌⊎◌, ℕ, Bool, true, false, not, ◌&&◌, eqb, cond, List, [], ◌∷◌, ◌++◌, append-nil, map, Option, None, Some, is_none, is_some, Result, Ok, Err, is_ok, MatchResult, refl, sym, ap, ap₂, subst, ◌∙◌, true≢false, arith}
+use Rattle.std.proofs.Common.{◌≡◌, ◌≢◌, ◌⊎◌, ℕ, Bool, true, false, not, ◌&&◌, eqb, cond, List, [], ◌∷◌, ◌++◌, append-nil, map, Option, None, Some, is_none, is_some, Result, Ok, Err, is_ok, refl, sym, ap, ap₂, subst, ◌∙◌, true≢false, arith}
 use mathlib.Core.Logic.{inr}
 use Rattle.std.proofs.lemmas.Option.{same_Some, none-some}
-use Rattle.std.specs.Prelude.{if◌then◌else◌, nat_lt}
+use Rattle.std.specs.Prelude.{nat_lt}
 use Rattle.std.specs.Option.{option_map_or}
 use Rattle.wl_wire.specs.declared.argument.Argument.TheVariants as arg
 use Rattle.wl_wire.specs.declared.error.IoFault.{IoFault}
@@ -13,7 +13,6 @@ use Rattle.wl_wire.specs.Message.{WireMessage}
 use Rattle.wl_wire.specs.Table.{MessageRow, display_id, registry_id}
 use Rattle.wl_link.specs.declared.object.Object.{Object}
 use Rattle.wl_link.specs.Exchange.{Queue, Sending}
-use Rattle.wl_link.specs.Identity.{Objects}
 use Rattle.wl_link.specs.Link.{LinkState, counted_answer, count_of}
 use Rattle.wl_link.specs.Puts.{PutsOut, Said, lacks_memory}
 use Rattle.wl_link.specs.Reader.{CarriesOut, Ends, Given, Gives, HandedOut, Handled, Reads, Received, Turn, Unread, Verdict, given_first, came_to, put_and_gave, stops, with_link, ReaderState}
@@ -31,7 +30,7 @@ use Rattle.wl_server.proofs.OverRuns.Moves.DoingsLaws.{deeds_given}
 use Rattle.wl_server.specs.Errors.{bind_text, new_id_text}
 use Rattle.wl_server.specs.Finish.{finish_verdict, ended_by, ends, ends_request, refusal}
 use Rattle.wl_server.specs.Ids.{IdParts}
-use Rattle.wl_server.specs.Reading.{Around, action_in, binds, binds_to, breaks, display_request, exchanges_in, faulted, garbled, hands_out, made_at, may_bind, other_request, reads_on, registry_request, request, row_in, server, synced, with_registry}
+use Rattle.wl_server.specs.Reading.{Around, action_in, binds, binds_to, breaks, display_request, exchanges_in, garbled, hands_out, made_at, may_bind, other_request, reads_on, registry_request, request, row_in, server, synced, with_registry}
 use Rattle.wl_server.specs.Requests.{convert, is_valid_new, start}
 use Rattle.wl_server.specs.Stretches.{answers_in, beside_exchanges, was_killed}
 use Rattle.wl_server.specs.Telling.{Core, Did, Finish, Stops, Told, closed_down, deeds_in, killed, objects_in, with_objects}
@@ -109,10 +108,8 @@ module _ {U C : Type 0} where
   sound_killed c reason h1 h2 = grind (arith)
 
   -- the client is read on, and so has no end
-  record IsReady (c : Core U C) : Type 0 where
-    live : c.is_killed ≡ false
-    unopened : c.action ≡ None
-    none : c.ended ≡ None
+  abbrev IsReady : Core U C → Type 0
+  IsReady c = (c.is_killed ≡ false) × (c.action ≡ None) × (c.ended ≡ None)
 
   pub on_of : (c : Core U C) → c.is_killed ≡ false → c.action ≡ None → reads_on c ≡ true
   on_of c live unopened = ap₂ (λ (b : Bool) (o : Option OpenAction). not b && is_none o) live unopened
@@ -154,26 +151,13 @@ module _ {U G C : Type 0} (a : Around G C) where
   action_speaks c action h r = grind (arith)
 
   made_speaks : (c : Core U C) (n : ℕ) (v : Verdict (Core U C) (Told U)) → IsReady c → Speaks v → Speaks (made_at a c n v)
-  made_speaks c n v r speaks = go (is_valid_new (objects_in c) n)
-    where
-      go : (b : Bool) → Speaks (if b then v else breaks a c 0 (new_id_text n))
-      go true = speaks
-      go false = stops_speaks c 0 (new_id_text n) r
+  made_speaks c n v r speaks = grind (arith, stops_speaks c 0 (new_id_text n) r, is_valid_new (objects_in c) n)
 
   -- ---- requests to a display
 
-  synced_ready : (c : Core U C) (n : ℕ) → IsReady c → IsReady (synced a c n)
-  synced_ready c n r = record { live = r.live; unopened = r.unopened; none = r.none }
-
-  registry_ready : (c : Core U C) (n : ℕ) → IsReady c → IsReady (with_registry a c n)
-  registry_ready c n r = record { live = r.live; unopened = r.unopened; none = r.none }
-
-  objects_ready : (c : Core U C) (o : Objects (Kept U)) → IsReady c → IsReady (with_objects c o)
-  objects_ready c o r = record { live = r.live; unopened = r.unopened; none = r.none }
-
   display_speaks : (c : Core U C) (opcode : ℕ) (args : List WireArgument) → IsReady c → Speaks (display_request a c opcode args)
   display_speaks c opcode (arg.NewId n ∷ []) r = made_speaks c n _ r
-      (grind (arith, on_of, sound_killed, synced, synced_ready, with_registry, registry_ready, eqb opcode 0))
+      (grind (arith, on_of, sound_killed, synced, with_registry, eqb opcode 0))
   display_speaks c opcode _ r = garbled_speaks c r
 
   -- ---- requests to a registry
@@ -183,7 +167,7 @@ module _ {U G C : Type 0} (a : Around G C) where
   binds_to_speaks c g name version n (Some x) r = go (may_bind a c g name version x)
     where
       go : (b : Bool) → Speaks (cond b (made_at a c n (binds a c g version n x)) (breaks a c 0 (bind_text (option_map_or (λ t. t) name []) version g)))
-      go true = made_speaks c n _ r (action_speaks _ _ _ (objects_ready c _ r))
+      go true = made_speaks c n _ r (action_speaks _ _ _ r)
       go false = stops_speaks c 0 _ r
 
   registry_speaks : (c : Core U C) (args : List WireArgument) → IsReady c → Speaks (registry_request a c args)
@@ -200,7 +184,7 @@ module _ {U G C : Type 0} (a : Around G C) where
       go : (b t : Bool) → Speaks (cond b (display_request a c m.opcode m.args) (cond t (registry_request a c m.args) (other_request a c m receiver row)))
       go true t = display_speaks c m.opcode m.args r
       go false true = registry_speaks c m.args r
-      go false false = grind (arith, nat_lt, stops_speaks, with_objects, objects_ready, action_speaks, convert, start, objects_in)
+      go false false = grind (arith, nat_lt, stops_speaks, with_objects, action_speaks, convert, start, objects_in)
 
   -- ---- a verdict that was carried out
 
@@ -242,20 +226,13 @@ module _ {T U G C : Type 0} (sends : T → Queue → Result ℕ IoFault → T �
       → Reads sends (server a) receives left p turns out after → (out.stopped ≡ None) × (out.gave ≡ []) × (after.core ≡ p.core)
   reads_off left p after [] out off (same, ends) = grind (arith, reads_on, server, stops, true≢false)
   reads_off left p after (Received r ∷ turns) out off h = absurd (true≢false (sym h.0 ∙ off))
-  reads_off left p after (Handled es ∷ turns) out off h = absurd (true≢false (sym h.0 ∙ off))
-  reads_off left p after (Unread es ∷ turns) out off h = absurd (true≢false (sym h.0 ∙ off))
+  reads_off left p after (t ∷ turns) out off h = absurd (true≢false (sym h.0 ∙ off))
 
   pub reads_so : (left : ℕ) (p after : ReaderState T (Core U C)) (turns : List Turn) (out : Gives (Told U)) → Reads sends (server a) receives left p turns out after
       → out.refused ≡ false → IsSound p.core → ReadsSo p.core out after.core
   reads_so left p after [] out (same, ends) ample sound = grind (arith, reads_on, server, stops)
   reads_so left p after (Received r ∷ turns) out (on, lacks, (n, is, (link, filled, finds, h))) ample sound =
-      go (counted_answer (count_of r)) h (λ more. reads_so n (with_link p link) after turns out more ample sound)
-    where
-      go : (c : Result (Unit {0}) IoFault)
-          → MatchResult c (λ _. Reads sends (server a) receives n (with_link p link) turns out after)
-          (λ f. (turns ≡ []) × (out ≡ stops (Some f) (lacks_memory (Err f)) n) × (after ≡ record { core = faulted p.core f; link = link }))
-          → (Reads sends (server a) receives n (with_link p link) turns out after → ReadsSo p.core out after.core) → ReadsSo p.core out after.core
-      go h1 more goes = grind (arith, sound_killed, is_none, true≢false)
+      grind (arith, sound_killed, is_none, true≢false, counted_answer (count_of r), reads_so n (with_link p link) after turns out)
   reads_so left p after (Handled es ∷ turns) out (on, (v, link, first, lacked, mid, rest, (m, read, is), carried, split, more)) ample sound =
       let calm = both_false lacked rest.refused (sym ample ∙ ap (λ (o : Gives (Told U)). o.refused) split) in
       let says = carried_says a sends v (subst (λ (w : Verdict (Core U C) (Told U)). Speaks a w) (sym is) (request_speaks a p.core m

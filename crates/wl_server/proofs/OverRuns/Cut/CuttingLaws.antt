@@ -1,26 +1,22 @@
 -- What follows for a client of a server from the laws of a reader: that it does not matter to it how bytes and tokens are
 -- cut, reading by reading and finish by finish.
-use Rattle.std.proofs.Common.{◌≡◌, ℕ, ◌<◌, Bool, false, List, ◌∷◌, ◌++◌, Option, None, Some, is_none, Result, Ok, Err, refl, sym, ap, subst, ◌∙◌, true≢false, arith}
+use Rattle.std.proofs.Common.{◌≡◌, ℕ, Bool, false, List, ◌++◌, None, Some, is_none, Result, Ok, refl, sym, ap, subst, ◌∙◌, true≢false, arith}
 use Rattle.std.proofs.lemmas.Option.{same_Some, none-some}
-use Rattle.std.specs.Prelude.{is_ok, map}
+use Rattle.std.specs.Prelude.{is_ok}
 use Rattle.wl_wire.specs.declared.error.IoFault.{IoFault}
-use Rattle.wl_link.proofs.Readings.AnsweringLaws.{some_answered}
 use Rattle.wl_link.proofs.Readings.CuttingLaws.{finish_law, reading_law}
-use Rattle.wl_link.specs.Exchange.{Queue, Sending, nothing}
-use Rattle.wl_link.specs.Reader.{AllFed, CarriesOut, Ends, Given, Gives, Reads, Turn, received_in, sends_in, ReaderState}
-use Rattle.wl_link.specs.Served.{Answers, AsTold, state_as}
-use Rattle.wl_link.proofs.Readings.ServedLaws.{served_one, told_function}
+use Rattle.wl_link.specs.Exchange.{Queue}
+use Rattle.wl_link.specs.Reader.{CarriesOut, Ends}
+use Rattle.wl_link.specs.Served.{AsTold}
+use Rattle.wl_link.proofs.Readings.ServedLaws.{told_function}
 use Rattle.wl_server.specs.declared.reading.action.Reading.{Reading}
 use Rattle.wl_server.specs.declared.error.ActionError.{ActionError}
-use Rattle.wl_server.specs.declared.error.ActionError.TheVariants.{ActionOpen}
-use Rattle.wl_server.specs.declared.error.FinishError.TheVariants as finish
 use Rattle.wl_server.specs.declared.error.FinishRefused.{FinishRefused}
-use Rattle.wl_server.specs.declared.runs.step.Reply.{Reply}
 use Rattle.wl_server.specs.declared.runs.step.Reply.TheVariants as reply
 use Rattle.wl_server.specs.declared.runs.step.Step.TheVariants as step
-use Rattle.wl_server.specs.Cutting.{CutsFinish, CutsReading, GoesOn, HistoriesAreCut, IsServed, seen_after}
-use Rattle.wl_server.specs.Deeds.{Deed, Handed, Sent, notes_in}
-use Rattle.wl_server.specs.Finish.{FinishesBind, FinishesRequest, finishing, refusal}
+use Rattle.wl_server.specs.Cutting.{CutsFinish, CutsReading, HistoriesAreCut}
+use Rattle.wl_server.specs.Deeds.{Deed, Handed, notes_in}
+use Rattle.wl_server.specs.Finish.{finishing, refusal}
 use Rattle.wl_server.specs.Globals.{Offer}
 use Rattle.wl_server.specs.Ids.{ClientParts, same_client}
 use Rattle.wl_server.proofs.OverRuns.Alone.IsolationLaw.{same_self}
@@ -31,20 +27,12 @@ use Rattle.wl_server.specs.Reading.{Around, NextAction, ReadsTo, action_content,
 use Rattle.wl_server.proofs.OverRuns.Ids.ReplyLaws.{own_step}
 use Rattle.wl_server.specs.Server.{Seen, ServerState, seen}
 use Rattle.wl_server.specs.Steps.{Entry, IsRefused, OneStep}
-use Rattle.wl_server.specs.Telling.{Core, Finish, OfBind, OfRequest, Told, core_of, deeds_of, reader_part}
+use Rattle.wl_server.specs.Telling.{Finish, OfBind, OfRequest, core_of, reader_part}
 
--- ---- a reading, and the end of an action
+-- ---- of a client
 
 module _ {T U G C : Type 0} (sends : T → Queue → Result ℕ IoFault → T → Type 0) (receives : T → ℕ → Result Queue IoFault → T → Type 0)
     (a : Around G C) where
-  -- a reading that was fed goes on as what came does
-  pub reading_cuts : (left : ℕ) (p end : ReaderState T (Core U C)) (turns : List Turn) (out : Gives (Told U)) → Reads sends (server a) receives left p turns out end
-      → AllFed turns → out.refused ≡ false → (finishes : List (Finish U)) → GoesOn a p (received_in turns) (sends_in turns) finishes out.gave end finishes
-  reading_cuts left p end turns out reads fed ample finishes =
-      reading_law sends receives AsTold (server a) told_function (λ c. refl) left p end turns out reads fed ample finishes
-
-  -- ---- of a client
-
   -- a reading of a live client with no action open is one of the reader
   pub reads_to : (r : Reading) (p : Part T U C) (answer : Result Handed ActionError) (r' : Reading) (refused : Bool) (did : List (Deed U)) (q : Part T U C)
       → p.is_killed ≡ false → p.action ≡ None → NextAction sends receives a r p answer r' refused did q → ReadsTo sends receives a r p answer r' refused did q
@@ -72,18 +60,18 @@ module _ {T U G C : Type 0} (w : World T G C) (id : ClientParts) (offer : Offer 
         is,
         did_so,
         (same ∙ ap (λ (x : Part T U C). let s : Seen T U C = record { part = Some x; made = before.made ++ notes_in did } in s) ends),
-        λ fed finishes. reading_cuts w.sends w.receives here r.turns_left (reader_part p) end turns out reads fed (sym lacks ∙ unlacked) finishes,
+        λ fed finishes. reading_law w.sends w.receives AsTold (server here) told_function (λ c. refl) r.turns_left
+            (reader_part p) end turns out reads fed (sym lacks ∙ unlacked) finishes,
       )
 
   -- a finish that is what the reader makes of these data
-  seen_ends : (u : Finish U) (lacked : Bool) (did : List (Deed U)) (p q : Part T U C)
-      → lacked ≡ false → EndsAlike w.sends here p u lacked did q → after ≡ record { part = Some q; made = before.made ++ notes_in did }
-      → (es : List Sending) × (gave : List (Given (Told U))) × (end : ReaderState T (Core U C))
-      × Ends w.sends (server here) (reader_part p) u es gave false end
-      × (did ≡ deeds_of (map Sent es) gave end.core)
-      × (after ≡ seen_after here before end did)
-      × ((finishes : List (Finish U)) → GoesOn here (reader_part p) nothing es (u ∷ finishes) gave end finishes)
-  seen_ends u lacked did p q unlacked (es, gave, end, (v, taken, carried), did_so, ends) same =
+  seen_finishes : {D : Type 0} (u : Finish U) (answer : Result (Unit {0}) (FinishRefused D)) (R : Part T U C → Part T U C
+      → Type 0) (missing : Type 0) (lacked : Bool) (did : List (Deed U))
+      → ((p q : Part T U C) → p.is_killed ≡ false → answer ≡ Ok tt → R p q → (lacked ≡ false) × EndsAlike w.sends here p u lacked did q)
+      → OfClient (same_client id id) before R missing lacked did after → CutsFinish here w.sends u before answer did after
+  seen_finishes u answer R missing lacked did alike h p there live accepted =
+      let (q, done, same) = of_part R missing lacked did p there (own_step (same_client id id) before R missing lacked did after (same_self id) h) in
+      let (unlacked, (es, gave, end, (v, taken, carried), did_so, ends)) = alike p q live accepted done in
       let by : Ends w.sends (server here) (reader_part p) u es gave false end
       = (v, taken, subst (λ (b : Bool). CarriesOut w.sends (server here) v p.link es gave b end) unlacked carried) in (
         es,
@@ -96,39 +84,7 @@ module _ {T U G C : Type 0} (w : World T G C) (id : ClientParts) (offer : Offer 
             (grind (arith, finishing, is_none, none-some, core_of p)) by finishes),
       )
 
-  pub seen_finishes : (u : Option U) (answer : Result (Unit {0}) (FinishRefused (Option U))) (lacked : Bool) (did : List (Deed U))
-      → OfClient (same_client id id) before (λ p q. FinishesRequest w.sends id p u answer lacked did q)
-      (answer ≡ Err (record { error = finish.InvalidId; user_data = u })) lacked did after
-      → CutsFinish here w.sends (OfRequest u) before answer did after
-  seen_finishes u answer lacked did h p there live accepted =
-      let (q, next, same) = of_part _ _ lacked did p there (own_step (same_client id id) before _ _ lacked did after (same_self id) h) in
-      let done = subst (λ (r : Result (Unit {0}) (FinishRefused (Option U))). FinishesRequest w.sends id p u r lacked did q) accepted next in
-      seen_ends (OfRequest u) lacked did p q (grind (arith, refusal, true≢false, is_ok, w.sends)) (request_ends_alike w.sends here p u lacked did q live done) same
-
-  pub seen_finishes_bind : (u : U) (answer : Result (Unit {0}) (FinishRefused U)) (lacked : Bool) (did : List (Deed U))
-      → OfClient (same_client id id) before (λ p q. FinishesBind p u answer lacked did q)
-      (answer ≡ Err (record { error = finish.InvalidId; user_data = u })) lacked did after
-      → CutsFinish here w.sends (OfBind u) before answer did after
-  seen_finishes_bind u answer lacked did h p there live accepted =
-      let (q, next, same) = of_part _ _ lacked did p there (own_step (same_client id id) before _ _ lacked did after (same_self id) h) in
-      let done = subst (λ (r : Result (Unit {0}) (FinishRefused U)). FinishesBind p u r lacked did q) accepted next in
-      seen_ends (OfBind u) lacked did p q (grind (arith)) (bind_ends_alike w.sends here p u lacked did q live done) same
-
 -- ---- the calls of a server
-
-module _ {T U : Type 0} where
-  abbrev action_answer : Reply T U → Result Handed ActionError
-  action_answer (reply.NextAction r) = action_content r
-  action_answer (reply.NextActionWithin r left) = action_content r
-  action_answer _ = Err ActionOpen
-
-  abbrev request_answer : Reply T U → Result (Unit {0}) (FinishRefused (Option U))
-  request_answer (reply.FinishRequest r) = r
-  request_answer _ = Ok tt
-
-  abbrev bind_answer : Reply T U → Result (Unit {0}) (FinishRefused U)
-  bind_answer (reply.FinishBind r) = r
-  bind_answer _ = Ok tt
 
 module _ {T U G C : Type 0} (w : World T G C) (before after : ServerState T U G C) where
   -- where memory was not refused in a call, it was not refused to any client
@@ -143,29 +99,25 @@ module _ {T U G C : Type 0} (w : World T G C) (before after : ServerState T U G 
   pub histories_cut : (call : Call T U G C) → HistoriesAreCut w before call after
   histories_cut (Asked (step.NextAction id) (reply.NextAction answer)) e call by =
       let (r, left, is, h) = of_call id e (Asked (step.NextAction id) (reply.NextAction answer)) call by in
-      λ calm. seen_reads w id before.offer (seen id before) (seen id after) new_reading (action_content answer) left (e.lacks id) (e.did id) (ample id e by.refused calm)
-      (subst (λ (x : Result Handed ActionError). ReadsFor w id before.offer id new_reading x left (seen id before) (e.lacks id) (e.did id) (seen id after)) (sym (ap action_answer is)) h)
+      let same : r ≡ answer = cc in
+      λ calm. seen_reads w id before.offer (seen id before) (seen id after) new_reading (action_content answer) left (e.lacks id) (e.did id)
+      (ample id e by.refused calm) (rw same at h)
   histories_cut (Asked (step.NextActionWithin id reading) (reply.NextActionWithin answer reading')) e call by =
       let (r, left, is, h) = of_call id e (Asked (step.NextActionWithin id reading) (reply.NextActionWithin answer reading')) call by in
-      λ calm. seen_reads w id before.offer (seen id before) (seen id after) reading (action_content answer) left (e.lacks id) (e.did id) (ample id e by.refused calm)
-      (subst (λ (x : Result Handed ActionError). ReadsFor w id before.offer id reading x left (seen id before) (e.lacks id) (e.did id) (seen id after)) (sym (ap action_answer is)) h)
+      let same : r ≡ answer = cc in
+      λ calm. seen_reads w id before.offer (seen id before) (seen id after) reading (action_content answer) left (e.lacks id) (e.did id)
+      (ample id e by.refused calm) (rw same at h)
   histories_cut (Asked (step.FinishRequest id u) (reply.FinishRequest answer)) e call by =
       let (r, is, h) = of_call id e (Asked (step.FinishRequest id u) (reply.FinishRequest answer)) call by in
-      λ p there live accepted. seen_finishes w id before.offer (seen id before) (seen id after) u r (e.lacks id) (e.did id) h p there live (sym (ap request_answer is) ∙ accepted)
+      let same : r ≡ answer = cc in
+      seen_finishes w id before.offer (seen id before) (seen id after) (OfRequest u) answer _ _ (e.lacks id) (e.did id) (λ p q live accepted done.
+      let next = rw accepted at done in
+      ((grind (arith, refusal, true≢false, is_ok)), request_ends_alike w.sends (around w id before.offer) p u (e.lacks id) (e.did id) q live next))
+      (rw same at h)
   histories_cut (Asked (step.FinishBind id u) (reply.FinishBind answer)) e call by =
       let (r, is, h) = of_call id e (Asked (step.FinishBind id u) (reply.FinishBind answer)) call by in
-      λ p there live accepted. seen_finishes_bind w id before.offer (seen id before) (seen id after) u r (e.lacks id) (e.did id) h p there live (sym (ap bind_answer is) ∙ accepted)
+      let same : r ≡ answer = cc in
+      seen_finishes w id before.offer (seen id before) (seen id after) (OfBind u) answer _ _ (e.lacks id) (e.did id) (λ p q live accepted done.
+      let next = rw accepted at done in
+      ((grind (arith)), bind_ends_alike w.sends (around w id before.offer) p u (e.lacks id) (e.did id) q live next)) (rw same at h)
   histories_cut _ e call by = tt
-
--- ---- what is served has one outcome
-
-pub one_served : {T U G C : Type 0} (a : Around G C) (p : ReaderState T (Core U C)) (more : Queue) (answers : Answers) (finishes : List (Finish U))
-    (gave others : List (Given (Told U))) (x y : ReaderState Answers (Core U C)) → IsServed a p more answers finishes gave x → IsServed a p more answers finishes others y
-    → (gave ≡ others) × (x ≡ y)
-one_served a p more answers finishes gave others x y = served_one AsTold told_function (server a) (state_as p more answers) x y finishes gave others
-
--- ---- something is served, with answers that suffice
-
-pub some_served : {T U G C : Type 0} (a : Around G C) (p : ReaderState T (Core U C)) (more : Queue) (finishes : List (Finish U)) → 0 < p.link.outgoing_capacity
-    → (answers : Answers) × (gave : List (Given (Told U))) × (end : ReaderState Answers (Core U C)) × IsServed a p more answers finishes gave end
-some_served a p more finishes holds = some_answered (server a) (grind (arith)) p more finishes holds

@@ -1,14 +1,12 @@
 -- That a reading has room for each message of a client that may come.
-use Rattle.std.proofs.Common.{◌≡◌, ◌≢◌, ◌⊎◌, ℕ, Bool, List, [], ◌∷◌, ◌++◌, append-nil, map, Some, Result, Ok, Err, is_ok, MatchResult, refl, sym, ap, subst, ◌∙◌, true≢false, arith}
+use Rattle.std.proofs.Common.{◌≡◌, ◌≢◌, ℕ, Bool, List, [], ◌∷◌, ◌++◌, append-nil, map, Some, Result, Ok, is_ok, refl, ap, subst, ◌∙◌, true≢false, arith}
 use mathlib.Core.Logic.{inl, inr}
-use Rattle.std.proofs.lemmas.Option.{same_Some}
 use Rattle.wl_wire.specs.declared.error.IoFault.{IoFault}
 use Rattle.wl_link.proofs.Calls.Branches.{either_bool, either_option}
 use Rattle.wl_link.specs.Exchange.{Queue, Sending}
 use Rattle.wl_link.proofs.Streams.LengthLaws.{failed_finds}
 use Rattle.wl_link.specs.Link.{FindsRoom, LinkState, count_of, counted_answer}
-use Rattle.wl_link.specs.Puts.{lacks_memory}
-use Rattle.wl_link.specs.Reader.{Gives, Handled, Reads, Received, Turn, Unread, stops, with_link, ReaderState}
+use Rattle.wl_link.specs.Reader.{Gives, Handled, Reads, Received, Turn, Unread, with_link, ReaderState}
 use Rattle.wl_server.specs.declared.reading.action.Reading.{Reading}
 use Rattle.wl_server.specs.declared.error.ActionError.{ActionError}
 use Rattle.wl_server.specs.Deeds.{IsAmong, came_in, Deed, Handed, Sent}
@@ -19,7 +17,7 @@ use Rattle.wl_server.specs.Ids.{ClientParts, same_client}
 use Rattle.wl_server.proofs.Plain.ReadingNotes.{reads_bare}
 use Rattle.wl_server.specs.Part.{Part}
 use Rattle.wl_server.specs.PartStep.{ReadsFor, World, around}
-use Rattle.wl_server.specs.Reading.{Around, NextAction, exchanges_in, faulted, server}
+use Rattle.wl_server.specs.Reading.{Around, NextAction, exchanges_in, server}
 use Rattle.wl_server.specs.Room.{BringsNone, LeavesRoom}
 use Rattle.wl_server.specs.Server.{Seen}
 use Rattle.wl_server.specs.Telling.{Core, Told, deeds_in, deeds_of, end_deeds, reader_part}
@@ -67,19 +65,7 @@ module _ {T U G C : Type 0} (sends : T → Queue → Result ℕ IoFault → T �
       → (r : Result Queue IoFault) → IsAmong (received U turns) r → BringsNone r → Leaves after.link
   leaves_room left p after [] out reads r among none = absurd among
   leaves_room left p after (Received s ∷ turns) out (on, lacks, (n, is, (link, filled, finds, h))) r among none =
-      go (counted_answer (count_of s)) refl h among (λ more later. leaves_room n (with_link p link) after turns out more r later none)
-    where
-      go : (c : Result (Unit {0}) IoFault) → counted_answer (count_of s) ≡ c
-          → MatchResult c (λ _. Reads sends (server a) receives n (with_link p link) turns out after)
-          (λ f. (turns ≡ []) × (out ≡ stops (Some f) (lacks_memory (Err f)) n) × (after ≡ record { core = faulted p.core f; link = link }))
-          → (s ≡ r) ⊎ IsAmong (received U turns) r
-          → (Reads sends (server a) receives n (with_link p link) turns out after → IsAmong (received U turns) r → Leaves after.link) → Leaves after.link
-      go (Ok u) was more (inl same) goes = absurd (none_fails s (subst BringsNone (sym same) none) was)
-      go (Ok u) was more (inr later) goes = goes more later
-      go (Err f) was (over, ends, same) (inl this) goes =
-          subst (λ (x : ReaderState T (Core U C)). Leaves x.link) (sym same)
-          (failed_finds receives p.link link s f was filled finds)
-      go (Err f) was (over, ends, same) (inr later) goes = absurd (subst (λ (ts : List Turn). IsAmong (received U ts) r) over later)
+      grind (arith, none_fails, failed_finds receives p.link link s, counted_answer (count_of s), leaves_room n (with_link p link) after turns out)
   leaves_room left p after (Handled es ∷ turns) out (on, (v, link, first, lacked, mid, rest, found, by, split, more)) r among none = grind (arith, none_sent, exchanges_in, leaves_room left mid after turns rest more r)
   leaves_room left p after (Unread es ∷ turns) out (on, (v, link, first, lacked, mid, rest, found, by, split, more)) r among none = grind (arith, none_sent, exchanges_in, leaves_room left mid after turns rest more r)
 
@@ -100,8 +86,7 @@ module _ {T U G C : Type 0} (w : World T G C) where
         | inl g ↦
             elim (either_option before.part g) [
               | inl (none, (missing, (calm, nothing, same))) ↦ nothing_came did p.link nothing
-              | inr (q, was, (r, read, same)) ↦
-                  subst (λ (x : Part T U C). LeavesRoom did x.link) (same_Some r p (sym (ap (λ (s : Seen T U C). s.part) same) ∙ there))
-                  (next_action_room w.sends w.receives (around w id offer) reading q answer left lacked did r read)
+              | inr (q, was, (r, read, same)) ↦ grind
+                  (arith, next_action_room w.sends w.receives (around w id offer) reading q answer left lacked did r read)
             ]
       ]

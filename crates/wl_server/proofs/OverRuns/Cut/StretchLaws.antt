@@ -4,34 +4,30 @@
 use Rattle.std.proofs.Common.{◌≡◌, ◌⊎◌, ℕ, Bool, true, false, List, [], ◌∷◌, ◌++◌, append_assoc, append-nil, Option, None, Some, Result, Ok, Err, map, refl, sym, ap, ap₂, subst, ◌∙◌, true≢false, arith, is_none, is_ok}
 use mathlib.Core.Logic.{inl, inr}
 use Rattle.std.proofs.lemmas.Option.{same_Some, none-some}
-use Rattle.std.specs.Prelude.{MatchBool}
 use Rattle.wl_wire.specs.declared.error.IoFault.{IoFault}
 use Rattle.wl_wire.specs.declared.error.IoFault.TheVariants as fault
 use Rattle.wl_link.proofs.Stretches.ArrivalLaws.{fed_blocks}
 use Rattle.wl_link.proofs.Calls.Branches.{either_option}
-use Rattle.wl_link.specs.Exchange.{Queue, Sending, joined, nothing}
+use Rattle.wl_link.specs.Exchange.{Queue, joined, nothing}
 use Rattle.wl_link.proofs.Streams.LengthLaws.{front_fits}
 use Rattle.wl_link.specs.Link.{incoming_limit, with_transport}
 use Rattle.wl_link.proofs.Calls.QueueLaws.{joined_nothing}
 use Rattle.wl_link.proofs.Stretches.RanLaws.{ran}
 use Rattle.wl_link.specs.Reader.{Ends, Gives, Given, IsFed, Reads, Turn, came_by, ReaderState}
 use Rattle.wl_link.specs.Script.{Script, ScriptReceives, ScriptSends}
-use Rattle.wl_link.specs.Served.{Served, state_as}
-use Rattle.wl_link.specs.Stretch.{Act, AllPieces, Arrived, DoesAll, EndsByPipe, EndsWaiting as ActsEndWaiting, HasEnded, HasRead, IsStretch as IsActStretch, NotFull, arrivals_of, arrived as act_arrived, ended as act_ended, given_in, left_over, sending_side, with_arrival}
+use Rattle.wl_link.specs.Stretch.{Act, AllPieces, Arrived, DoesAll, EndsByPipe, EndsWaiting as ActsEndWaiting, HasEnded, HasRead, IsStretch as IsActStretch, NotFull, arrivals_of, arrived as act_arrived, ended as act_ended, given_in, with_arrival}
 use Rattle.wl_link.proofs.Stretches.StretchLaws.{acts_pieces, arrived-append, cut_otherwise as acts_cut_otherwise, does_joins, ended-append, ends_waiting-append, given_in-append, roomy_before, stretch_served as acts_served}
 use Rattle.wl_server.specs.declared.reading.action.Reading.{Reading}
 use Rattle.wl_server.specs.declared.error.ActionError.{ActionError}
-use Rattle.wl_server.specs.declared.error.ActionError.TheVariants.{Io}
+use Rattle.wl_server.specs.declared.error.ActionError.TheVariants.{ActionOpen, Io}
 use Rattle.wl_server.specs.declared.error.ScriptError.{ScriptError}
 use Rattle.wl_server.specs.declared.notes.DisconnectReason.{DisconnectReason}
 use Rattle.wl_server.specs.declared.runs.step.Reply.{Reply}
 use Rattle.wl_server.specs.declared.runs.step.Reply.TheVariants as reply
-use Rattle.wl_server.specs.declared.runs.step.Step.{Step}
 use Rattle.wl_server.specs.declared.runs.step.Step.TheVariants as step
 use Rattle.wl_server.proofs.OverRuns.Cut.AnswerLaws.{IsSound, ReadsSo, action_first, answers_both, beside_both, beside_sends, beside_turns, ends_so, first_of, on_of, reads_so, killed_later}
 use Rattle.wl_server.proofs.OverRuns.Cut.CuttingLaws.{of_part}
-use Rattle.wl_server.specs.Deeds.{Deed, Handed, Sent}
-use Rattle.wl_server.specs.Finish.{FinishesBind, FinishesRequest, finishing}
+use Rattle.wl_server.specs.Deeds.{Deed, Handed}
 use Rattle.wl_server.specs.Globals.{Offer}
 use Rattle.wl_server.specs.Ids.{ClientParts, GlobalParts}
 use Rattle.wl_server.proofs.OverRuns.Alone.IsolationLaw.{alone_run}
@@ -39,8 +35,9 @@ use Rattle.wl_server.specs.Moves.{ArrivesWith, nothing_taken}
 use Rattle.wl_server.specs.Part.{Part, with_link}
 use Rattle.wl_server.specs.PartStep.{Asked, Call, OfClient, PartCall, World, around, over_scripts}
 use Rattle.wl_server.proofs.OverRuns.Cut.ReaderLaws.{EndsAlike, bind_ends_alike, request_ends_alike}
-use Rattle.wl_server.specs.Reading.{Around, NextAction, ReadsNone, ReadsTo, action_content, answered as answered_so, exchanges_in, new_reading, reads_on, server}
+use Rattle.wl_server.specs.Reading.{Around, NextAction, action_content, answered as answered_so, exchanges_in, new_reading, reads_on, server}
 use Rattle.wl_server.proofs.OverRuns.Ids.ReplyLaws.{own_step}
+use Rattle.wl_server.proofs.Plain.Base.{split_bool}
 use Rattle.wl_server.specs.Runs.{Alone, Own, concerns, history, mine}
 use Rattle.wl_server.specs.Server.{Seen, ServerState, seen}
 use Rattle.wl_server.specs.Steps.{Entry}
@@ -79,345 +76,282 @@ module _ {G C : Type 0} (views : G → ClientParts → C → GlobalParts → Boo
   abbrev a : Around G C
   a = around w id offer
 
+  -- a client as a reader, its own run, and what it does as a reader
+  abbrev Client : Type 0 → Type 0
+  Client U = ReaderState Script (Core U C)
+
+  abbrev Run : Type 0 → Type 0
+  Run U = List (Own Script U G C)
+
+  abbrev ActList : Type 0 → Type 0
+  ActList U = List (Act (Told U) (Finish U))
+
   module _ {U : Type 0} where
     ends_by_pipe : EndsByPipe (server {U = U} a)
     ends_by_pipe = record { blocks = λ c. refl; over = λ c. (refl, λ u. refl) }
 
-    -- ---- what an entry does
+    -- ---- what a run is as acts
 
-    -- it is these acts, none or one; where it finds that the transport would block, that is the last of them
-    record Acts (s : ReaderState Script (Core U C)) (call : Call Script U G C) (did : List (Deed U)) (q : Part Script U C) : Type 0 where
-      mid : ReaderState Script (Core U C)
-      ends : q ≡ part_of mid
-      acts : List (Act (Told U) (Finish U))
-      does : DoesAll (server a) s acts mid
-      came_in : act_arrived acts ≡ arrived_by call
-      ended_with : act_ended acts ≡ finished_by call
-      deeds : end_deeds s.core.ended ++ beside_exchanges did ≡ deeds_in (given_in acts) ++ end_deeds mid.core.ended
-      sound : IsSound mid.core
-      answers : AllPieces (arrivals_of s) → NotFull (server a) mid → told_by (reading_by call) did ≡ answers_in (given_in acts)
-      waits : reading_by call ≡ Some (Err (Io fault.WouldBlock)) → (before : List (Act (Told U) (Finish U))) → ActsEndWaiting (before ++ acts)
+    -- each entry is one act or none; where the last one finds that the transport would block, so does the last act
+    record Acts (s : Client U) (run : Run U) (after : Seen Script U C) (end : Client U)
+        (acts : ActList U) : Type 0 where
+      there : after.part ≡ Some (part_of end)
+      does : DoesAll (server a) s acts end
+      came_in : act_arrived acts ≡ arrived run
+      ended_with : act_ended acts ≡ finished run
+      deeds : end_deeds s.core.ended ++ beside_exchanges (history run) ≡ deeds_in (given_in acts) ++ end_deeds end.core.ended
+      sound : IsSound end.core
+      answers : AllPieces (arrivals_of s) → NotFull (server a) end → handed_out run ≡ answers_in (given_in acts)
+      waits : EndsWaiting run → (before : ActList U) → ActsEndWaiting (before ++ acts)
 
-    module _ (s : ReaderState Script (Core U C)) (call : Call Script U G C) (did : List (Deed U)) (q : Part Script U C) where
-      -- nothing changed
-      acts_none : q ≡ part_of s → did ≡ [] → IsSound s.core → arrived_by call ≡ nothing → finished_by call ≡ [] → told_by {U = U} (reading_by call) [] ≡ []
-          → (reading_by call ≡ Some (Err (Io fault.WouldBlock)) → ⊥) → Acts s call did q
-      acts_none same none sound came ended told not = record {
-        mid = s;
-        ends = same;
-        acts = [];
-        does = refl;
-        came_in = sym came;
-        ended_with = sym ended;
-        deeds = ap (λ (d : List (Deed U)). end_deeds s.core.ended ++ beside_exchanges d) none ∙ append-nil (end_deeds s.core.ended);
-        sound = sound;
-        answers = λ all roomy. ap (told_by (reading_by call)) none ∙ told;
-        waits = λ is before. absurd (not is);
-      }
-
-      -- something arrived
-      acts_arrived : (r : Result Queue IoFault) → IsFed r → q ≡ part_of (with_arrival s r) → did ≡ [] → IsSound s.core → came_by r ≡ arrived_by call → finished_by call ≡ []
-          → reading_by call ≡ None → Acts s call did q
-      acts_arrived r fed same none sound came ended unread = record {
-        mid = with_arrival s r;
-        ends = same;
-        acts = Arrived r ∷ [];
-        does = (with_arrival s r, (fed, refl), refl);
-        came_in = joined_nothing (came_by r) ∙ came;
-        ended_with = sym ended;
-        deeds = ap (λ (d : List (Deed U)). end_deeds s.core.ended ++ beside_exchanges d) none ∙ append-nil (end_deeds s.core.ended);
-        sound = sound;
-        answers = λ all roomy. ap (λ (o : Option (Result Handed ActionError)). told_by o did) unread;
-        waits = λ is before. absurd (none-some _ (sym unread ∙ is));
-      }
-
-      -- a reading of a client that is read on
-      acts_read : (left : ℕ) (turns : List Turn) (out : Gives (Told U)) (end : ReaderState Script (Core U C)) (answer : Result Handed ActionError) → reads_on s.core ≡ true
-          → Reads ScriptSends (server a) ScriptReceives left s turns out end → out.refused ≡ false → answer ≡ answered_so out.stopped out.gave → reading_by call ≡ Some answer
-          → did ≡ deeds_of (exchanges_in turns) out.gave end.core → q ≡ part_of end → s.core.ended ≡ None → IsSound s.core → arrived_by call ≡ nothing → finished_by call ≡ []
-          → Acts s call did q
-      acts_read left turns out end answer on reads ample is told did_so same unended sound came ended =
-          let so = reads_so ScriptSends ScriptReceives a left s end turns out reads ample sound in
-          record {
-            mid = end;
-            ends = same;
-            acts = HasRead out ∷ [];
-            does = (end, (ample, (left, turns, reads)), refl);
-            came_in = joined_nothing nothing ∙ sym came;
-            ended_with = sym ended;
-            deeds = grind (arith, ap₂, end_deeds, beside_exchanges, beside_both, deeds_in, exchanges_in, beside_turns, append-nil);
-            sound = so.sound;
-            answers = λ all roomy.
-                ap₂ told_by told did_so
-                ∙ told_so s.core end.core out on so answer is (exchanges_in turns)
-                (fed_blocks ScriptSends ScriptReceives (server a) (λ c. refl) end left s turns out reads (ran (server a) end roomy left s turns out ample reads all).fed ample)
-                ∙ ap answers_in (sym (append-nil out.gave));
-            waits = λ w before. ends_waiting-append before (HasRead out) (blocks_so s.core end.core out on so answer is (same_Some answer (Err (Io fault.WouldBlock)) (sym told ∙ w)));
-          }
-
-      -- an accepted finish
-      acts_ended : (u : Finish U) (es : List Sending) (gave : List (Given (Told U))) (end : ReaderState Script (Core U C)) → Ends ScriptSends (server a) s u es gave false end
-          → did ≡ deeds_of (map Sent es) gave end.core → q ≡ part_of end → s.core.ended ≡ None → arrived_by call ≡ nothing → finished_by call ≡ u ∷ [] → reading_by call ≡ None
-          → Acts s call did q
-      acts_ended u es gave end by did_so same unended came ended unread =
-          let so = ends_so a ScriptSends s end u es gave unended by in
-          record {
-            mid = end;
-            ends = same;
-            acts = HasEnded u gave ∷ [];
-            does = (end, ((grind (arith, finishing, is_none, none-some, s.core, by.0, by.1)), (es, by)), refl);
-            came_in = joined_nothing nothing ∙ sym came;
-            ended_with = sym ended;
-            deeds = grind (arith, ap₂, end_deeds, beside_exchanges, beside_both, deeds_in, map, beside_sends, append-nil);
-            sound = so.sound;
-            answers = λ all roomy. ap (λ (o : Option (Result Handed ActionError)). told_by o did) unread ∙ sym so.none ∙ ap answers_in (sym (append-nil gave));
-            waits = λ is before. absurd (none-some _ (sym unread ∙ is));
-          }
+    abbrev AsActs : Client U → Run U → Seen Script U C → Type 0
+    AsActs s run after = (end : Client U) × (acts : ActList U) × Acts s run after end acts
 
     -- a client that has no end is the part that its core goes on from
-    begun_so : (s : ReaderState Script (Core U C)) → s.core.ended ≡ None → reader_part (part_of s) ≡ s
-    begun_so s none = ap (λ (o : Option DisconnectReason). let p : ReaderState Script (Core U C) = record { core = record s.core { ended = o }; link = s.link } in p) (sym none)
-
-    module _ (s : ReaderState Script (Core U C)) (call : Call Script U G C) (did : List (Deed U)) (q : Part Script U C) (sound : IsSound s.core) (came : arrived_by call ≡ nothing) where
-      read_acts : (r r' : Reading) (answer : Result Handed ActionError) → reading_by call ≡ Some answer → finished_by call ≡ []
-          → NextAction ScriptSends ScriptReceives a r (part_of s) answer r' false did q → Acts s call did q
-      read_acts r r' answer told ended h =
-          elim (either_option s.core.action h) [
-            | inr (action, is_open, (is, left, unasked, none, same)) ↦
-                acts_none s call did q same none sound came ended (ap (λ (o : Option (Result Handed ActionError)). told_by {U = U} o []) (told ∙ ap (λ (x : Result Handed ActionError). Some x) is))
-                (λ w. (none-some _ (ap fault_of (sym is ∙ same_Some answer (Err (Io fault.WouldBlock)) (sym told ∙ w)))))
-            | inl (unopened, g) ↦ by_standing sound unopened g
-          ]
-        where
-          dead_none : (b : Bool) → b ≡ true → MatchBool b (ReadsNone (Io fault.Pipe) r (part_of s) answer r' false did q) (ReadsTo ScriptSends ScriptReceives a r (part_of s) answer r' false did q)
-              → ReadsNone (Io fault.Pipe) r (part_of s) answer r' false did q
-          dead_none h1 is g = grind (arith, true≢false)
-
-          live_reads : (b : Bool) → b ≡ false → MatchBool b (ReadsNone (Io fault.Pipe) r (part_of s) answer r' false did q) (ReadsTo ScriptSends ScriptReceives a r (part_of s) answer r' false did q)
-              → ReadsTo ScriptSends ScriptReceives a r (part_of s) answer r' false did q
-          live_reads h1 is g = grind (arith, true≢false)
-
-          by_standing : IsSound s.core → s.core.action ≡ None
-              → MatchBool s.core.is_killed (ReadsNone (Io fault.Pipe) r (part_of s) answer r' false did q) (ReadsTo ScriptSends ScriptReceives a r (part_of s) answer r' false did q)
-              → Acts s call did q
-          by_standing (inr (dead, none, reason)) unopened g =
-              let (is, left, unasked, nothing', same) = dead_none s.core.is_killed dead g in
-              acts_none s call did q same nothing' sound came ended (ap (λ (o : Option (Result Handed ActionError)). told_by {U = U} o []) (told ∙ ap (λ (x : Result Handed ActionError). Some x) is))
-              (λ w. (grind (arith, sym is ∙ same_Some answer (Err (Io fault.WouldBlock)) (sym told ∙ w))))
-          by_standing (inl (live, unended)) unopened g =
-              let (turns, out, end, reads, is, left, lacks, did_so, same) = live_reads s.core.is_killed live g in
-              acts_read s call did q r.turns_left turns out end answer (on_of s.core live unopened)
-              (subst (λ (p : ReaderState Script (Core U C)). Reads ScriptSends (server a) ScriptReceives r.turns_left p turns out end) (begun_so s unended) reads)
-              (sym lacks) is told did_so same unended sound came ended
-
-      end_acts : (u : Finish U) → finished_by call ≡ u ∷ [] → reading_by call ≡ None → s.core.ended ≡ None → EndsAlike ScriptSends a (part_of s) u false did q → Acts s call did q
-      end_acts u ended unread unended (es, gave, end, by, did_so, same) =
-          acts_ended s call did q u es gave end
-          (subst (λ (p : ReaderState Script (Core U C)). Ends ScriptSends (server a) p u es gave false end) (begun_so s unended) by)
-          did_so same unended came ended unread
-
-      -- a finish that is refused
-      refused_acts : (did ≡ []) × (q ≡ part_of s) → finished_by call ≡ [] → reading_by call ≡ None → Acts s call did q
-      refused_acts (none, same) ended unread =
-          acts_none s call did q same none sound came ended (ap (λ (o : Option (Result Handed ActionError)). told_by {U = U} o []) unread) (λ w. none-some _ (sym unread ∙ w))
-
-      request_acts : (u : Option U) → finished_by call ≡ OfRequest u ∷ [] → reading_by call ≡ None → FinishesRequest ScriptSends id (part_of s) u (Ok tt) false did q → Acts s call did q
-      request_acts u ended unread h = by_standing sound
-        where
-          by_standing : IsSound s.core → Acts s call did q
-          by_standing (inr (dead, none, reason)) = absurd (grind (arith, true≢false, is_ok, none-some, part_of s))
-          by_standing (inl (live, unended)) = end_acts (OfRequest u) ended unread unended (request_ends_alike ScriptSends a (part_of s) u false did q live h)
-
-      bind_acts : (u : U) → finished_by call ≡ OfBind u ∷ [] → reading_by call ≡ None → FinishesBind (part_of s) u (Ok tt) false did q → Acts s call did q
-      bind_acts u ended unread h = by_standing sound
-        where
-          by_standing : IsSound s.core → Acts s call did q
-          by_standing (inr (dead, none, reason)) = absurd (grind (arith, true≢false, is_ok, none-some, part_of s))
-          by_standing (inl (live, unended)) = end_acts (OfBind u) ended unread unended (bind_ends_alike ScriptSends a (part_of s) u false did q live h)
+    begun_so : (s : Client U) → s.core.ended ≡ None → reader_part (part_of s) ≡ s
+    begun_so s none = ap (λ (o : Option DisconnectReason). let p : Client U = record { core = record s.core { ended = o }; link = s.link } in p)
+        (sym none)
 
     -- ---- an entry
 
-    abbrev asked : Step Script U G C → Reply Script U → Call Script U G C
-    asked s answer = Asked s answer
+    module _ (s : Client U) (x : Own Script U G C) (after : Seen Script U C) (q : Part Script U C) (there : after.part ≡ Some q)
+        (sound : IsSound s.core) where
+      -- nothing changed
+      acts_none : q ≡ part_of s → x.did ≡ [] → arrived_by x.call ≡ nothing → finished_by x.call ≡ [] → (r : Option (Result Handed ActionError))
+          → reading_by x.call ≡ r
+          → told_by {U = U} r [] ≡ [] → (r ≡ Some (Err (Io fault.WouldBlock)) → ⊥) → AsActs s (x ∷ []) after
+      acts_none same none came ended r is told not = (s, [], (grind (arith, append-nil)))
+
+      -- something arrived
+      acts_arrived : (r : Result Queue IoFault) → IsFed r → q ≡ part_of (with_arrival s r) → x.did ≡ [] → came_by r ≡ arrived_by x.call
+          → finished_by x.call ≡ []
+          → reading_by x.call ≡ None → AsActs s (x ∷ []) after
+      acts_arrived r fed same none came ended unread =
+          let does : DoesAll (server a) s (Arrived r ∷ []) (with_arrival s r) = (with_arrival s r, (fed, refl), refl) in
+          (with_arrival s r, Arrived r ∷ [], (grind (arith, does, append-nil, none-some)))
+
+      -- a reading of a client that is read on
+      acts_read : (left : ℕ) (turns : List Turn) (out : Gives (Told U)) (end : Client U) (answer : Result Handed ActionError) → reads_on s.core ≡ true
+          → Reads ScriptSends (server a) ScriptReceives left s turns out end → out.refused ≡ false → answer ≡ answered_so out.stopped out.gave
+          → reading_by x.call ≡ Some answer
+          → x.did ≡ deeds_of (exchanges_in turns) out.gave end.core → q ≡ part_of end → s.core.ended ≡ None → arrived_by x.call ≡ nothing
+          → finished_by x.call ≡ []
+          → AsActs s (x ∷ []) after
+      acts_read left turns out end answer on reads ample is told did_so same unended came ended =
+          let so = reads_so ScriptSends ScriptReceives a left s end turns out reads ample sound in (
+            end,
+            HasRead out ∷ [],
+            record {
+              there = there ∙ ap Some same;
+              does = (end, (ample, (left, turns, reads)), refl);
+              came_in = ap (λ (q : Queue). joined q nothing) (sym came);
+              ended_with = ap (λ (us : List (Finish U)). us ++ []) (sym ended);
+              deeds = grind (arith, end_deeds, beside_exchanges, beside_both, deeds_in, exchanges_in, beside_turns, append-nil, so.quiet);
+              sound = so.sound;
+              answers = λ all roomy.
+                  ap₂ (λ (o : Option (Result Handed ActionError)) (d : List (Deed U)). told_by o d ++ []) told did_so ∙ append-nil
+                  (told_by (Some answer) _)
+                  ∙ told_so s.core end.core out on so answer is (exchanges_in turns)
+                  (fed_blocks ScriptSends ScriptReceives (server a) (λ c. refl) end left s turns out reads
+                  (ran (server a) end roomy left s turns out ample reads all).fed ample)
+                  ∙ ap answers_in (sym (append-nil out.gave));
+              waits = λ w before. ends_waiting-append before (HasRead out)
+                  (blocks_so s.core end.core out on so answer is (same_Some answer (Err (Io fault.WouldBlock)) (sym told ∙ w)));
+            },
+          )
+
+      -- an accepted finish, of a client with an open action
+      acts_ended : (u : Finish U) → (s.core.action ≡ None → ⊥) → (s.core.is_killed ≡ false → EndsAlike ScriptSends a (part_of s) u false x.did q)
+          → arrived_by x.call ≡ nothing → finished_by x.call ≡ u ∷ [] → reading_by x.call ≡ None → AsActs s (x ∷ []) after
+      acts_ended u opened by_ends came ended unread =
+          let standing : (s.core.is_killed ≡ false) × (s.core.ended ≡ None) = grind (arith, sound, opened) in
+          let (es, gave, end, by, did_so, same) = by_ends standing.0 in
+          let ends = subst (λ (p : Client U). Ends ScriptSends (server a) p u es gave false end) (begun_so s standing.1) by in
+          let so = ends_so a ScriptSends s end u es gave standing.1 ends in (
+            end,
+            HasEnded u gave ∷ [],
+            record {
+              there = there ∙ ap Some same;
+              does = (end, ((grind (arith, is_none, opened, reads_on, s.core.action)), (es, ends)), refl);
+              came_in = ap (λ (q : Queue). joined q nothing) (sym came);
+              ended_with = ap (λ (us : List (Finish U)). us ++ []) (sym ended);
+              deeds = grind (arith, end_deeds, beside_exchanges, beside_both, deeds_in, map, beside_sends, append-nil, so.quiet);
+              sound = so.sound;
+              answers = λ all roomy. grind (arith, unread, so.none, append-nil);
+              waits = λ is before. absurd (none-some _ (sym unread ∙ is));
+            },
+          )
+
+      acts_next : (r r' : Reading) (answer : Result Handed ActionError) → reading_by x.call ≡ Some answer → arrived_by x.call ≡ nothing
+          → finished_by x.call ≡ []
+          → NextAction ScriptSends ScriptReceives a r (part_of s) answer r' false x.did q → AsActs s (x ∷ []) after
+      acts_next r r' answer told came ended h =
+          elim (either_option s.core.action h) [
+            | inr (action, is_open, (is, left, unasked, none, same)) ↦ acts_none same none came ended (Some (Err ActionOpen))
+                (told ∙ ap Some is) refl (λ w. cc)
+            | inl (unopened, g) ↦
+                elim (split_bool s.core.is_killed g) [
+                  | inl (dead, (is, left, unasked, none, same)) ↦
+                      acts_none same none came ended (Some (Err (Io fault.Pipe))) (told ∙ ap Some is) refl (λ w. cc)
+                  | inr (live, (turns, out, end, reads, is, left, lacks, did_so, same)) ↦
+                      acts_read r.turns_left turns out end answer (on_of s.core live unopened)
+                      (subst (λ (p : Client U). Reads ScriptSends (server a) ScriptReceives r.turns_left p turns out end)
+                      (begun_so s (unended live)) reads)
+                      (sym lacks) is told did_so same (unended live) came ended
+                ]
+          ]
+        where
+          unended : s.core.is_killed ≡ false → s.core.ended ≡ None
+          unended live = grind (arith, sound, true≢false)
 
     abbrev arrive_answer : Reply Script U → Result (Unit {0}) ScriptError
     arrive_answer (reply.Arrive r) = r
     arrive_answer _ = Ok tt
 
-    abbrev Stepped : ReaderState Script (Core U C) → Call Script U G C → List (Deed U) → Seen Script U C → Type 0
-    Stepped s call did after = (q : Part Script U C) × (after.part ≡ Some q) × Acts s call did q
-
-    -- the part makes a step, and so does the client as a reader
-    stepped : (s : ReaderState Script (Core U C)) (before after : Seen Script U C) (call : Call Script U G C) (did : List (Deed U)) (b : Bool)
-        (R : Part Script U C → Part Script U C → Type 0) (missing : Type 0) → b ≡ true → before.part ≡ Some (part_of s) → OfClient b before R missing false did after
-        → ((q : Part Script U C) → R (part_of s) q → Acts s call did q) → Stepped s call did after
-    stepped s before after call did b R missing about there h acts =
+    -- what a step that is about the client does to its part
+    mine_is : (s : Client U) (before after : Seen Script U C) (did : List (Deed U)) (b : Bool) (R : Part Script U C → Part Script U C
+        → Type 0) (missing : Type 0)
+        → b ≡ true → before.part ≡ Some (part_of s) → OfClient b before R missing false did after → (q : Part Script U C) × R (part_of s) q
+        × (after.part ≡ Some q)
+    mine_is s before after did b R missing about there h =
         let (q, by, same) = of_part w id offer before after R missing false did (part_of s) there (own_step b before R missing false did after about h) in
-        (q, ap (λ (x : Seen Script U C). x.part) same, acts q by)
+        (q, by, ap (λ (x : Seen Script U C). x.part) same)
 
-    step_acts : (s : ReaderState Script (Core U C)) (before after : Seen Script U C) (call : Call Script U G C) (did : List (Deed U)) → before.part ≡ Some (part_of s)
-        → concerns id call ≡ true → IsHeard call → PartCall w id offer call before false did after → IsSound s.core → Stepped s call did after
-    step_acts s before after (Asked (step.Arrive target bytes tokens) answer) did there about (some, taken) (r, is, h) sound =
-        stepped s before after (Asked (step.Arrive target bytes tokens) answer) did _ _ _ about there h
-        (λ q (unasked, none, (t, moved, to)).
+    step_acts : (s : Client U) (before after : Seen Script U C) (call : Call Script U G C) (lacked : Bool) (did : List (Deed U))
+        → before.part ≡ Some (part_of s)
+        → concerns id call ≡ true → IsHeard call → PartCall w id offer call before false did after → IsSound s.core
+        → AsActs s (record { call = call; lacked = lacked; did = did } ∷ []) after
+    step_acts s before after (Asked (step.Arrive target bytes tokens) answer) lacked did there about (some, taken) (r, is, h) sound =
+        let (q, (unasked, none, (t, moved, to)), at) = mine_is s before after did _ _ _ about there h in
         let chunk : Queue = record { bytes = bytes.items; tokens = tokens.items } in
         let arrives = subst (λ (x : Result (Unit {0}) ScriptError). ArrivesWith s.link.transport chunk (nothing_taken x) t) (ap arrive_answer (sym is ∙ taken)) moved in
-        acts_arrived s (Asked (step.Arrive target bytes tokens) answer) did q (Ok chunk) some (to ∙ ap (λ (x : Script). with_link (part_of s)
-        (with_transport s.link x)) arrives.2) none sound refl refl refl)
-    step_acts s before after (Asked (step.ArriveFault target f) answer) did there about blocked (r, is, h) sound =
-        stepped s before after (Asked (step.ArriveFault target f) answer) did _ _ _ about there h
-        (λ q (unasked, none, (t, moved, to)).
-        acts_arrived s (Asked (step.ArriveFault target f) answer) did q (Err f) blocked (to ∙ ap (λ (x : Script). with_link (part_of s)
-        (with_transport s.link x)) (grind (arith, true≢false))) none sound refl refl refl)
-    step_acts s before after (Asked (step.NextAction target) answer) did there about heard (r, left, is, h) sound =
-        stepped s before after (Asked (step.NextAction target) answer) did _ _ _ about there h
-        (λ q next. read_acts s (Asked (step.NextAction target) answer) did q sound refl new_reading left (action_content r)
-        (ap (λ (x : Reply Script U). reading_by (asked (step.NextAction target) x)) is) refl next)
-    step_acts s before after (Asked (step.NextActionWithin target reading) answer) did there about heard (r, left, is, h) sound =
-        stepped s before after (Asked (step.NextActionWithin target reading) answer) did _ _ _ about there h
-        (λ q next. read_acts s (Asked (step.NextActionWithin target reading) answer) did q sound refl reading left (action_content r)
-        (ap (λ (x : Reply Script U). reading_by (asked (step.NextActionWithin target reading) x)) is) refl next)
-    step_acts s before after (Asked (step.FinishRequest target u) answer) did there about heard (Ok tt, is, h) sound =
-        stepped s before after (Asked (step.FinishRequest target u) answer) did _ _ _ about there h
-        (λ q next. request_acts s (Asked (step.FinishRequest target u) answer) did q sound refl u
-        (ap (λ (x : Reply Script U). finished_by (asked (step.FinishRequest target u) x)) is) refl next)
-    step_acts s before after (Asked (step.FinishRequest target u) answer) did there about heard (Err e, is, h) sound =
-        stepped s before after (Asked (step.FinishRequest target u) answer) did _ _ _ about there h
-        (λ q next. refused_acts s (Asked (step.FinishRequest target u) answer) did q sound refl (grind (arith, true≢false, is_ok, part_of s))
-        (ap (λ (x : Reply Script U). finished_by (asked (step.FinishRequest target u) x)) is) refl)
-    step_acts s before after (Asked (step.FinishBind target u) answer) did there about heard (Ok tt, is, h) sound =
-        stepped s before after (Asked (step.FinishBind target u) answer) did _ _ _ about there h
-        (λ q next. bind_acts s (Asked (step.FinishBind target u) answer) did q sound refl u
-        (ap (λ (x : Reply Script U). finished_by (asked (step.FinishBind target u) x)) is) refl next)
-    step_acts s before after (Asked (step.FinishBind target u) answer) did there about heard (Err e, is, h) sound =
-        stepped s before after (Asked (step.FinishBind target u) answer) did _ _ _ about there h
-        (λ q next. refused_acts s (Asked (step.FinishBind target u) answer) did q sound refl (grind (arith, true≢false, is_ok, part_of s))
-        (ap (λ (x : Reply Script U). finished_by (asked (step.FinishBind target u) x)) is) refl)
-    step_acts s before after _ did there about heard h sound = absurd heard
+        acts_arrived s _ after q at sound (Ok chunk) some
+        (to ∙ ap (λ (x : Script). with_link (part_of s) (with_transport s.link x)) arrives.2) none refl refl refl
+    step_acts s before after (Asked (step.ArriveFault target f) answer) lacked did there about blocked (r, is, h) sound =
+        let (q, (unasked, none, (t, moved, to)), at) = mine_is s before after did _ _ _ about there h in
+        acts_arrived s _ after q at sound (Err f) blocked
+        (to ∙ ap (λ (x : Script). with_link (part_of s) (with_transport s.link x)) (grind (arith, true≢false))) none refl refl refl
+    step_acts s before after (Asked (step.NextAction target) answer) lacked did there about heard (r, left, is, h) sound =
+        let (q, next, at) = mine_is s before after did _ _ _ about there h in
+        acts_next s _ after q at sound new_reading left (action_content r) (cc) refl refl next
+    step_acts s before after (Asked (step.NextActionWithin target reading) answer) lacked did there about heard (r, left, is, h) sound =
+        let (q, next, at) = mine_is s before after did _ _ _ about there h in
+        acts_next s _ after q at sound reading left (action_content r) (cc) refl refl next
+    step_acts s before after (Asked (step.FinishRequest target u) answer) lacked did there about heard (Ok tt, is, h) sound =
+        let (q, next, at) = mine_is s before after did _ _ _ about there h in
+        acts_ended s _ after q at sound (OfRequest u) (λ none. (grind (arith, true≢false, is_ok, none)))
+        (λ live. request_ends_alike ScriptSends a (part_of s) u false did q live next) refl (cc) (cc)
+    step_acts s before after (Asked (step.FinishRequest target u) answer) lacked did there about heard (Err e, is, h) sound =
+        let (q, next, at) = mine_is s before after did _ _ _ about there h in
+        let same : (did ≡ []) × (q ≡ part_of s) = grind (arith, true≢false, is_ok, part_of s) in
+        acts_none s _ after q at sound same.1 same.0 refl (cc) None (cc) refl (λ w. cc)
+    step_acts s before after (Asked (step.FinishBind target u) answer) lacked did there about heard (Ok tt, is, h) sound =
+        let (q, next, at) = mine_is s before after did _ _ _ about there h in
+        acts_ended s _ after q at sound (OfBind u) (λ none. (grind (arith, true≢false, is_ok, none)))
+        (λ live. bind_ends_alike ScriptSends a (part_of s) u false did q live next) refl (cc) (cc)
+    step_acts s before after (Asked (step.FinishBind target u) answer) lacked did there about heard (Err e, is, h) sound =
+        let (q, next, at) = mine_is s before after did _ _ _ about there h in
+        let same : (did ≡ []) × (q ≡ part_of s) = grind (arith, true≢false, is_ok, part_of s) in
+        acts_none s _ after q at sound same.1 same.0 refl (cc) None (cc) refl (λ w. cc)
+    step_acts s before after _ lacked did there about heard h sound = absurd heard
 
     -- ---- a run
 
-    record RunActs (s : ReaderState Script (Core U C)) (run : List (Own Script U G C)) (after : Seen Script U C) : Type 0 where
-      end : ReaderState Script (Core U C)
-      there : after.part ≡ Some (part_of end)
-      acts : List (Act (Told U) (Finish U))
-      does : DoesAll (server a) s acts end
-      came_in : act_arrived acts ≡ arrived run
-      ended_with : act_ended acts ≡ finished run
-      deeds : end_deeds s.core.ended ++ beside_exchanges (history run) ≡ deeds_in (given_in acts) ++ end_deeds end.core.ended
-      answers : AllPieces (arrivals_of s) → NotFull (server a) end → handed_out run ≡ answers_in (given_in acts)
-      waits : EndsWaiting run → (before : List (Act (Told U) (Finish U))) → ActsEndWaiting (before ++ acts)
-
-    run_joins : (s : ReaderState Script (Core U C)) (q : Part Script U C) (after : Seen Script U C) (x : Own Script U G C) (run : List (Own Script U G C))
-        (first : Acts s x.call x.did q) (others : RunActs first.mid run after)
-        → (EndsWaiting (x ∷ run) → (before : List (Act (Told U) (Finish U))) → ActsEndWaiting (before ++ (first.acts ++ others.acts))) → RunActs s (x ∷ run) after
-    run_joins s q after x run first others waits = record {
-      end = others.end;
-      there = others.there;
-      acts = first.acts ++ others.acts;
-      does = does_joins (server a) s first.mid others.end first.acts others.acts first.does others.does;
-      came_in = arrived-append first.acts others.acts ∙ ap₂ joined first.came_in others.came_in;
-      ended_with = ended-append first.acts others.acts ∙ ap₂ (λ (x y : List (Finish U)). x ++ y) first.ended_with others.ended_with;
-      deeds = grind (arith, beside_both, append_assoc, beside_exchanges, deeds_in, deeds_append, end_deeds, history, given_in, given_in-append);
-      answers = grind (arith, roomy_before, server, a, ends_by_pipe, ap₂, acts_pieces, answers_in, given_in-append, answers_both, given_in);
-      waits = waits;
+    run_joins : (s m end : Client U) (mid after : Seen Script U C) (x y : Own Script U G C) (run : Run U) (acts others : ActList U)
+        → Acts s (x ∷ []) mid m acts → Acts m (y ∷ run) after end others → Acts s (x ∷ y ∷ run) after end (acts ++ others)
+    run_joins s m end mid after x y run acts others first rest = record {
+      there = rest.there;
+      does = does_joins (server a) s m end acts others first.does rest.does;
+      came_in = grind (arith, arrived-append acts others, first.came_in, rest.came_in, joined_nothing);
+      ended_with = grind (arith, ended-append acts others, first.ended_with, rest.ended_with, append-nil);
+      deeds = grind (arith, beside_both, append_assoc, beside_exchanges, deeds_in, deeds_append, end_deeds, history, given_in, given_in-append, append-nil);
+      sound = rest.sound;
+      answers = grind (arith, roomy_before, server, a, ends_by_pipe, acts_pieces, answers_in, given_in-append, answers_both, given_in, append-nil);
+      waits = λ e before. subst ActsEndWaiting (append_assoc before acts others) (rest.waits e (before ++ acts));
     }
 
-    abbrev ends_here : (s : ReaderState Script (Core U C)) (after : Seen Script U C) → after.part ≡ Some (part_of s) → RunActs s [] after
-    ends_here s after there = record {
-      end = s;
-      there = there;
-      acts = [];
-      does = refl;
-      came_in = refl;
-      ended_with = refl;
-      deeds = append-nil (end_deeds s.core.ended);
-      answers = λ all roomy. refl;
-      waits = λ none. absurd none;
-    }
-
-    run_acts : (s : ReaderState Script (Core U C)) (before after : Seen Script U C) (run : List (Own Script U G C)) → before.part ≡ Some (part_of s)
-        → Alone w id offer before run after → AllHeard id run → IsSound s.core → RunActs s run after
-    run_acts s before after [] there same heard sound = ends_here s after (ap (λ (x : Seen Script U C). x.part) same ∙ there)
+    run_acts : (s : Client U) (before after : Seen Script U C) (run : Run U) → before.part ≡ Some (part_of s)
+        → Alone w id offer before run after → AllHeard id run → IsSound s.core → AsActs s run after
+    run_acts s before after [] there same heard sound = (s, [], (grind (arith, append-nil)))
     run_acts s before after (x ∷ []) there (mid, by, same) (about, unlacked, heard, others) sound =
-        let (q, is, first) = step_acts s before mid x.call x.did there about heard (subst (λ (b : Bool). PartCall w id offer x.call before b x.did mid) unlacked by) sound in
-        run_joins s q after x [] first (ends_here first.mid after (ap (λ (x : Seen Script U C). x.part) same ∙ is ∙ ap (λ (p : Part Script U C). Some p) first.ends))
-        (λ e before'. subst (λ (list : List (Act (Told U) (Finish U))). ActsEndWaiting (before' ++ list)) (sym (append-nil first.acts)) (first.waits e before'))
+        subst (AsActs s (x ∷ [])) (sym same) (step_acts s before mid x.call x.lacked x.did there about heard (rw unlacked at by) sound)
     run_acts s before after (x ∷ (y ∷ run)) there (mid, by, leads) (about, unlacked, heard, others) sound =
-        let (q, is, first) = step_acts s before mid x.call x.did there about heard (subst (λ (b : Bool). PartCall w id offer x.call before b x.did mid) unlacked by) sound in
+        let (m, acts, first) = step_acts s before mid x.call x.lacked x.did there about heard (rw unlacked at by) sound in
         let on = subst (λ (o : Offer G). Alone w id o mid (y ∷ run) after) (grind (arith, x.call)) leads in
-        let rest = run_acts first.mid mid after (y ∷ run) (is ∙ ap (λ (p : Part Script U C). Some p) first.ends) on others first.sound in
-        run_joins s q after x (y ∷ run) first rest
-        (λ e before'. subst ActsEndWaiting (append_assoc before' first.acts rest.acts) (rest.waits e (before' ++ first.acts)))
+        let (end, more, rest) = run_acts m mid after (y ∷ run) first.there on others first.sound in
+        (end, acts ++ more, run_joins s m end mid after x y run acts more first rest)
 
     -- ---- the law
 
-    not_full : (p : Part Script U C) (run : List (Own Script U G C)) (end : ReaderState Script (Core U C)) → IsStretch a p run (part_of end) → NotFull (server a) end
+    not_full : (p : Part Script U C) (run : Run U) (end : Client U) → IsStretch a p run (part_of end) → NotFull (server a) end
     not_full p run end stretch core (is, lacks) = grind (arith, server, core_of, part_of)
 
-    act_stretch : (p : Part Script U C) (run : List (Own Script U G C)) (after : Seen Script U C) (r : RunActs (reader_part p) run after) → IsStretch a p run (part_of r.end)
-        → IsActStretch (server a) (reader_part p) r.acts r.end
-    act_stretch p run after r stretch = record {
-      spans = record { does = r.does; pieces = stretch.spans.pieces; ends = ends stretch.spans.ends };
-      roomy = not_full p run r.end stretch;
-    }
-      where
-        ends : (reads_on r.end.core ≡ false) ⊎ (EndsWaiting run × (arrivals_of r.end ≡ []))
-            → (reads_on r.end.core ≡ false) ⊎ (ActsEndWaiting r.acts × (arrivals_of r.end ≡ []))
-        ends (inl off) = inl off
-        ends (inr (waiting, none)) = inr (r.waits waiting [], none)
+    module _ (p : Part Script U C) (run : Run U) (after : Seen Script U C) (end : Client U) (acts : ActList U)
+        (r : Acts (reader_part p) run after end acts) (stretch : IsStretch a p run (part_of end)) where
+      act_stretch : IsActStretch (server a) (reader_part p) acts end
+      act_stretch = record { spans = record { does = r.does; pieces = stretch.spans.pieces; ends = ends stretch.spans.ends }; roomy = not_full p run end stretch }
+        where
+          ends : (reads_on end.core ≡ false) ⊎ (EndsWaiting run × (arrivals_of end ≡ []))
+              → (reads_on end.core ≡ false) ⊎ (ActsEndWaiting acts × (arrivals_of end ≡ []))
+          ends (inl off) = inl off
+          ends (inr (waiting, none)) = inr (r.waits waiting [], none)
 
-    module _ (before after : Seen Script U C) (p : Part Script U C) (begins : before.part ≡ Some p) where
-      acts_of : (run : List (Own Script U G C)) (last : Seen Script U C) → Alone w id offer before run last → AllHeard id run → p.is_killed ≡ false → RunActs (reader_part p) run last
-      acts_of run last leads heard live = run_acts (reader_part p) before last run begins leads heard (inl (live, refl))
-
-      served_at : (run : List (Own Script U G C)) (r : RunActs (reader_part p) run after) → IsStretch a p run (part_of r.end) → StretchIsServed a p run (part_of r.end)
-      served_at run r stretch =
-          let served = acts_served (server a) ends_by_pipe (reader_part p) r.end r.acts (act_stretch p run after r stretch) in
-          let side = sending_side p.link.transport in
-          let end = state_as r.end (left_over (arrivals_of r.end)) (sending_side r.end.link.transport) in
-          let bytes = subst (λ (q : Queue). Served ScriptSends (server a) (reader_part p) (joined (left_in p) q) side (act_ended r.acts) (given_in r.acts) end) r.came_in served in
+      served_at : StretchIsServed a p run (part_of end)
+      served_at =
+          let served = acts_served (server a) ends_by_pipe (reader_part p) end acts act_stretch in
           record {
-            gave = given_in r.acts;
-            end = r.end;
-            served = subst (λ (us : List (Finish U)). Served ScriptSends (server a) (reader_part p) (joined (left_in p) (arrived run)) side us (given_in r.acts) end) r.ended_with bytes;
+            gave = given_in acts;
+            end = end;
+            served = rw (r.came_in, r.ended_with) at served;
             leads = refl;
             deeds = r.deeds;
-            answers = r.answers stretch.spans.pieces (not_full p run r.end stretch);
+            answers = r.answers stretch.spans.pieces (not_full p run end stretch);
           }
 
-      pub stretch_served : (q : Part Script U C) (run : List (Own Script U G C)) → after.part ≡ Some q → Alone w id offer before run after → IsStretch a p run q → StretchIsServed a p run q
-      stretch_served q run ends leads stretch = grind (arith, acts_of, same_Some, part_of, served_at)
+    module _ (before after : Seen Script U C) (p : Part Script U C) (begins : before.part ≡ Some p) where
+      acts_of : (run : Run U) (last : Seen Script U C) → Alone w id offer before run last → AllHeard id run → p.is_killed ≡ false
+          → AsActs (reader_part p) run last
+      acts_of run last leads heard live = run_acts (reader_part p) before last run begins leads heard (inl (live, refl))
 
-      pub within_stretch : (q : Part Script U C) (run : List (Own Script U G C)) → after.part ≡ Some q → Alone w id offer before run after → IsStretchWithin a p run q → IsStretch a p run q
+      pub stretch_served : (q : Part Script U C) (run : Run U) → after.part ≡ Some q → Alone w id offer before run after → IsStretch a p run q
+          → StretchIsServed a p run q
+      stretch_served q run ends leads stretch =
+          let (end, acts, r) = acts_of run after leads stretch.spans.heard stretch.spans.live in
+          let is = same_Some (part_of end) q (sym r.there ∙ ends) in
+          subst (StretchIsServed a p run) is (served_at p run after end acts r (subst (IsStretch a p run) (sym is) stretch))
+
+      pub within_stretch : (q : Part Script U C) (run : Run U) → after.part ≡ Some q → Alone w id offer before run after → IsStretchWithin a p run q
+          → IsStretch a p run q
       within_stretch q run ends leads stretch = grind (arith, acts_of, same_Some, part_of, a, incoming_limit, joined, left_in, front_fits, server, reader_part)
 
       -- so two runs over which the same arrives and is finished give the same, and lead to the same, however it was cut
-      abbrev SameCut : List (Own Script U G C) → List (Own Script U G C) → Part Script U C → Part Script U C → Type 0
+      abbrev SameCut : Run U → Run U → Part Script U C → Part Script U C → Type 0
       SameCut run others q r = (beside_exchanges (history run) ≡ beside_exchanges (history others)) × (handed_out run ≡ handed_out others) × SameLeft q r
 
-      same_at : (other : Seen Script U C) (run others : List (Own Script U G C)) (x : RunActs (reader_part p) run after) (y : RunActs (reader_part p) others other)
-          → IsStretch a p run (part_of x.end) → IsStretch a p others (part_of y.end) → arrived run ≡ arrived others → finished run ≡ finished others
-          → SameCut run others (part_of x.end) (part_of y.end)
-      same_at other run others x y stretch stretch' came ended =
-          let same = acts_cut_otherwise (server a) ends_by_pipe (reader_part p) x.end y.end x.acts y.acts (act_stretch p run after x stretch) (act_stretch p others other y stretch')
-          (x.came_in ∙ came ∙ sym y.came_in) (x.ended_with ∙ ended ∙ sym y.ended_with) in
-          let end : x.end.core.ended ≡ y.end.core.ended = ap (λ (z : ReaderState Script (Core U C)). z.core.ended) same.1 in (
-            x.deeds ∙ ap₂ (λ (g : List (Given (Told U))) (o : Option DisconnectReason). deeds_in g ++ end_deeds o) same.0 end ∙ sym y.deeds,
-            x.answers stretch.spans.pieces (not_full p run x.end stretch) ∙ ap answers_in same.0 ∙ sym (y.answers stretch'.spans.pieces (not_full p others y.end stretch')),
-            ap (λ (z : ReaderState Script (Core U C)). let f : ReaderState Script (Core U C) = record { core = record z.core { ended = None }; link = z.link } in f) same.1,
+      same_at : (other : Seen Script U C) (run others : Run U) (end end' : Client U) (acts acts' : ActList U)
+          → Acts (reader_part p) run after end acts → Acts (reader_part p) others other end' acts' → IsStretch a p run (part_of end)
+          → IsStretch a p others (part_of end')
+          → arrived run ≡ arrived others → finished run ≡ finished others → SameCut run others (part_of end) (part_of end')
+      same_at other run others end end' acts acts' x y stretch stretch' came ended =
+          let same = acts_cut_otherwise (server a) ends_by_pipe (reader_part p) end end' acts acts' (act_stretch p run after end acts x stretch)
+          (act_stretch p others other end' acts' y stretch') (x.came_in ∙ came ∙ sym y.came_in) (x.ended_with ∙ ended ∙ sym y.ended_with) in
+          let over : end.core.ended ≡ end'.core.ended = ap (λ (z : Client U). z.core.ended) same.1 in (
+            x.deeds ∙ ap₂ (λ (g : List (Given (Told U))) (o : Option DisconnectReason). deeds_in g ++ end_deeds o) same.0 over ∙ sym y.deeds,
+            x.answers stretch.spans.pieces (not_full p run end stretch) ∙ ap answers_in same.0 ∙ sym
+                (y.answers stretch'.spans.pieces (not_full p others end' stretch')),
+            ap (λ (z : Client U). let f : Client U = record { core = record z.core { ended = None }; link = z.link } in f) same.1,
           )
 
-      pub cut_otherwise : (other : Seen Script U C) (q r : Part Script U C) (run others : List (Own Script U G C)) → after.part ≡ Some q → other.part ≡ Some r
+      pub cut_otherwise : (other : Seen Script U C) (q r : Part Script U C) (run others : Run U) → after.part ≡ Some q → other.part ≡ Some r
           → Alone w id offer before run after → Alone w id offer before others other → IsStretch a p run q → IsStretch a p others r
           → arrived run ≡ arrived others → finished run ≡ finished others → SameCut run others q r
       cut_otherwise other q r run others ends ends' leads leads' stretch stretch' came ended =
-          let x = acts_of run after leads stretch.spans.heard stretch.spans.live in
-          let y = acts_of others other leads' stretch'.spans.heard stretch'.spans.live in
-          let is = same_Some q (part_of x.end) (sym ends ∙ x.there) in
-          let is' = same_Some r (part_of y.end) (sym ends' ∙ y.there) in
-          subst (λ (z : Part Script U C). SameCut run others z r) (sym is) (subst (λ (z : Part Script U C). SameCut run others (part_of x.end) z) (sym is')
-          (same_at other run others x y (subst (IsStretch a p run) is stretch) (subst (IsStretch a p others) is' stretch') came ended))
+          let (end, acts, x) = acts_of run after leads stretch.spans.heard stretch.spans.live in
+          let (end', acts', y) = acts_of others other leads' stretch'.spans.heard stretch'.spans.live in
+          let is = same_Some q (part_of end) (sym ends ∙ x.there) in
+          let is' = same_Some r (part_of end') (sym ends' ∙ y.there) in
+          rw (is, is') (same_at other run others end end' acts acts' x y (subst (IsStretch a p run) is stretch)
+          (subst (IsStretch a p others) is' stretch') came ended)
 
 -- ---- runs of a server
 

@@ -1,24 +1,22 @@
 -- That each call is a chain of base moves, of whatever client.
-use Rattle.std.proofs.Common.{◌≡◌, ◌⊎◌, ℕ, zero, suc, ◌<◌, Bool, true, false, cond, List, [], ◌∷◌, ◌++◌, map, Option, None, Some, Result, Ok, Err, refl, sym, ap, subst, ◌∙◌, true≢false, arith}
+use Rattle.std.proofs.Common.{◌≡◌, ◌⊎◌, ℕ, zero, suc, ◌<◌, Bool, true, false, List, [], ◌∷◌, ◌++◌, map, Option, None, Some, Result, Ok, Err, refl, sym, ap, subst, ◌∙◌, true≢false, arith}
 use Rattle.std.proofs.lemmas.Option.{none-some}
 use mathlib.Core.Logic.{inl, inr}
-use Rattle.std.specs.Prelude.{MatchBool, Contains, AllPairs, Vec}
+use Rattle.std.specs.Prelude.{Contains, AllPairs, Vec}
 use Rattle.std.specs.Global.{Global}
 use Rattle.std.specs.FinMap as finmap
-use Rattle.std.proofs.lemmas.Bool.{cases_eq}
+use Rattle.std.proofs.lemmas.Bool.{cases_eq, MatchBool-at_false, MatchBool-at_true, cases_Bool}
 use Rattle.wl_wire.specs.declared.error.IoFault.{IoFault}
 use Rattle.wl_wire.specs.declared.error.OutOfMemory.{OutOfMemory}
 use Rattle.wl_wire.specs.declared.interface.InterfaceId.{InterfaceId}
 use Rattle.wl_link.specs.declared.object.Object.{Object}
 use Rattle.wl_link.proofs.Calls.Branches.{either_bool, either_option}
-use Rattle.wl_link.specs.Exchange.{Queue}
-use Rattle.wl_link.specs.Link.{FlushedBy, LinkState, with_transport}
+use Rattle.wl_link.specs.Exchange.{Queue, Sending}
+use Rattle.wl_link.specs.Link.{LinkState, with_transport}
 use Rattle.wl_link.specs.Puts.{Said}
-use Rattle.wl_link.specs.Store.{held}
+use Rattle.wl_link.specs.Store.{held, IsWalk}
 use Rattle.wl_link.proofs.Ids.StoreLaws.{removed_here, removed_other, walk_of_entries}
-use Rattle.wl_server.specs.declared.error.CreateError.{CreateError}
 use Rattle.wl_server.specs.declared.error.GlobalError.{GlobalError}
-use Rattle.wl_server.specs.declared.error.InsertClientError.{InsertClientError}
 use Rattle.wl_server.specs.declared.objects.Kept.{Kept}
 use Rattle.wl_server.specs.declared.notes.Happening.{Happening}
 use Rattle.wl_server.specs.declared.notes.Happening.TheVariants.{Initialized}
@@ -28,8 +26,8 @@ use Rattle.wl_server.specs.declared.runs.step.Reply.TheVariants as reply
 use Rattle.wl_server.specs.declared.runs.step.Step.{Step}
 use Rattle.wl_server.specs.declared.runs.step.Step.TheVariants as step
 use Rattle.wl_server.specs.HandedIds.{made_ids}
-use Rattle.wl_server.proofs.OverRuns.Moves.BaseMoves.{Doings, Goes, Kind, MayRead, cleaned, doings_of, flushed, followed, handed_by, joined, left_by, left_id, moved, nothing_done, notes_taken, noting, relinked, stayed, taken_out, unfelt, went, within, any}
-use Rattle.wl_server.specs.Deeds.{Deed, Noted, NoteTaken, left_if, notes_in}
+use Rattle.wl_server.proofs.OverRuns.Moves.BaseMoves.{Doings, Goes, Kind, MayRead, cleaned, doings_of, flushed, followed, handed_by, joined, left_by, left_id, moved, nothing_done, notes_taken, noting, relinked, stayed, taken_out, unfelt, went, within, any, sending}
+use Rattle.wl_server.specs.Deeds.{Deed, Noted, NoteTaken, left_if, notes_in, Sent}
 use Rattle.wl_server.proofs.OverRuns.Alone.IsolationLaw.{other_call}
 use Rattle.wl_server.proofs.OverRuns.Moves.DoingsLaws.{doings_in, doings_in_both, doings_sends}
 use Rattle.wl_server.specs.Felt.{Cleaned, FlushedTo, FlushesLive, Hears, objects_leave}
@@ -44,8 +42,7 @@ use Rattle.wl_server.proofs.OverRuns.Moves.MovesOfCalls.{creates_moves, destroys
 use Rattle.wl_server.proofs.OverRuns.Moves.MovesOfReadings.{next_action_moves}
 use Rattle.wl_server.proofs.OverRuns.Moves.MovesOfVerdicts.{Go, same_doings, tells_moves}
 use Rattle.wl_server.specs.Part.{Part, end_note, fresh_part, id_at, id_of, with_link, named}
-use Rattle.wl_server.specs.Objects.{Creates}
-use Rattle.wl_server.specs.PartStep.{Asked, Call, Changed, CleanedAs, FeelsGlobal, FeelsLoss, FlushedFor, Grown, InsertedAs, MovedFor, NotesTaken, OfClient, OnPart, PartCall, PartStep, ReadsFor, Unfelt, World, around}
+use Rattle.wl_server.specs.PartStep.{Asked, Call, Changed, CleanedAs, FeelsGlobal, FeelsLoss, FlushedFor, Grown, MovedFor, NotesTaken, OfClient, OnPart, PartCall, PartStep, ReadsFor, Unfelt, World, around}
 use Rattle.wl_server.specs.Runs.{concerns, is_about}
 use Rattle.wl_server.specs.Server.{Seen}
 use Rattle.wl_server.specs.Telling.{core_of, tells}
@@ -67,16 +64,15 @@ module _ {U : Type 0} where
   doings_taken [] = refl
   doings_taken (h ∷ notes) = ap (λ (d : Doings U). record d { taken = h ∷ d.taken }) (doings_taken notes)
 
+  -- of a client that is taken out the notes that waited are made, its objects leave, and what waits is flushed
+  doings_cleaned : (notes : List (Happening U)) (leave : List (Deed U)) (es : List Sending)
+      → doings_in (map Noted notes ++ (leave ++ map Sent es)) ≡ joined (noting notes) (joined (doings_in leave) (sending es))
+  doings_cleaned notes leave es = grind (arith, doings_in_both, doings_noted, doings_sends, joined, sending, noting)
+
 module _ {T U C : Type 0} (kind : Kind) (sends : T → Queue → Result ℕ IoFault → T → Type 0) (receives : T → ℕ → Result Queue IoFault → T → Type 0)
     (client : ClientParts) where
   abbrev Leads : Part T U C → Doings U → Part T U C → Type 0
   Leads p d q = Go kind sends receives client p d q
-
-  -- the objects of a client are these, by ascending number
-  record IsAll (p : Part T U C) (entries : List (ℕ × Object (Kept U))) : Type 0 where
-    ascending : AllPairs (λ a b. a.0 < b.0) entries
-    there : (n : ℕ) (x : Object (Kept U)) → Contains entries (n, x) → held p.store n ≡ Some x
-    all : (n : ℕ) (x : Object (Kept U)) → held p.store n ≡ Some x → Contains entries (n, x)
 
   record Emptied (p : Part T U C) (entries : List (ℕ × Object (Kept U))) : Type 0 where
     after : Part T U C
@@ -85,19 +81,21 @@ module _ {T U C : Type 0} (kind : Kind) (sends : T → Queue → Result ℕ IoFa
     waiting : after.waiting ≡ p.waiting
     link : after.link ≡ p.link
 
-  empties : (p : Part T U C) (entries : List (ℕ × Object (Kept U))) → IsAll p entries → Emptied p entries
-  empties p [] is = record { after = p; moves = stayed refl refl; none = λ n. (grind (arith, held p.store n)); waiting = refl; link = refl }
+  empties : (p : Part T U C) (entries : List (ℕ × Object (Kept U))) → IsWalk p.store entries → Emptied p entries
+  empties p [] is = record { after = p; moves = stayed refl refl; none = λ n. (let all : (x : Object (Kept U)) → held p.store n ≡ Some x → Contains [] (n, x) = λ x. (is.each n x).1 in grind (arith, held p.store n)); waiting = refl; link = refl }
   empties p (e ∷ entries) is =
       let mid : Part T U C = left_by client false p e.0 e.1 in
       let rest = empties mid entries (record {
         ascending = λ i j d less lt. is.ascending (suc i) (suc j) d (omega (arith, less)) (omega (arith, lt));
-        there = λ n x among. removed_other p.store e.0 n (λ same. (let less : e.0 < n = pairs_first e entries
-            (n, x) is.ascending among in omega (arith, less, same))) ∙ is.there n x ((suc among.0, omega (arith, among.1), among.2));
-        all = grind (arith, cases_eq, none-some, removed_here, removed_other);
+        each = λ n x. (
+          λ among. removed_other p.store e.0 n (λ same. (let less : e.0 < n = pairs_first e entries
+              (n, x) is.ascending among in omega (arith, less, same))) ∙ (is.each n x).0 ((suc among.0, omega (arith, among.1), among.2)),
+          grind (arith, cases_eq, none-some, removed_here, removed_other, is.each n x),
+        );
       }) in
       record {
         after = rest.after;
-        moves = followed (moved {q = mid} (went e.0 e.1 false (is.there e.0 e.1 (zero, omega arith, refl)) refl refl)) rest.moves
+        moves = followed (moved {q = mid} (went e.0 e.1 false ((is.each e.0 e.1).0 (zero, omega arith, refl)) refl refl)) rest.moves
             (grind (arith, doings_in, end_note, id_at, left_if, id_of, joined, nothing_done, left_id, e.0, e.1, objects_leave client entries));
         none = rest.none;
         waiting = rest.waiting;
@@ -111,7 +109,7 @@ module _ {T U C : Type 0} (kind : Kind) (sends : T → Queue → Result ℕ IoFa
       elim (either_bool p.is_killed h) [
         | inl s ↦ stayed (ap doings_in s.1) s.2
         | inr tells' ↦
-            tells_moves kind sends receives client p (tells (core_of p) messages) lacked did q (tells_comes kind sends receives client (core_of p) messages (λ live. refl)) tells'
+            tells_moves kind sends receives client p (tells (core_of p) messages) lacked did q (tells_comes kind sends receives client (core_of p) messages refl) tells'
       ]
 
   flushed_moves : (p : Part T U C) (answer : Result (Unit {0}) IoFault) (lacked : Bool) (did : List (Deed U)) (q : Part T U C) → FlushedTo sends p answer lacked did q
@@ -172,12 +170,6 @@ module _ {T U G C : Type 0} (kind : Kind) (w : World T G C) (id : ClientParts) (
   abbrev To : Seen T U C → List (Deed U) → Seen T U C → Type 0
   To s did t = Goes kind w.sends w.receives id s (doings_in did) t
 
-  creates_goes : (target : ClientParts) (i : InterfaceId) (version : ℕ) (u : U) (r : Result IdParts CreateError) (missing : Type 0) (s : Seen T U C) (lacked l : Bool)
-      (did : List (Deed U)) (t : Seen T U C) → (missing → made_ids r ≡ [])
-      → OfClient (same_client target id) s (λ p q. (lacked ≡ l) × (did ≡ []) × Creates offer.table id p i version u r q) missing lacked did t
-      → Goes kind w.sends w.receives id s (doings_of (cond (same_client target id) (made_ids r) []) did) t
-  creates_goes target i version u r missing s lacked l did t none_made h = grind (arith, doings_of, on_part, creates_moves, unfelt)
-
   global_goes : (i : InterfaceId) (version : ℕ) (handler : G) (r : Result GlobalParts GlobalError) (s : Seen T U C) (lacked : Bool) (did : List (Deed U)) (t : Seen T U C)
       → FeelsGlobal w id offer i version handler r s lacked did t → To s did t
   global_goes i version handler r s lacked did t h1 = grind (arith, on_part, doings_in, hears_moves, unfelt_goes)
@@ -194,35 +186,21 @@ module _ {T U G C : Type 0} (kind : Kind) (w : World T G C) (id : ClientParts) (
   -- a killed client is taken out: its notes are made, its objects leave, and what waits is flushed
   cleaned_goes : (s : Seen T U C) (p : Part T U C) → kind.gathers ≡ true → s.part ≡ Some p → (lacked : Bool) (did : List (Deed U)) (out : List T) (q : Option (Part T U C)) (t : Seen T U C)
       → Cleaned w.sends id p lacked did out q → t ≡ record { part = q; made = s.made ++ notes_in did } → To s did t
-  cleaned_goes s p on there lacked did out q t h same = go p.is_killed refl h
-    where
-      go : (b : Bool) → p.is_killed ≡ b
-          → MatchBool b
-          ((sent : List (Deed U)) × (answer : Result (Unit {0}) IoFault) × (end : Part T U C) × FlushedTo w.sends p answer lacked sent end
-          × (did ≡ map Noted p.waiting ++ (objects_leave id (finmap.entries p.store.objects) ++ sent))
-          × (out ≡ end.link.transport ∷ []) × (q ≡ None))
-          ((lacked ≡ false) × (did ≡ map Noted p.waiting) × (out ≡ []) × (q ≡ Some (record p { waiting = [] }))) → To s did t
-      go false live (no_memory, did_so, nobody, is) =
-          within p (record p { waiting = [] }) there (moved (cleaned on (ap doings_in did_so ∙ doings_noted p.waiting) refl))
-          (same ∙ ap (λ (o : Option (Part T U C)). record { part = o; made = s.made ++ notes_in did }) is)
-      go true killed (sent, answer, end, (es, link, by, no_memory, sent_so, end_so), did_so, handed, is) =
-          let told : Part T U C = record p { waiting = [] } in
-          let walk = walk_of_entries p.store in
-          let gone = empties kind w.sends w.receives id told (finmap.entries p.store.objects) (record {
-            ascending = walk.ascending;
-            there = λ n x among. (walk.each n x).0 among;
-            all = λ n x holds. (walk.each n x).1 holds;
-          }) in
-          taken_out p (with_link gone.after link) on there killed
-          (followed (moved {q = told} (cleaned on refl refl))
-          (followed gone.moves (moved {q = with_link gone.after link} (flushed es answer link (subst (λ (l : LinkState T). FlushedBy w.sends l es answer link) (sym gone.link) by) refl refl)) refl)
-          (ap doings_in did_so
-          ∙ doings_in_both (map Noted p.waiting) (objects_leave id (finmap.entries p.store.objects) ++ sent)
-          ∙ ap (λ (d : Doings U). joined d (doings_in (objects_leave id (finmap.entries p.store.objects) ++ sent))) (doings_noted p.waiting)
-          ∙ ap (joined (noting p.waiting)) (doings_in_both (objects_leave id (finmap.entries p.store.objects)) sent
-          ∙ ap (joined (doings_in (objects_leave id (finmap.entries p.store.objects)))) (ap doings_in sent_so ∙ doings_sends es))))
-          gone.none gone.waiting
-          (same ∙ ap (λ (o : Option (Part T U C)). record { part = o; made = s.made ++ notes_in did }) is)
+  cleaned_goes s p on there lacked did out q t h same =
+      elim (cases_Bool p.is_killed) [
+        | inr live ↦
+            let (no_memory, did_so, nobody, is) = MatchBool-at_false _ _ live h in
+            within p (record p { waiting = [] }) there (moved (cleaned on (ap doings_in did_so ∙ doings_noted p.waiting) refl)) (same ∙ ap (λ (o : Option (Part T U C)). record { part = o; made = s.made ++ notes_in did }) is)
+        | inl killed ↦
+            let (sent, answer, end, (es, link, by, no_memory, sent_so, end_so), did_so, handed, is) = MatchBool-at_true _ _ killed h in
+            let gone = empties kind w.sends w.receives id (record p { waiting = [] }) (finmap.entries p.store.objects) (walk_of_entries p.store) in
+            taken_out p (with_link gone.after link) on there killed
+            (followed (moved (cleaned on refl refl))
+            (followed gone.moves (moved (flushed es answer link (rw gone.link by) refl refl)) refl)
+            (ap doings_in (did_so ∙ ap (λ (l : List (Deed U)). map Noted p.waiting ++ (objects_leave id (finmap.entries p.store.objects) ++ l)) sent_so)
+            ∙ doings_cleaned p.waiting (objects_leave id (finmap.entries p.store.objects)) es))
+            gone.none gone.waiting (same ∙ ap (λ (o : Option (Part T U C)). record { part = o; made = s.made ++ notes_in did }) is)
+      ]
 
   cleanup_goes : (answer : Result (Vec (ClientParts × T) Global) OutOfMemory) (s : Seen T U C) (lacked : Bool) (did : List (Deed U)) (t : Seen T U C)
       → (gathers_in {T = T} {U = U} {G = G} {C = C} (Asked step.Cleanup (reply.Cleanup answer)) ≡ true → kind.gathers ≡ true) → CleanedAs w id offer answer s lacked did t → To s did t
@@ -261,7 +239,7 @@ module _ {T U G C : Type 0} (kind : Kind) (w : World T G C) (id : ClientParts) (
       → Handed (Asked call answer) s did t
   step_goes (step.InsertClient transport client_data) answer s lacked did t about may h = absurd (true≢false (sym about))
   step_goes (step.SetObjectData o u) answer s lacked did t about may (r, is, h) = grind (arith, of_client, same_doings, nothing_done, doings_in, named, stayed, writes, named_is_held)
-  step_goes (step.CreateObject target i version u) answer s lacked did t about may (r, is, h) = grind (arith, creates_goes, made_ids, doings_of, on_part, creates_moves, unfelt)
+  step_goes (step.CreateObject target i version u) answer s lacked did t about may (r, is, h) = grind (arith, made_ids, doings_of, on_part, creates_moves, unfelt)
   step_goes (step.DestroyObject o) answer s lacked did t about may (r, is, h) = grind (arith, of_client, same_client, destroys_moves)
   step_goes (step.SendEvent m) answer s lacked did t about may (r, is, h) =
       of_client kind w.sends w.receives id (same_client m.sender_id.client id) s _ _ lacked did t (λ mine p q d. sends_moves kind w.sends w.receives id offer.table p _ r lacked did q d) h
@@ -308,21 +286,18 @@ module _ {T U G C : Type 0} (kind : Kind) (w : World T G C) (id : ClientParts) (
 
   pub any_moves : (call : Call T U G C) (s : Seen T U C) (lacked : Bool) (did : List (Deed U)) (t : Seen T U C)
       → Permits call → PartCall w id offer call s lacked did t → AnyGoes s did t
-  any_moves (Asked (step.InsertClient transport client_data) answer) s lacked did t may (r, is, h) = inserts r h
-    where
-      inserts : (r : Result ClientParts InsertClientError) → InsertedAs w id offer transport client_data r s lacked did t → AnyGoes s did t
-      inserts (Err e) h = unfelt_any s lacked did t h
-      inserts (Ok new) h =
-          elim (either_bool (same_client new id) h) [
-            | inl (link, (limit, limits, fresh), no_memory, did_so, same) ↦
-                inr (fresh_part link client_data, refl, ap (λ (l : LinkState T). l.incoming.bytes) fresh, did_so, same)
-            | inr other ↦ unfelt_any s lacked did t other
-          ]
-  any_moves call s lacked did t may h = go (concerns id call) refl
-    where
-      go : (b : Bool) → concerns id call ≡ b → AnyGoes s did t
-      go true about = inl (handed_by id call did, call_moves call s lacked did t about may h)
-      go false far = unfelt_any s lacked did t (other_call w id offer call s lacked did t (λ new inserts. absurd cc) far h)
+  any_moves (Asked (step.InsertClient transport client_data) answer) s lacked did t may (Err e, is, h) = unfelt_any s lacked did t h
+  any_moves (Asked (step.InsertClient transport client_data) answer) s lacked did t may (Ok new, is, h) =
+      elim (either_bool (same_client new id) h) [
+        | inl (link, (limit, limits, fresh), no_memory, did_so, same) ↦
+            inr (fresh_part link client_data, refl, ap (λ (l : LinkState T). l.incoming.bytes) fresh, did_so, same)
+        | inr other ↦ unfelt_any s lacked did t other
+      ]
+  any_moves call s lacked did t may h =
+      elim (cases_Bool (concerns id call)) [
+        | inl about ↦ inl (handed_by id call did, call_moves call s lacked did t about may h)
+        | inr far ↦ unfelt_any s lacked did t (other_call w id offer call s lacked did t (λ new inserts. absurd cc) far h)
+      ]
 
 -- the same for whatever reason
 pub call_goes : {T U G C : Type 0} (gathers : Bool) (w : World T G C) (id : ClientParts) (offer : Offer G) (call : Call T U G C) (s : Seen T U C) (lacked : Bool) (did : List (Deed U))

@@ -1,13 +1,12 @@
 -- How what is done adds up: over moves one behind another, and over deeds.
-use Rattle.std.proofs.Common.{◌≡◌, List, [], ◌∷◌, ◌++◌, Result, map, refl, sym, ap, ◌∙◌, append-nil, append_assoc, arith}
-use Rattle.wl_wire.specs.declared.error.IoFault.{IoFault}
-use Rattle.wl_link.specs.Exchange.{Queue, Sending}
+use Rattle.std.proofs.Common.{◌≡◌, List, [], ◌∷◌, ◌++◌, map, refl, sym, ap, ◌∙◌, append-nil, append_assoc, arith, ap₂}
+use Rattle.wl_link.specs.Exchange.{Sending}
 use Rattle.wl_link.specs.Puts.{Said}
-use Rattle.wl_link.specs.Reader.{Given, HandedOut, Queued, Received, Handled, Unread, Turn, put_and_gave}
-use Rattle.wl_server.specs.Deeds.{came_in, Acted, Came, Deed, Handed, Left, Noted, NoteTaken, Put, Remembered, Sent, notes_in, sends_of}
+use Rattle.wl_link.specs.Reader.{Given, HandedOut, Queued, Turn, put_and_gave}
+use Rattle.wl_server.specs.Deeds.{came_in, Deed, Handed, Put, Sent, notes_in, sends_of}
 use Rattle.wl_server.proofs.OverRuns.Moves.BaseMoves.{Doings, acted_in, all_action_ids, doings_of, joined, nothing_done, noting, putting, sending}
-use Rattle.wl_server.specs.Reading.{exchanges_in}
-use Rattle.wl_server.specs.Telling.{Core, Told, deeds_in, deeds_of, end_deeds}
+use Rattle.wl_server.specs.Reading.{exchanges_in, stops_if}
+use Rattle.wl_server.specs.Telling.{Core, Told, deeds_in, deeds_of, end_deeds, Did}
 use Rattle.wl_link.specs.Identity.{HandedId}
 use Rattle.wl_server.specs.Ids.{IdParts}
 use Rattle.wl_server.proofs.Readings.OneMessage.{deeds_append}
@@ -25,10 +24,6 @@ module _ {U : Type 0} where
   pub joined_none : (a : Doings U) → joined a nothing_done ≡ a
   joined_none a = grind (arith, append-nil)
 
-  -- sends and receives are of kinds of their own
-  abbrev pub exchanging : List Sending → List (Result Queue IoFault) → Doings U
-  exchanging es rs = record nothing_done { sends = es; came = rs }
-
   -- nothing that was sent or received is among it
   abbrev pub IsQuiet : List (Deed U) → Type 0
   IsQuiet did = (sends_of did ≡ []) × (came_in did ≡ [])
@@ -41,14 +36,7 @@ module _ {U : Type 0} where
 
   doings_both : (ids others : List (HandedId IdParts)) (a b : List (Deed U)) → doings_of (ids ++ others) (a ++ b) ≡ joined (doings_of ids a) (doings_of others b)
   doings_both ids others [] b = refl
-  doings_both ids others (Sent e ∷ a) b = ap (λ (d : Doings U). record d { sends = e ∷ d.sends }) (doings_both ids others a b)
-  doings_both ids others (Came r ∷ a) b = ap (λ (d : Doings U). record d { came = r ∷ d.came }) (doings_both ids others a b)
-  doings_both ids others (Put m ∷ a) b = ap (λ (d : Doings U). record d { put = m ∷ d.put }) (doings_both ids others a b)
-  doings_both ids others (Remembered r ∷ a) b = ap (λ (d : Doings U). record d { registries = r ∷ d.registries }) (doings_both ids others a b)
-  doings_both ids others (Left id ∷ a) b = ap (λ (d : Doings U). record d { left = id ∷ d.left }) (doings_both ids others a b)
-  doings_both ids others (Noted h ∷ a) b = ap (λ (d : Doings U). record d { notes = h ∷ d.notes }) (doings_both ids others a b)
-  doings_both ids others (Acted h ∷ a) b = ap (λ (d : Doings U). record d { acted = h ∷ d.acted }) (doings_both ids others a b)
-  doings_both ids others (NoteTaken h ∷ a) b = ap (λ (d : Doings U). record d { taken = h ∷ d.taken }) (doings_both ids others a b)
+  doings_both ids others (d ∷ a) b = grind (arith, doings_both ids others a b, d)
 
   pub doings_in_both : (a b : List (Deed U)) → doings_in (a ++ b) ≡ joined (doings_in a) (doings_in b)
   doings_in_both a b = grind (arith, doings_of, all_action_ids, doings_both, ids_both, acted_in)
@@ -61,29 +49,29 @@ module _ {U : Type 0} where
   doings_puts [] = refl
   doings_puts (m ∷ put) = ap (λ (d : Doings U). record d { put = m ∷ d.put }) (doings_puts put)
 
-  -- the exchanges of a reading
-  pub doings_turns : (turns : List Turn) → (es : List Sending) × (rs : List (Result Queue IoFault)) × (doings_in (exchanges_in turns) ≡ exchanging es rs)
-  doings_turns [] = ([], [], refl)
-  doings_turns (Received r ∷ turns) =
-      let (es, rs, is) = doings_turns turns in (es, r ∷ rs, ap (λ (d : Doings U). record d { came = r ∷ d.came }) is)
-  doings_turns (Handled es ∷ turns) =
-      let (fs, rs, is) = doings_turns turns in (
-        es ++ fs,
-        rs,
-        grind (arith, doings_in_both, map, exchanges_in, joined, doings_in, doings_sends, sending),
-      )
-  doings_turns (Unread es ∷ turns) =
-      let (fs, rs, is) = doings_turns turns in (
-        es ++ fs,
-        rs,
-        grind (arith, doings_in_both, map, exchanges_in, joined, doings_in, doings_sends, sending),
-      )
+  -- the exchanges of a reading are sends and receives, which are of kinds of their own
+  pub doings_turns : (turns : List Turn) → doings_in (exchanges_in {U = U} turns)
+      ≡ record nothing_done { sends = sends_of (exchanges_in {U = U} turns); came = came_in (exchanges_in {U = U} turns) }
+  doings_turns [] = refl
+  doings_turns (turn ∷ turns) = grind (arith, doings_in_both, map, exchanges_in, joined, doings_in, doings_sends, sending, doings_turns turns, turn)
+
+  -- exchanges pass by what is none
+  passes_by : (S A X B E : Doings U) → (A.sends ≡ []) × (A.came ≡ []) → X ≡ record nothing_done { sends = X.sends; came = X.came }
+      → joined (joined S A) (joined X (joined B E)) ≡ joined (joined S X) (joined (joined A B) E)
+  passes_by S A X B E quiet is = grind (arith, append_assoc, append-nil)
 
   -- ---- what is given
 
   -- the deeds among what is handed out
   abbrev pub told_deeds : List (Told U) → List (Deed U)
   told_deeds events = deeds_in (map HandedOut events)
+
+  pub told_stops : {C : Type 0} (c : Core U C) → told_deeds (stops_if c) ≡ []
+  told_stops c = grind (arith, told_deeds)
+
+  pub told_did : (did : List (Deed U)) (others : List (Told U)) → told_deeds others ≡ [] → told_deeds (map Did did ++ others) ≡ did
+  told_did [] others none = none
+  told_did (d ∷ did) others none = ap (λ (ds : List (Deed U)). d ∷ ds) (told_did did others none)
 
   deeds_queued : (put : List Said) → deeds_in {U = U} (map Queued put) ≡ map Put put
   deeds_queued [] = refl
@@ -102,29 +90,20 @@ module _ {U : Type 0} where
         → doings_in (deeds_of exchanges gave c) ≡ joined (doings_in exchanges) (joined (doings_in (deeds_in gave)) (end_of c))
     deeds_done exchanges gave c = grind (arith, doings_in_both, deeds_in, end_deeds, joined)
 
-    -- a verdict's, with what it put and what it gave
-    pub verdict_done : (es : List Sending) (put : List Said) (made : List (Deed U)) (gave : List (Given (Told U))) (c : Core U C) → deeds_in gave ≡ map Put put ++ made
-        → doings_in (deeds_of (map Sent es) gave c) ≡ joined (putting es put) (joined (doings_in made) (end_of c))
-    verdict_done es put made gave c is = grind (arith, deeds_done, joined, deeds_in, doings_sends, sending, doings_in_both, doings_puts, joined_assoc, putting, append-nil)
+    -- a verdict's, with what it put and what it handed out
+    pub verdict_done : (es : List Sending) (put : List Said) (events : List (Told U)) (c : Core U C)
+        → doings_in (deeds_of (map Sent es) (put_and_gave put events) c) ≡ joined (putting es put) (joined (doings_in (told_deeds events)) (end_of c))
+    verdict_done es put events c = grind (arith, deeds_done, deeds_given, joined, deeds_in, doings_sends, sending, doings_in_both, doings_puts, joined_assoc, putting, append-nil)
 
     -- what a turn sent and gave, where it killed nobody, and then what the turns behind it did
     pub turns_done : (es : List Sending) (turns : List Turn) (first others : List (Given (Told U))) (c : Core U C) → IsQuiet (deeds_in first)
         → joined (joined (sending es) (doings_in (deeds_in first))) (doings_in (deeds_of (exchanges_in turns) others c))
         ≡ doings_in (deeds_of (map Sent es ++ exchanges_in turns) (first ++ others) c)
     turns_done es turns first others c quiet =
-        let (fs, rs, exchanged) = doings_turns turns in
-        let S : Doings U = sending es in
-        let A : Doings U = doings_in (deeds_in first) in
         let X : Doings U = doings_in (exchanges_in turns) in
-        let B : Doings U = doings_in (deeds_in others) in
-        let E : Doings U = end_of c in
-        let passed : joined A X ≡ joined X A =
-        ap (joined A) exchanged ∙ (grind (arith, append-nil, quiet.0, quiet.1)) ∙ ap (λ (d : Doings U). joined d A) (sym exchanged) in
-        ap (joined (joined S A)) (deeds_done (exchanges_in turns) others c)
-        ∙ joined_assoc S A (joined X (joined B E))
-        ∙ ap (joined S) (sym (joined_assoc A X (joined B E)) ∙ ap (λ (d : Doings U). joined d (joined B E)) passed ∙ joined_assoc X A (joined B E))
-        ∙ sym (joined_assoc S X (joined A (joined B E)))
-        ∙ ap (λ (d : Doings U). joined d (joined A (joined B E))) (ap (λ (d : Doings U). joined d X) (sym (doings_sends es)) ∙ sym (doings_in_both (map Sent es) (exchanges_in turns)))
-        ∙ ap (joined (doings_in (map Sent es ++ exchanges_in turns)))
-        (sym (joined_assoc A B E) ∙ ap (λ (d : Doings U). joined d E) (sym (doings_in_both (deeds_in first) (deeds_in others)) ∙ ap doings_in (sym (deeds_append first others))))
-        ∙ sym (deeds_done (map Sent es ++ exchanges_in turns) (first ++ others) c)
+        ap (joined (joined (sending es) (doings_in (deeds_in first)))) (deeds_done (exchanges_in turns) others c)
+        ∙ passes_by (sending es) (doings_in (deeds_in first)) X (doings_in (deeds_in others)) (end_of c) quiet (doings_turns turns)
+        ∙ sym
+        (deeds_done (map Sent es ++ exchanges_in turns) (first ++ others) c
+        ∙ ap₂ (λ (x y : Doings U). joined x (joined y (end_of c))) (doings_in_both (map Sent es) (exchanges_in turns) ∙ ap (λ (d : Doings U). joined d X) (doings_sends es))
+        (ap doings_in (deeds_append first others) ∙ doings_in_both (deeds_in first) (deeds_in others)))

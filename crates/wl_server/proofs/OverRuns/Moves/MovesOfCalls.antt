@@ -11,7 +11,7 @@ use Rattle.wl_link.specs.declared.object.Object.{Object}
 use Rattle.wl_link.proofs.Calls.Branches.{either_bool, either_option}
 use Rattle.wl_link.specs.Exchange.{Queue, Sending}
 use Rattle.wl_link.specs.Link.{LinkState, WroteBy}
-use Rattle.wl_link.specs.Puts.{Said}
+use Rattle.wl_link.specs.Puts.{Said, PutsOut}
 use Rattle.wl_link.specs.Reader.{Verdict}
 use Rattle.wl_link.specs.Identity.{New}
 use Rattle.wl_link.specs.Store.{Store, held, removed, rewritten, server_range, stored}
@@ -23,16 +23,16 @@ use Rattle.wl_server.specs.declared.error.EventError.{EventError}
 use Rattle.wl_server.specs.declared.error.FinishRefused.{FinishRefused}
 use Rattle.wl_server.specs.declared.objects.Kept.{Kept}
 use Rattle.wl_server.specs.declared.notes.DisconnectReason.{DisconnectReason}
-use Rattle.wl_server.specs.declared.notes.DisconnectReason.TheVariants.{ProtocolError as BrokeProtocol}
+use Rattle.wl_server.specs.declared.notes.DisconnectReason.TheVariants.{ProtocolError as BrokeProtocol, ConnectionClosed}
 use Rattle.wl_server.specs.HandedIds.{made_ids}
-use Rattle.wl_server.proofs.OverRuns.Moves.BaseMoves.{Doings, Kind, born, finished, followed, handing, joined, leaving as leaves, left_by, left_id, moved, nothing_done, noting, putting, sending, stayed, told, went, wrote}
-use Rattle.wl_server.specs.Deeds.{Deed, Noted, Sent, left_if}
-use Rattle.wl_server.proofs.OverRuns.Moves.DoingsLaws.{doings_in, doings_in_both, doings_sends, joined_none, told_deeds}
+use Rattle.wl_server.proofs.OverRuns.Moves.BaseMoves.{Doings, Kind, born, finished, followed, handing, joined, leaving as leaves, left_by, left_id, moved, nothing_done, putting, sending, stayed, told, went, wrote}
+use Rattle.wl_server.specs.Deeds.{Deed, Noted, Sent, left_if, Put}
+use Rattle.wl_server.proofs.OverRuns.Moves.DoingsLaws.{doings_in, doings_in_both, doings_sends, joined_none, told_deeds, doings_puts, told_did}
 use Rattle.wl_server.specs.Errors.{PostsError, error_of, posts}
 use Rattle.wl_server.specs.Events.{SendsEvent, SentAs, SessionMessage, argument_faults, checked_row, checked_sender, ends_closed, ends_sender, event_check, granted, said, wire_message}
 use Rattle.wl_server.specs.Finish.{FinishesBind, FinishesRequest, core_finished, data_given, ended_by, ends, ends_request, refusal, store_with_data}
 use Rattle.wl_server.specs.Ids.{ClientParts, IdParts}
-use Rattle.wl_server.proofs.OverRuns.Moves.MovesOfVerdicts.{Comes, Go, IsCalm, Lands, at, ends_killed, lands_at, lands_not, lands_then, same_doings, tells_moves}
+use Rattle.wl_server.proofs.OverRuns.Moves.MovesOfVerdicts.{Comes, Go, at, lands_at, lands_not, same_doings, tells_moves, lands_killed}
 use Rattle.wl_server.specs.Objects.{Creates, Destroys, destroyable, destroys, new_object, without}
 use Rattle.wl_server.specs.Part.{Part, end_note, id_at, id_of, last_possible_serial, named, note_of_end, serial_of, with_link, with_user_data}
 use Rattle.wl_server.specs.Telling.{Core, Did, Kills, Tells, Told, closed_down, core_of, deletions, killed, tells}
@@ -65,10 +65,6 @@ module _ {U : Type 0} where
       → doings_in (left_deeds client waits id x) ≡ leaves client waits id.number x
   doings_left client waits id x is = grind (arith, doings_in, end_note, id_at, id_of, nothing_done, left_id, left_if)
 
-  told_did : (did : List (Deed U)) → told_deeds (map Did did) ≡ did
-  told_did [] = refl
-  told_did (d ∷ did) = ap (λ (ds : List (Deed U)). d ∷ ds) (told_did did)
-
 not_zero : (n : ℕ) → server_range.first ≤ n → n ≢ 0
 not_zero n least zero = omega (arith, least, zero)
 
@@ -85,15 +81,6 @@ module _ {T U C : Type 0} (kind : Kind) (sends : T → Queue → Result ℕ IoFa
 
   abbrev Come : Core U C → Verdict (Core U C) (Told U) → Type 0
   Come c v = Comes kind sends receives client c v
-
-  abbrev Lead : Core U C → List (Deed U) → Core U C → Type 0
-  Lead c made e = Lands kind sends receives client c made e
-
-  abbrev Calm : Core U C → Type 0
-  Calm c = IsCalm kind sends receives client c
-
-  calm_core : (p : Part T U C) → Calm (core_of p)
-  calm_core p live = refl
 
   -- a call that does nothing
   stays : (p : Part T U C) (did : List (Deed U)) (q : Part T U C) → did ≡ [] → q ≡ p → Move p (doings_in did) q
@@ -115,27 +102,29 @@ module _ {T U C : Type 0} (kind : Kind) (sends : T → Queue → Result ℕ IoFa
 
   -- ---- an object that leaves
 
-  leaves_comes : (c e starved : Core U C) (waits asks : Bool) (id : IdParts) (x : Object (Kept U)) (puts : List Said) → Calm c → named c.store id ≡ Some x
-      → (e.is_killed ≡ c.is_killed) × (e.ended ≡ c.ended) → held e.store id.number ≡ None
+  leaves_comes : (c e starved : Core U C) (waits asks : Bool) (id : IdParts) (x : Object (Kept U)) (puts : List Said) → c.ended ≡ None → named c.store id ≡ Some x
+      → e.ended ≡ None → held e.store id.number ≡ None
       → ((l : LinkState T) → Move (left_by client waits (at kind sends receives client c l) id.number x) nothing_done (at kind sends receives client e l))
       → (starved ≡ closed_down e) ⊎ (starved ≡ c) → Come c (leaving_by client e starved waits asks id x puts)
-  leaves_comes c e starved waits asks id x puts calm is same gone moves back = record {
-    made = did;
-    lands = lands_at kind sends receives client c did e (λ live. same.1 ∙ calm (sym same.0 ∙ live)) same.1
+  leaves_comes c e starved waits asks id x puts none is none_then gone moves back = (
+    did,
+    lands_at kind sends receives client c did e none_then
         (λ l. followed (moved (went id.number x waits (named_is_held c.store id x is) refl refl)) (moves l)
-        (doings_left client waits id x (named_serial c.store id x is) ∙ sym (joined_none _)));
-    events = λ d store. (ap (λ (b : Bool). told_deeds (cond b [] (map Did did))) (gone_named d.store id (ap (λ (s : Store (Kept U)). held s id.number) store ∙ gone))) ∙ told_did did;
-    quiet = grind (arith, end_note, id_at, id_of, left_if);
-    last = inl refl;
-    starved = elim back [ inl over ↦ inl over | inr back ↦ inr (back, (ap (λ (b : Bool). told_deeds (cond b [] (map Did did))) (ap is_some is))) ];
-  }
+        (doings_left client waits id x (named_serial c.store id x is) ∙ sym (joined_none _))),
+    λ d store. ap (λ (b : Bool). told_deeds (cond b [] (map Did did))) (gone_named d.store id (ap (λ (s : Store (Kept U)). held s id.number) store ∙ gone))
+        ∙ ap told_deeds (sym (append-nil (map Did did))) ∙ told_did did [] refl,
+    grind (arith, end_note, id_at, id_of, left_if),
+    inl refl,
+    elim back [ inl over ↦ inl over | inr back ↦ inr (back, (ap (λ (b : Bool). told_deeds (cond b [] (map Did did))) (ap is_some is))) ],
+  )
     where
       did : List (Deed U)
       did = left_deeds client waits id x
 
   -- and then the client is closed down
   closes_comes : (c : Core U C) (v : Verdict (Core U C) (Told U)) → Come c v → Come c (record (tells (closed_down v.core) []) { events = v.events })
-  closes_comes c v h1 = grind (arith, lands_then, closed_down, ends_killed, followed, doings_in, noting, moved, true≢false, append-nil)
+  closes_comes c v (made, lands, events, quiet, last, starved) =
+      (made, lands_killed kind sends receives client c made v.core ConnectionClosed kind.closes lands, events, quiet, inl refl, inl refl)
 
   pub destroys_moves : (p : Part T U C) (id : IdParts) (answer : Result (Unit {0}) DestroyError) (lacked : Bool) (did : List (Deed U)) (q : Part T U C)
       → Destroys sends client p id answer lacked did q → Move p (doings_in did) q
@@ -144,77 +133,70 @@ module _ {T U C : Type 0} (kind : Kind) (sends : T → Queue → Result ℕ IoFa
         | inl (none, (is, no_memory, nothing, same)) ↦ stays p did q nothing same
         | inr (x, some, (is, tells')) ↦
             tells_moves kind sends receives client p (destroys client (core_of p) id x) lacked did q
-            (leaves_comes (core_of p) _ _ true (is_some x.value.user_data) id x (deletions id.number) (calm_core p) (grind (arith, eqb, named))
-            (refl, refl)
+            (leaves_comes (core_of p) _ _ true (is_some x.value.user_data) id x (deletions id.number) refl (grind (arith, eqb, named)) refl
             (removed_here p.store id.number id.number refl) (λ l. stayed refl refl) (inr refl)) tells'
       ]
 
   -- ---- messages alone, errors, the end of a client
 
-  pub tells_comes : (c : Core U C) (messages : List Said) → Calm c → Come c (tells c messages)
-  tells_comes c messages calm = grind (arith, lands_not)
+  pub tells_comes : (c : Core U C) (messages : List Said) → c.ended ≡ None → Come c (tells c messages)
+  tells_comes c messages none = ([], lands_not kind sends receives client c none, λ e same. refl, (refl, refl), inl refl, inl refl)
 
-  posts_comes : (table : List InterfaceRow) (c : Core U C) (id : IdParts) (code : ℕ) (text : List ℕ) → kind.kills (BrokeProtocol (error_of table id code text)) → Calm c → Come c (posts table c id code text)
-  posts_comes table c id code text may calm = grind (arith, lands_not)
+  posts_comes : (table : List InterfaceRow) (c : Core U C) (id : IdParts) (code : ℕ) (text : List ℕ) → kind.kills (BrokeProtocol (error_of table id code text)) → c.ended ≡ None
+      → Come c (posts table c id code text)
+  posts_comes table c id code text may none =
+      ([], lands_not kind sends receives client c none, λ e same. refl, (refl, refl), inr (BrokeProtocol (error_of table id code text), may, refl), inl refl)
 
   pub posts_moves : (table : List InterfaceRow) (p : Part T U C) (id : IdParts) (code : ℕ) (text : List ℕ) (lacked : Bool) (did : List (Deed U)) (q : Part T U C)
       → kind.kills (BrokeProtocol (error_of table id code text)) → PostsError sends table p id code text lacked did q → Move p (doings_in did) q
   posts_moves table p id code text lacked did q may h =
       elim (either_bool (eqb id.number 0) h) [
         | inl (no_memory, none, same) ↦ stays p did q none same
-        | inr tells' ↦
-            tells_moves kind sends receives client p (posts table (core_of p) id code text) lacked did q
-            (posts_comes table (core_of p) id code text may (calm_core p)) tells'
+        | inr tells' ↦ tells_moves kind sends receives client p (posts table (core_of p) id code text) lacked did q (posts_comes table (core_of p) id code text may refl) tells'
       ]
 
   pub kills_moves : (p : Part T U C) (reason : DisconnectReason) (did : List (Deed U)) (q : Part T U C) → kind.kills reason → Kills p reason did q → Move p (doings_in did) q
   kills_moves p reason did q may (is, same) =
-      let ends = ends_killed kind sends receives client (core_of p) reason may (calm_core p) in
-      subst (λ (e : Part T U C). Move p (doings_in did) e) (sym same)
-      (same_doings kind sends receives client p (record p { is_killed = true }) (noting ends.notes) (doings_in did)
-      (ap doings_in is ∙ (grind (arith, (killed (core_of p) reason).ended)) ∙ ap noting ends.so) (ends.moves p.link))
+      rw (is, same)
+      (same_doings kind sends receives client _ _ _ _ (grind (arith, (killed (core_of p) reason).ended))
+      ((lands_killed kind sends receives client (core_of p) [] (core_of p) reason may (lands_not kind sends receives client (core_of p) refl)).moves p.link))
 
   -- ---- an event
 
   module _ (m : SessionMessage) (sender : Object (Kept U)) where
-    ends_sender_comes : (c : Core U C) (b : Bool) → Calm c → named c.store m.sender ≡ Some sender → Come c (ends_sender client c m sender b)
-    ends_sender_comes c false calm is = tells_comes c [] calm
-    ends_sender_comes c true calm is =
-        leaves_comes c _ _ true false m.sender sender (deletions m.sender.number) calm is (refl, refl) (removed_here c.store m.sender.number m.sender.number refl)
+    ends_sender_comes : (c : Core U C) (b : Bool) → c.ended ≡ None → named c.store m.sender ≡ Some sender → Come c (ends_sender client c m sender b)
+    ends_sender_comes c false none is = tells_comes c [] none
+    ends_sender_comes c true none is =
+        leaves_comes c _ _ true false m.sender sender (deletions m.sender.number) none is none (removed_here c.store m.sender.number m.sender.number refl)
         (λ l. stayed refl refl) (inl refl)
 
     -- the client is closed down, and its sender ends all the same
-    ends_closed_comes : (c : Core U C) (b : Bool) → Calm c → named c.store m.sender ≡ Some sender → Come c (ends_closed client c m sender b)
-    ends_closed_comes c false calm is = closes_comes c (ends_sender client c m sender false) (ends_sender_comes c false calm is)
-    ends_closed_comes c true calm is = closes_comes c (ends_sender client c m sender true) (ends_sender_comes c true calm is)
+    ends_closed_comes : (c : Core U C) (b : Bool) → c.ended ≡ None → named c.store m.sender ≡ Some sender → Come c (ends_closed client c m sender b)
+    ends_closed_comes c false none is = closes_comes c (ends_sender client c m sender false) (ends_sender_comes c false none is)
+    ends_closed_comes c true none is = closes_comes c (ends_sender client c m sender true) (ends_sender_comes c true none is)
 
     module _ (p : Part T U C) (b : Bool) (es : List Sending) (link : LinkState T) (answer : Result (Unit {0}) EventError) (lacked : Bool) (rest did : List (Deed U)) (q : Part T U C)
         (is : named p.store m.sender ≡ Some sender) (did_so : did ≡ map Sent es ++ rest) where
-      broken_moves : (f : IoFault) → WroteBy sends p.link (wire_message m) es (Err f) link
-          → Tells sends (ends_closed client (core_of p) m sender b) link lacked rest q → Move p (doings_in did) q
-      broken_moves f by tells' =
-          followed (moved {p = p} {q = with_link p link} (told (said m ∷ []) es [] (Err f) link
-          ((es, Err f, link, inl by, (refl, refl, refl, refl))) refl refl))
-          (tells_moves kind sends receives client (with_link p link) (ends_closed client (core_of p) m sender b) lacked rest q (ends_closed_comes (core_of p) b (calm_core p) is) tells')
-          (ap doings_in did_so ∙ doings_in_both (map Sent es) rest ∙ ap (λ (d : Doings U). joined d (doings_in rest)) (doings_sends es))
+      -- the event was written so, and then a verdict was carried out
+      then_tells : (put : List Said) (w : Result (Unit {0}) IoFault) (v : Verdict (Core U C) (Told U)) (more : List (Deed U))
+          → PutsOut sends p.link (said m ∷ []) es put w link → rest ≡ map Put put ++ more → Come (core_of p) v → Tells sends v link lacked more q
+          → Move p (doings_in did) q
+      then_tells put w v more puts rest_so comes tells' =
+          followed (moved (told (said m ∷ []) es put w link puts refl refl))
+          (tells_moves kind sends receives client (with_link p link) v lacked more q comes tells')
+          (rw (did_so, rest_so) (grind (arith, doings_in_both, doings_sends, doings_puts, joined, putting, sending)))
 
       sent_moves : (w : Result (Unit {0}) IoFault) → WroteBy sends p.link (wire_message m) es w link → SentAs sends client p m sender b w link answer lacked rest q
           → Move p (doings_in did) q
       sent_moves (Ok u) by (more, tells', is_ok', rest_so) =
-          followed (moved {p = p} {q = with_link p link} (told (said m ∷ []) es (said m ∷ []) (Ok tt) link
-          ((es, Ok tt, link, inl by, ([], [], sym (append-nil es), refl, (refl, refl, refl, refl)))) refl refl))
-          (tells_moves kind sends receives client (with_link p link) (ends_sender client (core_of p) m sender b) lacked more q (ends_sender_comes (core_of p) b (calm_core p) is) tells')
-          (grind (arith, doings_in, doings_in_both, joined, doings_sends, sending, putting, said))
+          then_tells (said m ∷ []) (Ok tt) (ends_sender client (core_of p) m sender b) more
+          (es, Ok tt, link, inl by, ([], [], sym (append-nil es), refl, (refl, refl, refl, refl))) rest_so (ends_sender_comes (core_of p) b refl is) tells'
       sent_moves (Err fault.OutOfMemory) by (is_err, no_memory, none, same) =
-          moved (told (said m ∷ []) es [] (Err fault.OutOfMemory) link ((es, Err fault.OutOfMemory, link, inl by, (refl, refl, refl, refl)))
-          ((ap doings_in did_so ∙ doings_in_both (map Sent es) rest ∙ ap (λ (d : Doings U). joined d (doings_in rest)) (doings_sends es)) ∙ ap
-          (λ (ds : List (Deed U)). joined (sending es) (doings_in ds)) none ∙ ap (λ (l : List Sending). sending {U = U} l) (append-nil es)) same)
-      sent_moves (Err fault.WouldBlock) by (tells', is_ok') = broken_moves fault.WouldBlock by tells'
-      sent_moves (Err fault.Pipe) by (tells', is_ok') = broken_moves fault.Pipe by tells'
-      sent_moves (Err fault.TooBig) by (tells', is_ok') = broken_moves fault.TooBig by tells'
-      sent_moves (Err fault.Proto) by (tells', is_ok') = broken_moves fault.Proto by tells'
-      sent_moves (Err fault.InvalidInput) by (tells', is_ok') = broken_moves fault.InvalidInput by tells'
-      sent_moves (Err (fault.Other n)) by (tells', is_ok') = broken_moves (fault.Other n) by tells'
+          moved {d = doings_in did} (told (said m ∷ []) es [] (Err fault.OutOfMemory) link ((es, Err fault.OutOfMemory, link, inl by, (refl, refl, refl, refl)))
+          (ap doings_in (did_so ∙ ap (λ (ds : List (Deed U)). map Sent es ++ ds) none ∙ append-nil (map Sent es)) ∙ doings_sends es) same)
+      sent_moves (Err f) by h =
+          then_tells [] (Err f) (ends_closed client (core_of p) m sender b) rest
+          (es, Err f, link, inl by, (refl, refl, refl, refl)) refl (ends_closed_comes (core_of p) b refl is) h.0
 
   pub sends_moves : (table : List InterfaceRow) (p : Part T U C) (m : SessionMessage) (answer : Result (Unit {0}) EventError) (lacked : Bool) (did : List (Deed U)) (q : Part T U C)
       → SendsEvent sends client table p m answer lacked did q → Move p (doings_in did) q
@@ -226,19 +208,19 @@ module _ {T U C : Type 0} (kind : Kind) (sends : T → Queue → Result ℕ IoFa
   data_moves : (p : Part T U C) (created : Option IdParts) (u : Option U) → Move p nothing_done (record p { store = store_with_data p.store created u })
   data_moves p created u = grind (arith, stayed, named, nothing_done, data_given, writes, named_is_held)
 
-  ends_comes : kind.finishes ≡ true → (c : Core U C) (id : IdParts) (o : Option (Object (Kept U))) (created : Option IdParts) (u : Option U) → Calm c
+  ends_comes : kind.finishes ≡ true → (c : Core U C) (id : IdParts) (o : Option (Object (Kept U))) (created : Option IdParts) (u : Option U) → c.ended ≡ None
       → ((x : Object (Kept U)) → o ≡ Some x → named c.store id ≡ Some x) → Come c (ends client c id o created u)
-  ends_comes may c id None created u calm is = record {
-    made = [];
-    lands = lands_at kind sends receives client c [] (core_finished c created u) calm refl (λ l. (followed (data_moves
-        (at kind sends receives client c l) created u) (moved (finished may refl refl)) refl));
-    events = λ e same. refl;
-    quiet = (refl, refl);
-    last = inl refl;
-    starved = inl refl;
-  }
-  ends_comes may c id (Some x) created u calm is =
-      leaves_comes c _ c false (is_some x.value.user_data) id x (deletions id.number) calm (is x refl) (refl, refl)
+  ends_comes may c id None created u none is = (
+    [],
+    lands_at kind sends receives client c [] (core_finished c created u) none
+        (λ l. followed (data_moves (at kind sends receives client c l) created u) (moved (finished may refl refl)) refl),
+    λ e same. refl,
+    (refl, refl),
+    inl refl,
+    inl refl,
+  )
+  ends_comes may c id (Some x) created u none is =
+      leaves_comes c _ c false (is_some x.value.user_data) id x (deletions id.number) none (is x refl) none
       (still_gone (removed c.store id.number) id.number created u (removed_here c.store id.number id.number refl))
       (λ l. (followed (data_moves (at kind sends receives client (without c id.number x) l) created u) (moved (finished may refl refl)) refl))
       (inr refl)
@@ -254,7 +236,7 @@ module _ {T U C : Type 0} (kind : Kind) (sends : T → Queue → Result ℕ IoFa
               | inr (e, why, refuses) ↦ stays p did q refuses.2 refuses.3
               | inl (none, (is', tells')) ↦
                   tells_moves kind sends receives client p (ends_request client (core_of p) sender b created u) lacked did q
-                  (ends_comes may (core_of p) sender (ended_by p.store sender b) created u (calm_core p) (λ x e.
+                  (ends_comes may (core_of p) sender (ended_by p.store sender b) created u refl (λ x e.
                   (grind (arith, none-some, p.store)))) tells'
             ]
       ]

@@ -1,5 +1,5 @@
 -- That what a request comes to is a chain of base moves.
-use Rattle.std.proofs.Common.{◌≡◌, ◌≢◌, ◌⊎◌, ℕ, Bool, true, false, cond, eqb, List, [], ◌∷◌, ◌++◌, map, Option, None, Some, is_some, Result, Ok, Err, refl, sym, ap, append-nil, true≢false, arith}
+use Rattle.std.proofs.Common.{◌≡◌, ◌≢◌, ◌⊎◌, ℕ, Bool, true, false, cond, eqb, List, [], ◌∷◌, ◌++◌, Option, None, Some, is_some, Result, Ok, Err, refl, sym, ap, append-nil, true≢false, arith}
 use mathlib.Core.Logic.{inl, inr}
 use Rattle.std.specs.Prelude.{nat_lt}
 use Rattle.wl_wire.specs.declared.argument.Argument.{Argument}
@@ -9,12 +9,11 @@ use Rattle.wl_wire.specs.declared.interface.InterfaceId.{InterfaceId}
 use Rattle.wl_wire.specs.Argument.{WireArgument}
 use Rattle.wl_wire.specs.MessageRows.{fits}
 use Rattle.wl_wire.specs.Message.{WireMessage}
-use Rattle.wl_wire.specs.Table.{MessageRow, callback_id, name_of, registry_id}
+use Rattle.wl_wire.specs.Table.{MessageRow, callback_id, registry_id}
 use Rattle.wl_link.specs.declared.object.Object.{Object}
 use Rattle.wl_link.specs.Exchange.{Queue}
 use Rattle.wl_link.specs.Identity.{Objects, Found, HandedId, New, argument_ids}
 use Rattle.wl_link.specs.Link.{LinkState}
-use Rattle.wl_link.specs.Puts.{Said}
 use Rattle.wl_link.specs.Reader.{Verdict}
 use Rattle.wl_link.specs.Store.{held, is_free, is_server_number}
 use Rattle.wl_link.proofs.Ids.StoreLaws.{stored_here}
@@ -30,23 +29,29 @@ use Rattle.wl_server.specs.HandedIds.{created_ids}
 use Rattle.wl_server.specs.Deeds.{IsAmong, Acted, Deed, Handed, Remembered}
 use Rattle.wl_server.proofs.OverRuns.Moves.BaseMoves.{Doings, Kind, MayRead, all_action_ids, born, followed, found, found_none, handed_out, handing, moved, opens, remembered, stayed, went}
 use Rattle.wl_server.specs.Deeds as deeds
-use Rattle.wl_server.proofs.OverRuns.Moves.DoingsLaws.{IsQuiet, told_deeds}
-use Rattle.wl_server.specs.Errors.{error_of, fault_text, since_text}
+use Rattle.wl_server.proofs.OverRuns.Moves.DoingsLaws.{IsQuiet, told_stops, told_did}
+use Rattle.wl_server.specs.Errors.{error_of, fault_text}
 use Rattle.wl_server.specs.Globals.{global_at}
 use Rattle.wl_server.specs.Ids.{ClientParts, IdParts}
-use Rattle.wl_server.proofs.OverRuns.Moves.MovesOfVerdicts.{Comes, Go, IsCalm, Lands, at, ends_killed, lands_at, lands_not, lands_then}
+use Rattle.wl_server.proofs.OverRuns.Moves.MovesOfVerdicts.{Comes, Go, Lands, at, lands_at, lands_not, lands_killed}
 use Rattle.wl_server.specs.Part.{Part, display_of, id_at, last_possible_serial, null_id}
 use Rattle.wl_server.specs.Reading.{Around, binds, breaks, converted, garbled, hands_out, new_at, other_request, replies, server, stops_if, synced, with_registry}
 use Rattle.wl_server.proofs.OverRuns.Announced.RequestCases.{request_case}
 use Rattle.wl_server.specs.Requests.{Converted, Converting, Outcome, Whole, Wrong, allows_null, convert, convert_one, going_on, is_valid_new, kinds_after, made_id, made_object, object_found, start, with_made, with_new_argument, with_object_argument}
-use Rattle.wl_server.specs.Telling.{Core, Did, Told, closed_down, objects_in, with_objects}
+use Rattle.wl_server.specs.Telling.{Core, Told, objects_in, with_objects}
 use Rattle.wl_link.proofs.Ids.HandedIds.{argument_ids_both}
+use Rattle.std.proofs.lemmas.Bool.{cases_Bool}
 
 -- a number that a client may use holds none, and is not 0
 pub valid_new : {U : Type 0} (o : Objects (Kept U)) (n : ℕ) → is_valid_new o n ≡ true → (held o.store n ≡ None) × (n ≢ 0)
 valid_new o n valid = grind (arith, true≢false, is_free, eqb, last_possible_serial, is_server_number, held, nat_lt, is_some)
 
 -- ---- the arguments of a request
+
+-- what is made is among the arguments
+among_args : (sender : HandedId IdParts) (args made : List (HandedId IdParts)) → ((id : HandedId IdParts) → IsAmong made id → IsAmong args id)
+    → (id : HandedId IdParts) → IsAmong ((sender ∷ (args ++ made)) ++ []) id → IsAmong (sender ∷ args) id
+among_args sender args made there id among = grind (arith, append-nil, among_both args made id)
 
 -- what holds of the ids that came up in the arguments and of the objects as they then are: so far, and in the end
 module _ {U : Type 0} (P : List (HandedId IdParts) → Objects (Kept U) → Type 0) where
@@ -100,9 +105,6 @@ module _ {T U G C : Type 0} (kind : Kind) (sends : T → Queue → Result ℕ Io
   abbrev place : Core U C → LinkState T → Part T U C
   place c l = at kind sends receives a.client c l
 
-  abbrev IsQuietCore : Core U C → Type 0
-  IsQuietCore c = IsCalm kind sends receives a.client c
-
   abbrev pub Lead : Core U C → List (Deed U) → Core U C → Type 0
   Lead c made e = Lands kind sends receives a.client c made e
 
@@ -119,126 +121,89 @@ module _ {T U G C : Type 0} (kind : Kind) (sends : T → Queue → Result ℕ Io
       → Over c o (New (made_id a.client o n i) ∷ []) (with_made o n i version)
   makes_object c version o n i valid l = moved (born n (made_object o i version) (valid_new o n valid).0 (valid_new o n valid).1 refl refl refl)
 
+  -- and no id of them is handed out
+  unseen : {p q : Part T U C} {ids : List (HandedId IdParts)} → Move p (handing ids) q → Move p (handing []) q
+  unseen moves = handed_out [] moves (λ id among. absurd among) refl
+
   -- ---- forms of a verdict
 
-  told_stops : (c : Core U C) → told_deeds (stops_if c) ≡ []
-  told_stops c = grind (arith, told_deeds)
-
-  told_did : (did : List (Deed U)) (c : Core U C) → told_deeds (map Did did ++ stops_if c) ≡ did
-  told_did [] c = told_stops c
-  told_did (d ∷ did) c = ap (λ (ds : List (Deed U)). d ∷ ds) (told_did did c)
-
-  pub garbled_comes : (c : Core U C) → IsQuietCore c → Come c (garbled c)
-  garbled_comes c calm = record {
-    made = [];
-    lands = lands_then kind sends receives a.client c c (closed_down c) [] (lands_not kind sends receives a.client c calm) (ends_killed kind sends receives a.client c ConnectionClosed kind.closes calm);
-    events = λ e same. refl;
-    quiet = (refl, refl);
-    last = inl refl;
-    starved = inl refl;
-  }
+  pub garbled_comes : (c : Core U C) → c.ended ≡ None → Come c (garbled c)
+  garbled_comes c none =
+      ([], lands_killed kind sends receives a.client c [] c ConnectionClosed kind.closes (lands_not kind sends receives a.client c none), λ e same. refl, (refl, refl), inl refl, inl refl)
 
   breaks_comes : MayRead kind a.table a.client → (c m : Core U C) (code : ℕ) (text : List ℕ) → Lead c [] m → Come c (breaks a m code text)
-  breaks_comes may c m code text lead = record {
-    made = [];
-    lands = lead;
-    events = λ e same. refl;
-    quiet = (refl, refl);
-    last = inr (BrokeProtocol (error_of a.table (display_of a.client) code text), may.displays code text, refl);
-    starved = inl refl;
-  }
+  breaks_comes may c m code text lead =
+      ([], lead, λ e same. refl, (refl, refl), inr (BrokeProtocol (error_of a.table (display_of a.client) code text), may.displays code text, refl), inl refl)
 
-  replies_comes : (c m : Core U C) (puts : List Said) (did : List (Deed U)) → Lead c did m → IsQuiet did → Come c (replies m puts did)
-  replies_comes c m puts did lead quiet = grind (arith, told_did)
+  -- whatever is put
+  replies_comes : (c m : Core U C) (did : List (Deed U)) → Lead c did m → IsQuiet did → Come c (replies m [] did)
+  replies_comes c m did lead quiet = (did, lead, λ e same. told_did did (stops_if e) (told_stops e), quiet, inl refl, inl refl)
 
   hands_out_comes : (c m : Core U C) (action : OpenAction) (h : Handed) → Lead c (Acted h ∷ []) (record m { action = Some action }) → Come c (hands_out m action h)
-  hands_out_comes c m action h lead = grind (arith)
+  hands_out_comes c m action h lead = (Acted h ∷ [], lead, λ e same. refl, (refl, refl), inl refl, inl refl)
 
   -- ---- requests to a display and to a registry
 
-  binds_comes : MayRead kind a.table a.client → (c : Core U C) (g version n : ℕ) (x : Object (KeptGlobal G)) → IsQuietCore c → is_valid_new (objects_in c) n ≡ true → Come c (binds a c g version n x)
-  binds_comes may c g version n x calm valid =
+  binds_comes : MayRead kind a.table a.client → (c : Core U C) (g version n : ℕ) (x : Object (KeptGlobal G)) → c.ended ≡ None → is_valid_new (objects_in c) n ≡ true → Come c (binds a c g version n x)
+  binds_comes may c g version n x none valid =
+      let id : IdParts = made_id a.client (objects_in c) n x.interface in
       hands_out_comes c (with_objects c (with_made (objects_in c) n x.interface version)) (opened.Bind id) (deeds.Bind (global_at g x) id)
-      (lands_at kind sends receives a.client c (Acted (deeds.Bind (global_at g x) id) ∷ []) (record (with_objects c (with_made
-      (objects_in c) n x.interface version)) { action = Some (opened.Bind id) }) calm refl
-      (λ l. followed (makes_object c version (objects_in c) n x.interface valid l) (moved (opens (opened.Bind id) (deeds.Bind
-      (global_at g x) id) may.reads refl refl refl)) refl))
-    where
-      id : IdParts
-      id = made_id a.client (objects_in c) n x.interface
+      (lands_at kind sends receives a.client c (Acted (deeds.Bind (global_at g x) id) ∷ [])
+      (record (with_objects c (with_made (objects_in c) n x.interface version)) { action = Some (opened.Bind id) }) none
+      (λ l. followed (makes_object c version (objects_in c) n x.interface valid l) (moved (opens (opened.Bind id) (deeds.Bind (global_at g x) id) may.reads refl refl refl)) refl))
 
   -- ---- other requests
 
-  module _ (c : Core U C) (m : WireMessage) (receiver : Object (Kept U)) (row : MessageRow) (calm : IsQuietCore c) (holds : held c.store m.sender ≡ Some receiver)
+  module _ (c : Core U C) (m : WireMessage) (receiver : Object (Kept U)) (row : MessageRow) (none : c.ended ≡ None) (holds : held c.store m.sender ≡ Some receiver)
       (other : eqb receiver.interface.0 registry_id.0 ≡ false) (may : MayRead kind a.table a.client) where
     -- the action is opened, its sender's id is made, and then those of its arguments
     hands_out_converted : (d : Converting U) (args : List (Argument IdParts Token))
         → ((e : Core U C) → SoFar (Over e (objects_in c)) d args)
         → Come c (converted a c m receiver row (Whole d args))
     hands_out_converted d args so =
+        let id : IdParts = id_at a.client m.sender receiver in
+        let action : OpenAction = opened.Request id row.is_destructor d.created in
+        let h : Handed = deeds.Request id m.opcode args row.is_destructor d.created in
+        let opening : Core U C = record c { action = Some action } in
         hands_out_comes c (with_objects c d.objects) action h
-        (lands_at kind sends receives a.client c (Acted h ∷ []) (record (with_objects c d.objects) { action = Some action }) calm refl
+        (lands_at kind sends receives a.client c (Acted h ∷ []) (record (with_objects c d.objects) { action = Some action }) none
         (λ l. handed_out (all_action_ids (h ∷ []))
         (followed (moved {p = place c l} {q = place opening l} (opens action h may.reads ((receiver, holds, refl, other), refl, refl, refl) refl refl))
         (followed (moved {p = place opening l} {q = place opening l} (found m.sender receiver holds refl refl)) ((so opening).0 l) refl) refl)
-        all_among refl))
-      where
-        id : IdParts
-        id = id_at a.client m.sender receiver
-
-        action : OpenAction
-        action = opened.Request id row.is_destructor d.created
-
-        h : Handed
-        h = deeds.Request id m.opcode args row.is_destructor d.created
-
-        opening : Core U C
-        opening = record c { action = Some action }
-
-        all_among : (i : HandedId IdParts) → IsAmong ((Found id ∷ (argument_ids args ++ created_ids d.created)) ++ []) i → IsAmong (Found id ∷ argument_ids args) i
-        all_among i among =
-            elim (among_both (Found id ∷ (argument_ids args ++ created_ids d.created)) [] i among) [
-              | inr none ↦ absurd none
-              | inl (inl is) ↦ inl is
-              | inl (inr more) ↦ inr (elim (among_both (argument_ids args) (created_ids d.created) i more) [ inl old ↦ old | inr new ↦ (so c).1 i new ])
-            ]
+        (among_args (Found id) (argument_ids args) (created_ids d.created) (so c).1) refl))
 
     converted_comes : (outcome : Outcome U) → ((e : Core U C) → Came (Over e (objects_in c)) outcome)
         → Come c (converted a c m receiver row outcome)
     converted_comes (Wrong w objects) came =
         breaks_comes may c (with_objects c objects) 0 (fault_text a.table receiver.interface row w)
-        (lands_at kind sends receives a.client c [] (with_objects c objects) calm refl
-        (λ l. (handed_out [] ((came c).1 l) (λ id among. absurd among) refl)))
+        (lands_at kind sends receives a.client c [] (with_objects c objects) none
+        (λ l. unseen ((came c).1 l)))
     converted_comes (Whole d args) came = hands_out_converted d args came
 
     other_comes : Come c (other_request a c m receiver row)
-    other_comes = go (nat_lt receiver.version row.since)
-      where
-        go : (b : Bool) → Come c (cond b
-            (breaks a c 1 (since_text m.opcode receiver.version row.since (name_of a.table receiver.interface.0) m.sender))
-            (converted a c m receiver row (convert a.client receiver.version (start (objects_in c) row) [] m.args)))
-        go true = breaks_comes may c c 1 _ (lands_not kind sends receives a.client c calm)
-        go false =
-            converted_comes (convert a.client receiver.version (start (objects_in c) row) [] m.args)
-            (λ e. converts a.client receiver.version (Over e (objects_in c)) (λ ids o n i valid so l. followed (so l) (makes_object e receiver.version o n i valid l) refl)
-            (λ ids o n x there so l. followed (so l) (moved (found n x there refl refl)) refl) (λ ids o so l. followed (so l) (moved (found_none refl refl)) refl)
-            (start (objects_in c) row) [] m.args (λ l. stayed refl refl, λ id among. among))
+    other_comes =
+        elim (cases_Bool (nat_lt receiver.version row.since)) [
+          | inl early ↦ rw early (breaks_comes may c c 1 _ (lands_not kind sends receives a.client c none))
+          | inr ok ↦
+              rw ok
+              (converted_comes (convert a.client receiver.version (start (objects_in c) row) [] m.args)
+              (λ e. converts a.client receiver.version (Over e (objects_in c)) (λ ids o n i valid so l. followed (so l) (makes_object e receiver.version o n i valid l) refl)
+              (λ ids o n x there so l. followed (so l) (moved (found n x there refl refl)) refl) (λ ids o so l. followed (so l) (moved (found_none refl refl)) refl)
+              (start (objects_in c) row) [] m.args (λ l. stayed refl refl, λ id among. among)))
+        ]
 
   -- ---- a message
 
-  pub handles_comes : MayRead kind a.table a.client → (c : Core U C) (m : WireMessage) → IsQuietCore c → Come c ((server a).handles c m)
-  handles_comes may c m calm =
-      request_case a c (Come c) (garbled_comes c calm) (λ code text. (breaks_comes may c c code text
-      (lands_not kind sends receives a.client c calm))) (λ n valid. (replies_comes c (synced a c n) _ [] (lands_at kind sends receives a.client c []
-      (synced a c n) calm refl (λ l. followed
-      (handed_out [] (makes_object c 1 (objects_in c) n callback_id valid l) (λ id among. absurd among) refl)
-      (moved (went n (made_object (objects_in c) callback_id 1) true (stored_here c.store n (made_object
-      (objects_in c) callback_id 1) n refl) refl (ap (λ (w : List (Happening U)). record (place (synced a c n) l) { waiting = w }) (sym
-      (append-nil c.waiting))))) refl)) (refl, refl)))
-      (λ n valid. (replies_comes c (with_registry a c n) _ (Remembered (new_at a c n) ∷ [])
-      (lands_at kind sends receives a.client c (Remembered (new_at a c n) ∷ []) (with_registry a c n) calm refl (λ l. followed
-      (handed_out [] (makes_object c 1 (objects_in c) n registry_id valid l) (λ id among. absurd among) refl)
-      (moved (remembered n (made_object (objects_in c) registry_id 1) (stored_here c.store n (made_object
-      (objects_in c) registry_id 1) n refl) refl refl refl)) refl)) (refl, refl)))
-      (λ g version n x valid. binds_comes may c g version n x calm valid) m
-      (λ receiver row holds other. other_comes c m receiver row calm holds other may)
+  pub handles_comes : MayRead kind a.table a.client → (c : Core U C) (m : WireMessage) → c.ended ≡ None → Come c ((server a).handles c m)
+  handles_comes may c m none =
+      request_case a c (Come c) (garbled_comes c none) (λ code text. breaks_comes may c c code text (lands_not kind sends receives a.client c none))
+      (λ n valid. replies_comes c (synced a c n) [] (lands_at kind sends receives a.client c [] (synced a c n) none
+      (λ l. followed (unseen (makes_object c 1 (objects_in c) n callback_id valid l))
+      (moved (went n (made_object (objects_in c) callback_id 1) true (stored_here c.store n (made_object (objects_in c) callback_id 1) n refl) refl
+      (ap (λ (w : List (Happening U)). record (place (synced a c n) l) { waiting = w }) (sym (append-nil c.waiting))))) refl)) (refl, refl))
+      (λ n valid. replies_comes c (with_registry a c n) (Remembered (new_at a c n) ∷ [])
+      (lands_at kind sends receives a.client c (Remembered (new_at a c n) ∷ []) (with_registry a c n) none
+      (λ l. followed (unseen (makes_object c 1 (objects_in c) n registry_id valid l))
+      (moved (remembered n (made_object (objects_in c) registry_id 1)
+      (stored_here c.store n (made_object (objects_in c) registry_id 1) n refl) refl refl refl)) refl)) (refl, refl))
+      (λ g version n x valid. binds_comes may c g version n x none valid) m (λ receiver row holds other. other_comes c m receiver row none holds other may)

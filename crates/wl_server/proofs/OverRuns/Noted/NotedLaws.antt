@@ -1,5 +1,5 @@
 -- That each object that left is noted once, and each client that was killed: an induction over base moves.
-use Rattle.std.proofs.Common.{◌≡◌, ℕ, ◌+◌, Bool, true, false, List, [], ◌∷◌, ◌++◌, append-nil, append_assoc, Option, None, Some, Result, refl, sym, ap, subst, ◌∙◌, arith}
+use Rattle.std.proofs.Common.{◌≡◌, ℕ, ◌+◌, Bool, true, false, List, [], ◌∷◌, ◌++◌, append-nil, append_assoc, Option, Result, refl, sym, ap, subst, ◌∙◌, arith}
 use Rattle.std.specs.Prelude.{IsPermutation, if◌then◌else◌}
 use Rattle.std.proofs.lemmas.List.Sorted.{IsPermutation-append_comm, IsPermutation-append_left, IsPermutation-append_right, IsPermutation-refl, IsPermutation-trans}
 use Rattle.wl_wire.specs.declared.error.IoFault.{IoFault}
@@ -11,7 +11,7 @@ use Rattle.wl_link.specs.Link.{LinkState}
 use Rattle.wl_server.specs.declared.objects.Kept.{Kept}
 use Rattle.wl_server.specs.declared.notes.Happening.{Happening}
 use Rattle.wl_server.specs.declared.notes.Happening.TheVariants.{Destroyed, Disconnected, Initialized}
-use Rattle.wl_server.proofs.OverRuns.Moves.BaseMoves.{Doings, Goes, Moves, any, born, cleaned, finished, doings_of, ended, flushed, followed, found, found_none, handed_by, handed_out, left_id, notes_taken, moved, opens, received, relinked, remembered, stayed, taken_out, told, unfelt, went, within, wrote}
+use Rattle.wl_server.proofs.OverRuns.Moves.BaseMoves.{Doings, Goes, Moves, any, doings_of, followed, handed_by, handed_out, left_id, notes_taken, moved, stayed, taken_out, unfelt, within, Move}
 use Rattle.wl_server.proofs.OverRuns.Moves.BaseMovesLaw.{call_goes}
 use Rattle.wl_server.proofs.OverRuns.Ids.ChangeLaws.{moves_take}
 use Rattle.wl_server.specs.Deeds.{left_in, taken_in}
@@ -57,11 +57,8 @@ same_permuted xs ys same = subst (λ (l : List _). IsPermutation xs l) (sym same
 -- what waits and leaves first, and then what leaves more
 permuted_then : {A : Type 0} (x a n m b k z : List A) → IsPermutation (x ++ a) (n ++ m) → IsPermutation (m ++ b) (k ++ z) → IsPermutation (x ++ (a ++ b)) ((n ++ k) ++ z)
 permuted_then x a n m b k z first second =
-    subst (λ (l : List _). IsPermutation l ((n ++ k) ++ z)) (append_assoc x a b)
-    (subst (λ (l : List _). IsPermutation ((x ++ a) ++ b) l) (sym (append_assoc n k z))
-    (IsPermutation-trans ((x ++ a) ++ b) (n ++ (m ++ b)) (n ++ (k ++ z))
-    (subst (λ (l : List _). IsPermutation ((x ++ a) ++ b) l) (append_assoc n m b) (IsPermutation-append_left b (x ++ a) (n ++ m) first))
-    (IsPermutation-append_right n (m ++ b) (k ++ z) second)))
+    let before = IsPermutation-append_left b (x ++ a) (n ++ m) first in
+    let behind = IsPermutation-append_right n (m ++ b) (k ++ z) second in grind (arith, append_assoc, IsPermutation-trans, before, behind)
 
 -- ---- moves
 
@@ -91,26 +88,17 @@ module _ {T U C : Type 0} (sends : T → Queue → Result ℕ IoFault → T → 
         none = ap ends_in waits ∙ none;
       }
 
+  move_notes : (p q : Part T U C) (d : Doings U) → ends_in p.waiting ≡ 0 → Move (any true) sends receives client p d q → Noting p d q
+  move_notes p q d none move = grind
+      (arith, quiet, went_noting, note_of_end, id_at, same_permuted, append-nil, destroyed_both, destroyed_note, ends_both, ends_note)
+
   moves_note : (p q : Part T U C) (d : Doings U) → ends_in p.waiting ≡ 0 → Moves (any true) sends receives client p d q → Noting p d q
   moves_note p q d none (stayed is same) = quiet p q p d _ none is same refl refl refl refl
   moves_note p q d none (followed {m = m} {a = a} {b = b} first second is) =
       let one = moves_note p m a none first in
       subst (λ (x : Doings U). Noting p x q) (sym is) (grind (arith, destroyed_in, destroyed_both, permuted_then, ends_both, moves_note m q b one.none second))
   moves_note p q d none (handed_out {a = a} ids moves among is) = grind (arith, moves_note p q a none moves)
-  moves_note p q d none (moved (relinked link waits stays unread is same)) = quiet p q (record p { link = link }) d _ none is same refl refl refl refl
-  moves_note p q d none (moved (received r answer link reads filled is same)) = quiet p q (record p { link = link }) d _ none is same refl refl refl refl
-  moves_note p q d none (moved (told messages es put answer link puts is same)) = quiet p q (record p { link = link }) d _ none is same refl refl refl refl
-  moves_note p q d none (moved (flushed es answer link by is same)) = quiet p q (record p { link = link }) d _ none is same refl refl refl refl
-  moves_note p q d none (moved (ended reason may is same)) = grind (arith, same_permuted, destroyed_in, append-nil, ends_in, one_if)
-  moves_note p q d none (moved (born n x free ne serial is same)) = quiet p q _ d _ none is same refl refl refl refl
-  moves_note p q d none (moved (found n x holds is same)) = quiet p q p d _ none is same refl refl refl refl
-  moves_note p q d none (moved (found_none is same)) = quiet p q p d _ none is same refl refl refl refl
-  moves_note p q d none (moved (wrote n x u holds is same)) = quiet p q _ d _ none is same refl refl refl refl
-  moves_note p q d none (moved (went n x waits holds is same)) = grind (arith, went_noting, note_of_end, id_of, id_at, same_permuted, destroyed_in, destroyed_both, destroyed_note, ends_in, one_if, ends_both, ends_note)
-  moves_note p q d none (moved (remembered n x holds registry is same)) = quiet p q _ d _ none is same refl refl refl refl
-  moves_note p q d none (moved (opens action h acts so is same)) = quiet p q _ d _ none is same refl refl refl refl
-  moves_note p q d none (moved (finished may is same)) = quiet p q _ d _ none is same refl refl refl refl
-  moves_note p q d none (moved (cleaned on is same)) = grind (arith, doings_of, destroyed_in)
+  moves_note p q d none (moved move) = move_notes p q d none move
 
   -- ---- what is held of a client
 
@@ -129,30 +117,16 @@ module _ {T U C : Type 0} (sends : T → Queue → Result ℕ IoFault → T → 
   behind_made : (made : List (Happening U)) (p q : Part T U C) (d : Doings U) → Noting p d q
       → IsPermutation ((destroyed_in made ++ destroyed_in p.waiting) ++ d.left) (destroyed_in (made ++ d.notes) ++ destroyed_in q.waiting)
   behind_made made p q d noting =
-      subst (λ (l : List Id). IsPermutation ((destroyed_in made ++ destroyed_in p.waiting) ++ d.left) (l ++ destroyed_in q.waiting)) (sym (destroyed_both made d.notes))
-      (subst (λ (l : List Id). IsPermutation l ((destroyed_in made ++ destroyed_in d.notes) ++ destroyed_in q.waiting)) (sym (append_assoc (destroyed_in made) (destroyed_in p.waiting) d.left))
-      (subst (λ (l : List Id). IsPermutation (destroyed_in made ++ (destroyed_in p.waiting ++ d.left)) l) (sym (append_assoc (destroyed_in made) (destroyed_in d.notes) (destroyed_in q.waiting)))
-      (IsPermutation-append_right (destroyed_in made) (destroyed_in p.waiting ++ d.left) (destroyed_in d.notes ++ destroyed_in q.waiting) noting.objects)))
-
-  within_notes : (made : List (Happening U)) (p q : Part T U C) (d : Doings U) → ends_in p.waiting ≡ 0 → d.taken ≡ [] → Moves (any true) sends receives client p d q
-      → SeenNoting (record { part = Some p; made = made }) d (record { part = Some q; made = made ++ d.notes })
-  within_notes made p q d none no_taken moves = grind (arith, moves_note, destroyed_in, behind_made, ends_both, ends_in)
-
-  out_notes : (made : List (Happening U)) (p q : Part T U C) (d : Doings U) → ends_in p.waiting ≡ 0 → d.taken ≡ [] → p.is_killed ≡ true → q.waiting ≡ []
-      → Moves (any true) sends receives client p d q → SeenNoting (record { part = Some p; made = made }) d (record { part = None; made = made ++ d.notes })
-  out_notes made p q d none no_taken killed nothing moves = grind (arith, moves_note, destroyed_in, behind_made, ends_both, ends_in, one_if)
+      let all = IsPermutation-append_right (destroyed_in made) (destroyed_in p.waiting ++ d.left) (destroyed_in d.notes ++ destroyed_in q.waiting) in
+      grind (arith, append_assoc, destroyed_both made d.notes, all noting.objects)
 
   goes_note : (s t : Seen T U C) (d : Doings U) → ends_in (waiting_of s.part) ≡ 0 → Goes (any true) sends receives client s d t → SeenNoting s d t
   goes_note s t d none (unfelt is same) = grind (arith, doings_of, unfelt_notes)
   goes_note s t d none (notes_taken on is same) = grind (arith, doings_of, same_permuted, append-nil)
   goes_note s t d none (within p q there moves same) =
-      subst (λ (x : Seen T U C). SeenNoting s d x) (sym same)
-      (subst (λ (x : Option (Part T U C)). SeenNoting (record { part = x; made = s.made }) d (record { part = Some q; made = s.made ++ d.notes })) (sym there)
-      (within_notes s.made p q d (sym (ap (λ (x : Option (Part T U C)). ends_in (waiting_of x)) there) ∙ none) (moves_take sends receives client p q d moves) moves))
+      grind (arith, moves_note p q d, moves_take sends receives client p q d moves, behind_made s.made p q d, ends_both)
   goes_note s t d none (taken_out p q on there killed moves empty nothing same) =
-      subst (λ (x : Seen T U C). SeenNoting s d x) (sym same)
-      (subst (λ (x : Option (Part T U C)). SeenNoting (record { part = x; made = s.made }) d (record { part = None; made = s.made ++ d.notes })) (sym there)
-      (out_notes s.made p q d (sym (ap (λ (x : Option (Part T U C)). ends_in (waiting_of x)) there) ∙ none) (moves_take sends receives client p q d moves) killed nothing moves))
+      grind (arith, moves_note p q d, moves_take sends receives client p q d moves, behind_made s.made p q d, ends_both, one_if)
 
 -- ---- the run of a client
 

@@ -26,7 +26,7 @@ use Rattle.wl_server.specs.Server.{NoteTimes, ServerState, Stored, client_at, no
 use Rattle.wl_server.specs.Steps.{Entry, GathersNotes, HandsOutNotes, MakesNotes, NotesGoOn, OneStep, lacks_growth}
 use Rattle.wl_server.proofs.CallSteps.Numbering.{gives_none, times_stored}
 use Rattle.wl_server.proofs.CleanupSteps.Gathering.{notes_append}
-use Rattle.wl_server.proofs.OverRuns.Noted.NotesInOrder.{Takes, begins_so, cleanup_drains, happening_of, id_of, made_of, note_is, one_client, own_first, slot_is}
+use Rattle.wl_server.proofs.OverRuns.Noted.NotesInOrder.{Takes, begins_so, happening_of, id_of, made_of, note_is, one_client, own_first, slot_is, told_so}
 use Rattle.wl_server.proofs.OverRuns.Noted.PlacesInOrder.{Sorted, later_refl, sorted_of}
 use Rattle.wl_server.proofs.OverRuns.Outcome.WholeLaws.{found, slot_same, told_at}
 use Rattle.wl_server.proofs.CallSteps.Slots.{same_slots}
@@ -299,15 +299,13 @@ module _ {T U G C : Type 0} (w : World T G C) where
       notes =
           let (order, ordered, (more, behind, along)) = h.in_order in
           let (order', ordered', (more', behind', along')) = g.in_order in
-          let drains = cleanup_drains w t f y out is by in
           let x_is : x.notes ≡ s.notes ++ (more ++ h.ends) = grind (arith, append_assoc, h.behind, behind) in
           let y_is : y.notes ≡ t.notes ++ (more' ++ g.ends) = grind (arith, append_assoc, g.behind, behind') in
-          let same_more = append_cancel_left t.notes drains.more (more' ++ g.ends) (sym drains.behind ∙ y_is) in
           let one = drained_one s t same true order order' more h.ends more' g.ends ordered.rise ordered'.rise ordered.numbers ordered'.numbers
           along along' h.by_slot g.by_slot
           (λ id. append_cancel_left (notes_of id t.notes) (notes_of id (more ++ h.ends)) (notes_of id (more' ++ g.ends))
           (cc (notes_append id s.notes (more ++ h.ends), notes_append id t.notes (more' ++ g.ends), all id)))
-          (λ id none. ap (notes_of id) (sym same_more) ∙ drains.stored id none) in
+          (λ id. (told_so w t f y out is by (more' ++ g.ends) y_is id).2) in
           cc (one.0, one.1)
 
 -- ---- which notes a call moves

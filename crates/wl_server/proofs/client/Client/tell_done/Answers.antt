@@ -9,5 +9,5 @@ returns-clause-handled g c h =
     rw (← c.self.view_is)
     (replied g.T.Transport.sends _ _ c.put_done-wrote.new.socket (done_message
     (id_of c.args.callback.now) ∷ deletions c.args.callback.now.number) [] c.put_done-wrote.result c.kill_unless_answered.result h
-    (record { silent = λ stops rest. refl; no_note = λ stops. refl })
+    (λ stops. (refl, λ rest. refl))
     (rw (← c.self.view_is) at c.requires) (rw c.protocol_id.ensures at c.put_done-wrote.ensures c.args.callback.now.serial) c.kill_unless_answered.ensures.replied)
