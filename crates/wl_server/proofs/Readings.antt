@@ -1,6 +1,5 @@
 -- How messages that are handled join to a reading, and how an action ends.
 pub mod Notes
-pub mod Hearing
 pub mod Texts
 pub mod Finishing
 pub mod Handling

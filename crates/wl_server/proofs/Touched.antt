@@ -3,4 +3,3 @@ pub mod Kept
 pub mod Flushed
 pub mod Gathered
 pub mod Counted
-pub mod Moved

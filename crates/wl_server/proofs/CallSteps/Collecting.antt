@@ -11,7 +11,7 @@ use Rattle.wl_server.specs.Ids.{ClientParts}
 use Rattle.wl_server.specs.Inside.Leaving.{all_staying, collected, ends_at, ends_in, ends_of, given_at, given_in, id_in, staying}
 use Rattle.wl_server.specs.PartStep.{share_of}
 use Rattle.wl_server.specs.Server.{Stored, client_at, if_serial, notes_of}
-use Rattle.wl_server.proofs.CleanupSteps.Gathering.{notes_other, notes_same}
+use Rattle.wl_server.proofs.CleanupSteps.Gathering.{notes_other, notes_same, notes_append}
 use Rattle.wl_server.proofs.CallSteps.Slots.{same_parts, same_self, same_serials, same_slots}
 
 -- ---- shares
@@ -29,7 +29,7 @@ module _ {T U C : Type 0} where
     collected_past n [] past = none
     collected_past n (x ∷ clients) past = grind (arith, collected, ne_eqb, collected_past (n + 1) clients)
 
-    pub collected_at : (n k : ℕ) (clients : List (Option (Stored T U C))) → slot ≡ n + k
+    collected_at : (n k : ℕ) (clients : List (Option (Stored T U C))) → slot ≡ n + k
         → part (collected give n clients) ≡ option_map_or (λ x. part (give slot x)) (slice_get clients k) []
     collected_at n k [] at = none
     collected_at n zero (x ∷ clients) at = grind (arith, collected, collected_past, append-nil)
@@ -37,12 +37,12 @@ module _ {T U C : Type 0} where
 
   -- ---- notes
 
-  pub other_ends : (id : ClientParts) (n : ℕ) (x : Option (Stored T U C)) → (n == id.slot) ≡ false → notes_of id (ends_at n x) ≡ []
+  other_ends : (id : ClientParts) (n : ℕ) (x : Option (Stored T U C)) → (n == id.slot) ≡ false → notes_of id (ends_at n x) ≡ []
   other_ends id n None other = refl
   other_ends id n (Some s) other =
       grind (arith, s.part.is_killed, notes_other (id_in n s) id (ends_of (id_in n s) (entries s.part.store.objects)) (same_slots (id_in n s) id other))
 
-  pub own_ends : (id : ClientParts) (x : Option (Stored T U C)) → notes_of id (ends_at id.slot x) ≡ ends_in id (if_serial id.serial x)
+  own_ends : (id : ClientParts) (x : Option (Stored T U C)) → notes_of id (ends_at id.slot x) ≡ ends_in id (if_serial id.serial x)
   own_ends id None = refl
   own_ends id (Some s) = at (s.serial == id.serial) refl
     where
@@ -51,6 +51,10 @@ module _ {T U C : Type 0} where
           (grind (arith, s.part.is_killed, notes_same id id (ends_of id (entries s.part.store.objects)) (same_self id)))
       at false other =
           grind (arith, s.part.is_killed, notes_other (id_in id.slot s) id (ends_of (id_in id.slot s) (entries s.part.store.objects)) (same_serials (id_in id.slot s) id refl other))
+
+  pub ends_for : (id : ClientParts) (clients : List (Option (Stored T U C))) → notes_of id (collected ends_at 0 clients) ≡ ends_in id (client_at id clients)
+  ends_for id clients =
+      collected_at (notes_of id) ends_at id.slot refl (notes_append id) (other_ends id) 0 id.slot clients (omega arith) ∙ (grind (arith, own_ends, slice_get clients id.slot))
 
   -- ---- transports
 

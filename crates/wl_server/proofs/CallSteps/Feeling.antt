@@ -1,5 +1,5 @@
 -- A step that each client feels by itself, one slot after another.
-use Rattle.std.proofs.Common.{◌≡◌, ◌∙◌, ℕ, ◌+◌, Bool, true, false, ◌||◌, List, [], length, map, Option, None, Some, is_some, refl, ap, subst, arith, true≢false}
+use Rattle.std.proofs.Common.{◌≡◌, ◌∙◌, ℕ, ◌+◌, Bool, true, false, ◌||◌, List, [], length, map, Option, None, Some, is_some, refl, ap, subst, arith, true≢false, ◌<◌}
 use Rattle.std.specs.Option.{option_map_or}
 use Rattle.std.specs.Prelude.{◌==◌, if◌then◌else◌, slice_get, slice_set}
 use Rattle.std.proofs.lemmas.Bool.{eqb-true, false≢true, cases_lt}
@@ -50,15 +50,24 @@ module _ {T U C : Type 0} (R : Kind T U C) where
       let named : id ≡ record { slot = slot; serial = s.serial } = known ∙ ap (λ (n : ℕ). let i : ClientParts = record { slot = slot; serial = n } in i) same in
       rw is (s', subst (λ (i : ClientParts). Does s (λ p did q. R i p lacked did q) s') named does, refl)
 
-  pub none_felt : (start : List (Option (Stored T U C))) → AllFeel R false 0 start start
-  none_felt start = record {
+  -- the clients of these slots are as they were after it
+  pub none_feels : (n : ℕ) (start : List (Option (Stored T U C))) → ((k : ℕ) (x : Option (Stored T U C)) → k < n → slice_get start k ≡ Some x → PlaceFeels R k x false x)
+      → AllFeel R false n start start
+  none_feels n start each = record {
     lacks = λ k. false;
     len = refl;
-    felt = λ k below. absurd (omega (arith, below));
+    felt = λ k below. at k below (slice_get start k) refl;
     rest = λ k above. refl;
     told = λ k below lacks. lacks;
     blame = λ refused. absurd (false≢true refused);
   }
+    where
+      at : (k : ℕ) → k < n → (o : Option (Option (Stored T U C))) → slice_get start k ≡ o → FeltAt R k o false o
+      at k below None here = (refl, refl)
+      at k below (Some x) here = (x, each k x below here, refl)
+
+  pub none_felt : (start : List (Option (Stored T U C))) → AllFeel R false 0 start start
+  none_felt start = none_feels 0 start (λ k x below here. absurd (omega (arith, below)))
 
   -- the client of the next slot feels it
   pub one_more_felt : (refused lacked : Bool) (slot : ℕ) (start now : List (Option (Stored T U C))) (place place' : Option (Stored T U C))

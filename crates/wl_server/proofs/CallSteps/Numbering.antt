@@ -1,5 +1,5 @@
 -- The numbers in time of notes: how they rise, and how a call that makes notes keeps them in order.
-use Rattle.std.proofs.Common.{◌≡◌, ◌≢◌, ◌∙◌, ℕ, zero, suc, ◌+◌, ◌<◌, ◌≤◌, Bool, true, false, List, [], ◌∷◌, ◌++◌, length, map, Option, Some, refl, sym, ap, subst, arith, append_assoc, append-nil}
+use Rattle.std.proofs.Common.{◌≡◌, ◌≢◌, ◌∙◌, ℕ, zero, suc, ◌+◌, ◌<◌, ◌≤◌, Bool, true, false, List, [], ◌∷◌, ◌++◌, length, map, Option, Some, refl, sym, ap, arith, append_assoc, append-nil}
 use mathlib.Core.Logic.{inl, inr}
 use Rattle.std.specs.Option.{option_map, option_map_or}
 use Rattle.std.specs.Prelude.{◌⊎◌, ◌==◌, Contains, slice_get, slice_set}
@@ -143,13 +143,12 @@ module _ (of : NoteTimes → List ℕ) where
   -- the first numbers of clients are gone
   fewer : (ts ts' : List NoteTimes) (next : ℕ) → ((k : ℕ) → (gone : List ℕ) × (of (times_at k ts) ≡ gone ++ of (times_at k ts'))) → AreInTime of next ts → AreInTime of next ts'
   fewer ts ts' next first is = record {
-    rise = λ k. (
-        let (gone, same) = first k in
-        rise_last 0 gone (of (times_at k ts')) next (subst (λ (l : List ℕ). RiseWithin 0 l next) same (is.rise k)));
-    apart = λ j k n a b. is.apart j k n (let (gone, same) = first j in
-        subst (λ (l : List ℕ). Contains l n) (sym same) (Contains-append_right gone (of (times_at j ts')) n a)) (let (gone, same) = first k in
-        subst (λ (l : List ℕ). Contains l n) (sym same) (Contains-append_right gone (of (times_at k ts')) n b));
+    rise = λ k. (let (gone, same) = first k in rise_last 0 gone (of (times_at k ts')) next (rw same at (is.rise k)));
+    apart = λ j k n a b. is.apart j k n (there j n a) (there k n b);
   }
+    where
+      there : (k n : ℕ) → Contains (of (times_at k ts')) n → Contains (of (times_at k ts)) n
+      there k n has = let (gone, same) = first k in rw same (Contains-append_right gone (of (times_at k ts')) n has)
 
 -- ---- numbers in turn
 
@@ -167,10 +166,7 @@ module _ (of : NoteTimes → List ℕ) where
 
   turn_up : (n : ℕ) (ts : List NoteTimes) (next : ℕ) (ts' : List NoteTimes) (next' : ℕ) → InTurn of n ts next ts' next' → next' < last_number → next ≤ next'
   turn_up zero ts next ts' next' is below = omega (arith, is)
-  turn_up (suc n) ts next ts' next' (mid, turn, gives) below =
-      let more = within (of (times_at n ts)) mid (of (times_at n ts')) next' gives in
-      let up = rise_up mid more.more next' (more.rise below) in
-      omega (arith, up, turn_up n ts next ts' mid turn (omega (arith, up, below)))
+  turn_up (suc n) ts next ts' next' (mid, turn, gives) below = grind (arith, rise_up, within (of (times_at n ts)) mid (of (times_at n ts')) next' gives, turn_up n ts next ts' mid turn)
 
   -- the notes of a client, whether or not others got numbers meanwhile
   pub each_turn : (n k : ℕ) (ts : List NoteTimes) (next : ℕ) (ts' : List NoteTimes) (next' : ℕ) → InTurn of n ts next ts' next'
@@ -229,8 +225,7 @@ module _ {T U C : Type 0} where
       → InTimeBelow (i + 1) ts a (map times_of (slice_set clients i x')) c
   next_in_time ts clients i x x' a b c before here gives =
       let next : suc i ≡ i + 1 = omega arith in
-      subst (λ (n : ℕ). InTimeBelow n ts a (map times_of (slice_set clients i x')) c) next
-      (next_turn i ts (map times_of clients) (map times_of (slice_set clients i x')) a b c before
+      rw (← next) (next_turn i ts (map times_of clients) (map times_of (slice_set clients i x')) a b c before
       (λ k differ. times_same clients (slice_set clients i x') k (get_set_other clients i k x' (λ e. differ (sym e))))
       (rw (times_there clients i x here, times_there (slice_set clients i x') i x' (get_set_same clients i x x' here)) gives))
 
@@ -243,8 +238,7 @@ module _ {T U C : Type 0} where
   -- the numbers that a server has, after its client of an id was written
   pub numbers_set : (clients : List (Option (Stored T U C))) (id : ClientParts) (s s' : Stored T U C) (a b : NoteNumbers) → Some s ≡ client_at id clients
       → NotesInTime s.times a s'.times b → HasNumbers a (map times_of clients) → HasNumbers b (map times_of (slice_set clients id.slot (Some s')))
-  numbers_set clients id s s' a b is gives has =
-      let all = set_in_time clients id.slot (Some s) (Some s') a b (slot_of_client clients id s is).0 gives in all.1.keeps has
+  numbers_set clients id s s' a b is gives has = (set_in_time clients id.slot (Some s) (Some s') a b (slot_of_client clients id s is).0 gives).1.keeps has
 
   -- the same where no note was made
   pub numbers_stay : (clients : List (Option (Stored T U C))) (id : ClientParts) (s s' : Stored T U C) (a : NoteNumbers) → Some s ≡ client_at id clients
@@ -292,8 +286,8 @@ pub takes_both : (t u v : NoteTimes) → TakesFirst t u → TakesFirst u v → T
 takes_both t u v one two = record {
   made = one.made ++ two.made;
   waiting = one.waiting ++ two.waiting;
-  of_made = one.of_made ∙ (ap (λ (l : List ℕ). one.made ++ l) two.of_made ∙ sym (append_assoc one.made two.made v.made));
-  of_waiting = one.of_waiting ∙ (ap (λ (l : List ℕ). one.waiting ++ l) two.of_waiting ∙ sym (append_assoc one.waiting two.waiting v.waiting));
+  of_made = grind (arith, append_assoc, one.of_made, two.of_made);
+  of_waiting = grind (arith, append_assoc, one.of_waiting, two.of_waiting);
 }
 
 pub numbers_left : (ts ts' : List NoteTimes) (a : NoteNumbers) → AllTakeFirst ts ts' → HasNumbers a ts → HasNumbers a ts'

@@ -1,5 +1,5 @@
 -- A call that is about one client, as a step of the server.
-use Rattle.std.proofs.Common.{◌≡◌, ℕ, Bool, true, false, not, List, [], Option, None, Some, refl, sym, arith, true≢false}
+use Rattle.std.proofs.Common.{◌≡◌, ℕ, Bool, true, false, not, List, [], Option, None, Some, refl, sym, arith}
 use mathlib.Core.Logic.{inr}
 use Rattle.std.specs.Prelude.{slice_get, slice_set}
 use Rattle.std.proofs.lemmas.Bool.{false≢true}
@@ -21,22 +21,18 @@ use Rattle.wl_server.specs.Ids.{ClientParts, same_client}
 use Rattle.wl_server.specs.PartStep.{Asked, Call, Changed, OfClient, PartCall, PartStep, Quietly, WithTransport, World}
 use Rattle.wl_server.specs.Lending.{over_transport, server_over}
 use Rattle.wl_server.specs.Server.{Seen, ServerState, Stored, client_at, notes_of, seen_as}
-use Rattle.wl_server.specs.Steps.{AsksForRoom, Makes, MakesNotes, NotesGoOn, NumbersClient, AnswersShared, RisesBySlot, inserted_by, lacks_growth, offer_after}
+use Rattle.wl_server.specs.Steps.{Makes, AnswersShared, lacks_growth, offer_after}
 use Rattle.wl_server.proofs.CallSteps.Numbering.{each_stays, in_time_none, set_in_time, all_same}
 use Rattle.wl_server.proofs.CallSteps.Doing.{does_quietly}
-use Rattle.wl_server.proofs.CallSteps.Slots.{Kind, did_at, each_set, lacks_at, same_self, slot_of_client, compare, same_parts, same_serials, same_slots}
-use Rattle.wl_server.proofs.CallSteps.Feeling.{step_by, step_of}
+use Rattle.wl_server.proofs.CallSteps.Slots.{Kind, did_at, each_set, lacks_at, same_self, slot_of_client, same_is}
+use Rattle.wl_server.proofs.CallSteps.Feeling.{step_by, step_of, IsFelt}
 
 -- a call that is about one client: nothing changes that all share, and no memory is wanted but for that client
 record IsOwn {T U G C : Type 0} (call : Call T U G C) : Type 0 where
+  pub felt : IsFelt call
   pub offer : (offer : Offer G) → offer_after offer call ≡ offer
-  pub last : inserted_by call ≡ 0
-  pub client : (before : ServerState T U G C) → NumbersClient before call
   pub global : (offer : Offer G) → AnswersShared offer call
-  pub order : RisesBySlot call
-  pub room : (before : ServerState T U G C) → AsksForRoom before call
   pub growth : lacks_growth call ≡ false
-  pub notes : (before after : ServerState T U G C) → MakesNotes before after → NotesGoOn before call after
 
 -- whether this is such a call; all but seven are
 abbrev pub is_own : {T U G C : Type 0} → Step T U G C → Reply T U → Bool
@@ -68,10 +64,10 @@ module _ {T U G C : Type 0} (w : World T G C) (before : ServerState T U G C) (ca
       → (IsNumbered (Some c) → IsNumbered (Some c')) → AllNumbered before.clients
       → Makes w before call lacked (record before { clients = slice_set before.clients target.slot (Some c'); numbers = numbers' })
   own_call c c' lacked here known (did, q, does, is) numbers' times numbered all =
-      step_by w before call lacked (λ id. lacks_at (same_client target id) lacked) (λ id. did_at (same_client target id) did) _ (sym (own.offer before.offer)) (grind (arith, own.last))
-      (own.client before) (own.global before.offer) own.order (own.room before)
+      step_by w before call lacked (λ id. lacks_at (same_client target id) lacked) (λ id. did_at (same_client target id) did) _ (sym (own.offer before.offer)) (grind (arith, own.felt.last))
+      (own.felt.client before) (own.global before.offer) own.felt.order (own.felt.room before)
       (λ is. inr (target, rw (same_self target) is), λ h. (grind (arith, false≢true, lacks_at, own.growth)))
-      (own.notes before _ (record {
+      (own.felt.notes before _ (record {
         gathered = refl;
         times = set_in_time before.clients target.slot (Some c) (Some c') before.numbers numbers' here times;
         numbered = each_stays IsNumbered before.clients target.slot (Some c) (Some c') here numbered all;
@@ -81,9 +77,9 @@ module _ {T U G C : Type 0} (w : World T G C) (before : ServerState T U G C) (ca
   -- there is no such client
   no_such_client : client_at target before.clients ≡ None → missing → AllNumbered before.clients → Makes w before call false before
   no_such_client none is all =
-      step_of w before call false (λ id. []) before (sym (own.offer before.offer)) (grind (arith, own.last)) (own.client before) (own.global before.offer) own.order (own.room before) own.growth
-      (own.notes before before (record { gathered = refl; times = all_same _ _ _ refl; numbered = all }))
-      (λ id. to id _ _ _ _ (grind (arith, compare, same_parts, same_slots, same_serials, false≢true, same_self, seen_as, notes_of, true≢false, before.clients, before.notes)))
+      step_of w before call false (λ id. []) before (sym (own.offer before.offer)) (grind (arith, own.felt.last)) (own.felt.client before) (own.global before.offer) own.felt.order (own.felt.room before) own.growth
+      (own.felt.notes before before (record { gathered = refl; times = all_same _ _ _ refl; numbered = all }))
+      (λ id. to id _ _ _ _ (grind (arith, same_is target id, none, seen_as, notes_of, same_client target id)))
 
 module _ {T U G C : Type 0} (w : World T G C) (before : ServerState T U G C) (s : Step T U G C) (answer : Reply T U) (is_one : is_own s answer ≡ true) (target : ClientParts)
     (R : Kind T U C) (missing : Type 0)

@@ -1,5 +1,5 @@
 -- What is held of each client id after one slot was written.
-use Rattle.std.proofs.Common.{◌≡◌, ℕ, Bool, true, false, ◌<◌, ◌≤◌, List, [], ◌++◌, length, Option, None, Some, is_some, refl, ap, subst, ◌∙◌, append_assoc, true≢false, arith}
+use Rattle.std.proofs.Common.{◌≡◌, ℕ, Bool, true, false, ◌<◌, ◌≤◌, List, [], ◌++◌, length, Option, None, Some, is_some, refl, ap, subst, ◌∙◌, append_assoc, arith}
 use Rattle.std.specs.Option.{option_map_or}
 use Rattle.std.specs.Prelude.{if◌then◌else◌, ◌==◌, slice_get, slice_index_or, slice_set}
 use Rattle.std.proofs.lemmas.Bool.{eqb-true, eq-eqb, false≢true}
@@ -15,15 +15,6 @@ use Rattle.wl_server.specs.Server.{Seen, Stored, client_at, if_serial, no_times,
 
 -- ---- ids
 
--- two ids have the same slot and serial, or differ
-pub data Same (a b : ClientParts) : Type 0 where
-  Are : (slot : a.slot ≡ b.slot) (serial : a.serial ≡ b.serial) → Same a b
-  Slots : (slot : (a.slot == b.slot) ≡ false) → Same a b
-  Serials : (slot : a.slot ≡ b.slot) (serial : (a.serial == b.serial) ≡ false) → Same a b
-
-pub compare : (a b : ClientParts) → Same a b
-compare a b = grind (arith, eqb-true)
-
 pub same_parts : (a b : ClientParts) → a.slot ≡ b.slot → a.serial ≡ b.serial → a ≡ b
 same_parts a b slot serial = grind (arith)
 
@@ -38,7 +29,7 @@ same_serials a b slot serial = rw (eq-eqb a.slot b.slot slot) serial
 
 -- two ids that are the same are one
 pub same_is : (a b : ClientParts) → same_client a b ≡ true → a ≡ b
-same_is a b is = grind (arith, compare, same_parts, true≢false, same_slots, same_serials)
+same_is a b is = grind (arith, eqb-true, same_parts, a.slot == b.slot, a.serial == b.serial)
 
 -- ---- one client's share of what was done to one of them
 
@@ -88,7 +79,7 @@ module _ {T U C : Type 0} where
   pub client_other : (clients : List (Option (Stored T U C))) (target id : ClientParts) (s s' : Stored T U C) → slice_get clients target.slot ≡ Some (Some s)
       → s'.serial ≡ s.serial → s.serial ≡ target.serial → same_client target id ≡ false → client_at id (slice_set clients target.slot (Some s')) ≡ client_at id clients
   client_other clients target id s s' here same known other =
-      grind (arith, compare target id, eq-eqb, client_absent, get_set_same, get_set_other, other_of, true≢false, slice_get, if_serial)
+      grind (arith, eq-eqb, eqb-true, get_set_same, get_set_other, other_of, if_serial, target.slot == id.slot, target.serial == id.serial)
 
   -- ---- a step of one client
 

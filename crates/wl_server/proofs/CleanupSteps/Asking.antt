@@ -1,8 +1,9 @@
 -- What a cleanup, and what the list of notes, asks for memory for.
-use Rattle.std.proofs.Common.{◌≡◌, ◌≢◌, ℕ, zero, suc, ◌+◌, ◌<◌, ◌≤◌, ◌^◌, Bool, true, false, List, [], ◌∷◌, ◌++◌, length, Option, None, Some, Result, OnErr, refl, sym, ap, ◌∙◌, arith}
+use Rattle.std.proofs.Common.{◌≡◌, ◌≢◌, ℕ, suc, ◌+◌, ◌<◌, ◌≤◌, ◌^◌, Bool, true, false, List, [], ◌∷◌, ◌++◌, length, Option, None, Some, Result, OnErr, refl, ap, arith}
 use mathlib.Core.Logic.{inl, inr}
 use Rattle.std.specs.Prelude.{◌⊎◌}
 use Rattle.std.proofs.lemmas.List.{nil_from_length}
+use Rattle.std.proofs.lemmas.Bool.{cases_lt}
 use Rattle.wl_server.specs.declared.notes.Happening.{Happening}
 use Rattle.wl_server.specs.Inside.Gathering.{AllLeft, count_leaving}
 use Rattle.wl_server.specs.NoteOrder.{to_gather}
@@ -46,7 +47,7 @@ module _ {T U C : Type 0} where
       at : (told : List (Happening U)) → to_gather waits (Some s) ≡ told → (0 < count_leaving waits clients → SomeClient clients (λ s. to_gather waits (Some s) ≢ []))
           → SomeClient (Some s ∷ clients) (λ s. to_gather waits (Some s) ≢ [])
       at [] none rest = later (Some s) clients (rest (omega (arith, more, ap length none)))
-      at (h ∷ told) is rest = (0, s, refl, λ none. (grind (arith, sym is ∙ none)))
+      at (h ∷ told) is rest = (0, s, refl, λ none. (cc))
 
   one_is_killed : (n : ℕ) (clients : List (Option (Stored T U C))) → 0 < length (collected given_at n clients) → SomeClient clients (λ s. s.part.is_killed ≡ true)
   one_is_killed n [] more = absurd (omega (arith, more))
@@ -60,10 +61,7 @@ module _ {T U C : Type 0} where
 
   pub cleanup_asks : (clients : List (Option (Stored T U C))) → 0 < count_leaving true clients + length (collected given_at 0 clients)
       → SomeClient clients (λ s. (s.made ++ s.part.waiting ≢ []) ⊎ (s.part.is_killed ≡ true))
-  cleanup_asks clients some = at (count_leaving true clients) refl
-    where
-      at : (n : ℕ) → count_leaving true clients ≡ n → SomeClient clients (λ s. (s.made ++ s.part.waiting ≢ []) ⊎ (s.part.is_killed ≡ true))
-      at zero none =
-          let (slot, s, here, killed) = one_is_killed 0 clients (omega (arith, some, none)) in (slot, s, here, inr killed)
-      at (suc n) more =
-          let (slot, s, here, is) = one_leaves true clients (omega (arith, more)) in (slot, s, here, inl is)
+  cleanup_asks clients some = elim (cases_lt 0 (count_leaving true clients)) [
+    | inl more ↦ let (slot, s, here, is) = one_leaves true clients more in (slot, s, here, inl is)
+    | inr none ↦ let (slot, s, here, killed) = one_is_killed 0 clients (omega (arith, some, none)) in (slot, s, here, inr killed)
+  ]

@@ -94,10 +94,8 @@ module _ {T U G C : Type 0} (w : World T G C) (id : ClientParts) (offer : Offer 
       at : (x0 x1 : Option (Stored T U C)) → Feels (seen_as [] x0) (λ p q. FlushesKilled w.sends p lacked sent q) lacked sent (seen_as [] x1)
           → n2 ++ [] ≡ n ++ to_gather true x1 → n3 ≡ n2 ++ ends_in id (option_map (emptied true) x1) → share_of id out.items ≡ given_in (option_map (emptied true) x1)
           → CleanedBy x0 n lacked (staying (option_map (emptied true) x1)) n3
-      at None None (u, (not, nothing, same)) told noted given = grind (arith, append-nil)
-      at None (Some s1) (u, (not, nothing, same)) told noted given = absurd (none-some s1.part (sym (ap (λ (x : Seen T U C). x.part) same)))
-      at (Some s) None (q, flushes, now) told noted given = absurd (none-some q (ap (λ (x : Seen T U C). x.part) now))
       at (Some s) (Some s1) (q, flushes, now) told noted given =
           cleaned_from s s1 lacked sent n n2 n3
           (subst (λ (p : Part T U C). FlushesKilled w.sends s.part lacked sent p) (sym (same_Some s1.part q (ap (λ (x : Seen T U C). x.part) now))) flushes)
           (ap (λ (x : Seen T U C). x.made) now) told noted given
+      at _ _ felt told noted given = grind (arith, append-nil, none-some)

@@ -1,9 +1,7 @@
 -- A cleanup of all clients, as a step of the server.
-use Rattle.std.proofs.Common.{◌≡◌, ◌+◌, ◌<◌, length, map, Bool, true, false, List, [], ◌++◌, Option, Ok, Err, Vec, refl, sym, ap, subst, ◌∙◌, arith}
-use mathlib.Core.Logic.{inl, inr}
+use Rattle.std.proofs.Common.{◌≡◌, ◌+◌, ◌<◌, length, map, Bool, true, List, [], ◌++◌, Option, Ok, Err, Vec, refl, sym, ap, subst, ◌∙◌, arith}
 use Rattle.std.specs.Global.{Global}
 use Rattle.std.specs.Option.{option_map_or}
-use Rattle.std.specs.Prelude.{◌⊎◌, slice_get}
 use Rattle.std.proofs.lemmas.Bool.{false≢true}
 use Rattle.wl_wire.specs.declared.error.OutOfMemory.{OutOfMemory}
 use Rattle.wl_server.specs.declared.notes.Happening.{Happening}
@@ -23,7 +21,7 @@ use Rattle.wl_server.specs.Server.{ServerState, Stored, client_at, notes_of}
 use Rattle.wl_server.specs.Steps.{StepOf}
 use Rattle.wl_server.proofs.CleanupSteps.Asking.{cleanup_asks}
 use Rattle.wl_server.proofs.CleanupSteps.Cleaning.{CleanedBy, cleaned_one}
-use Rattle.wl_server.proofs.CallSteps.Collecting.{Rises, given_for, given_rises, staying_for, collected_at, other_ends, own_ends}
+use Rattle.wl_server.proofs.CallSteps.Collecting.{Rises, given_for, given_rises, staying_for, ends_for}
 use Rattle.wl_server.proofs.CallSteps.Feeling.{each_felt, lacks_of, one_lacks, some_lacks, step_of, step_by}
 use Rattle.wl_server.proofs.CleanupSteps.Gathering.{notes_append, both_none}
 use Rattle.wl_server.proofs.CallSteps.Slots.{Kind}
@@ -46,7 +44,7 @@ module _ {T U G C : Type 0} (w : World T G C) (before : ServerState T U G C) whe
       (record { server = record before { clients = clients'; notes = notes'; numbers = numbers' }; refused = refused })
   cleaned_up refused clients' notes' out given are by numbers' first none_waits numbered anew = calls _ _ _ _ _
       (step_by w before _ refused lacked (λ id. (one id).0) _ refl (omega arith) tt tt (subst Rises (sym (are ∙ by.gave)) (given_rises 0 by.left)) tt
-      (λ is. inr (some_lacks flush refused before.clients by.flushed by.flushes is), λ h. was_refused h)
+      (grind (arith, false≢true, some_lacks flush refused before.clients by.flushed by.flushes, one_lacks flush refused before.clients by.flushed by.flushes))
       (record {
         told = by.told;
         ends = collected ends_at 0 by.left;
@@ -67,24 +65,15 @@ module _ {T U G C : Type 0} (w : World T G C) (before : ServerState T U G C) whe
       one : (id : ClientParts) → CleanedBy w id before.offer out (client_at id before.clients) (notes_of id before.notes) (lacked id) (client_at id clients') (notes_of id notes')
       one id =
           let (sent, felt) = each_felt flush refused before.clients by.flushed by.flushes [] id in
-          subst (λ (x : Option (Stored T U C)). CleanedBy w id before.offer out (client_at id before.clients) (notes_of id before.notes) (lacked id) x (notes_of id notes'))
-          (sym (ap (client_at id) by.stay ∙ staying_for id by.left))
+          rw (ap (client_at id) by.stay ∙ staying_for id by.left)
           (cleaned_one w id before.offer out (client_at id before.clients) (client_at id by.flushed) (client_at id by.left) (lacked id) sent
           (notes_of id before.notes) (notes_of id by.told) (notes_of id notes') felt
           (same_left true by.flushed before.notes by.left by.told by.gathers id) (none_left true by.left by.all id) (by.gathers.told id)
-          (ap (notes_of id) by.noted ∙ (notes_append id by.told _ ∙ ap (λ (l : List (Happening U)). notes_of id by.told ++ l) (collected_at
-          (notes_of id) ends_at id.slot refl (notes_append id) (other_ends id) 0 id.slot by.left (omega arith) ∙
-          (grind (arith, own_ends, slice_get by.left id.slot)))))
+          (ap (notes_of id) by.noted ∙ (notes_append id by.told _ ∙ ap (λ (l : List (Happening U)). notes_of id by.told ++ l) (ends_for id by.left)))
           (ap (share_of id) (are ∙ by.gave) ∙ given_for id by.left))
 
       none_left_of : (id : ClientParts) → option_map_or (λ s. s.made) (client_at id clients') [] ≡ []
-      none_left_of id =
-          ap (λ (o : Option (Stored T U C)). option_map_or (λ s. s.made) o []) (ap (client_at id) by.stay ∙ staying_for id by.left)
-          ∙ none_made (client_at id by.left) (none_left true by.left by.all id)
-
-      was_refused : (false ≡ true) ⊎ ((id : ClientParts) × (lacked id ≡ true)) → refused ≡ true
-      was_refused (inl grown) = absurd (false≢true grown)
-      was_refused (inr (id, lacks)) = one_lacks flush refused before.clients by.flushed by.flushes id lacks
+      none_left_of id = rw (ap (client_at id) by.stay ∙ staying_for id by.left) (none_made (client_at id by.left) (none_left true by.left by.all id))
 
   -- there is no memory for it
   not_cleaned : (e : OutOfMemory) → 0 < count_leaving true before.clients + length (collected given_at 0 before.clients) → AllNumbered before.clients

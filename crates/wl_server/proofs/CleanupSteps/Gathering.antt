@@ -1,8 +1,7 @@
 -- Gathering notes changes nothing of what is seen of any client.
-use Rattle.std.proofs.Common.{◌≡◌, ℕ, zero, suc, ◌+◌, ◌≤◌, Bool, true, false, List, [], ◌∷◌, ◌++◌, length, map, drop, Option, None, Some, is_some, refl, sym, ap, append_assoc, append-nil, arith}
+use Rattle.std.proofs.Common.{◌≡◌, ℕ, zero, suc, ◌+◌, ◌≤◌, Bool, true, false, List, [], ◌∷◌, ◌++◌, length, map, drop, Option, None, Some, refl, sym, ap, append_assoc, append-nil, arith}
 use Rattle.std.specs.Option.{option_map}
 use Rattle.std.specs.Prelude.{slice_get, slice_set}
-use Rattle.std.proofs.lemmas.Bool.{false≢true}
 use Rattle.std.proofs.lemmas.Grind.{flat_map-append}
 use Rattle.std.proofs.lemmas.List.{length-append, length-map, drop_more}
 use Rattle.std.proofs.lemmas.Option.{same_Some, none-some, get_or_from_slice_get, slice_get_within}
@@ -59,27 +58,15 @@ stored_map f none (x ∷ clients) (suc k) = stored_map f none clients k
 module _ {T U C : Type 0} (waits : Bool) where
   count_set : (clients : List (Option (Stored T U C))) (k : ℕ) (x y : Option (Stored T U C)) → slice_get clients k ≡ Some x
       → count_leaving waits (slice_set clients k y) + length (to_gather waits x) ≡ count_leaving waits clients + length (to_gather waits y)
-  count_set [] k x y here = absurd (false≢true (ap is_some here))
+  count_set [] k x y here = absurd (none-some x here)
   count_set (z ∷ clients) zero x y here = grind (arith, length, to_gather, same_Some)
-  count_set (z ∷ clients) (suc k) x y here = let more = count_set clients k x y here in omega (arith, more)
-
-  -- ---- one client's notes
-
-  pub gathers_none : (clients : List (Option (Stored T U C))) (notes : List (Note U)) → Gathers waits clients notes clients notes
-  gathers_none clients notes = record { rest = refl; told = λ id. refl; count = refl }
-
-  pub gathers_more : (clients : List (Option (Stored T U C))) (notes : List (Note U)) (clients' : List (Option (Stored T U C))) (notes' : List (Note U))
-      (clients'' : List (Option (Stored T U C))) (notes'' : List (Note U)) → Gathers waits clients notes clients' notes' → Gathers waits clients' notes' clients'' notes''
-      → Gathers waits clients notes clients'' notes''
-  gathers_more clients notes clients' notes' clients'' notes'' first more = grind (arith)
+  count_set (z ∷ clients) (suc k) x y here = grind (arith, count_set clients k x y here)
 
   -- ---- counts
 
   pub count_at : (clients : List (Option (Stored T U C))) (k : ℕ) (x : Option (Stored T U C)) → slice_get clients k ≡ Some x
       → length (to_gather waits x) ≤ count_leaving waits clients
-  count_at [] k x here = absurd (false≢true (ap is_some here))
-  count_at (z ∷ clients) zero x here = grind (arith, length, to_gather, same_Some)
-  count_at (z ∷ clients) (suc k) x here = let more = count_at clients k x here in omega (arith, more)
+  count_at clients k x here = grind (arith, count_set clients k x None here)
 
   -- ---- one note is moved
 

@@ -4,10 +4,9 @@ use Rattle.std.specs.Option.{option_map_or}
 use Rattle.std.specs.Prelude.{◌==◌, if◌then◌else◌, slice_get, slice_set}
 use Rattle.std.specs.List.Sorted.{IsPermutation}
 use Rattle.std.proofs.lemmas.Bool.{eqb-true, eq-eqb, ne_eqb, cases_lt}
-use Rattle.std.proofs.lemmas.List.{length-append, length-map, map-append, nil_from_length, drop_all, take_more}
+use Rattle.std.proofs.lemmas.List.{length-append, length-map, map-append, nil_from_length, drop_all, take_more, drop_more}
 use Rattle.std.proofs.lemmas.List.Sorted.{sum_by-IsPermutation}
 use Rattle.std.proofs.lemmas.List.Sums.{sum_by-append, sum_by-cons}
-use Rattle.std.proofs.lemmas.Option.{slice_get-get_or}
 use Rattle.wl_server.specs.declared.notes.Happening.{Happening}
 use Rattle.wl_server.specs.declared.notes.Note.{Note}
 use Rattle.wl_server.specs.declared.notes.queues.NotePlace.{NotePlace}
@@ -25,25 +24,12 @@ use Rattle.wl_server.proofs.CallSteps.Numbering.{times_stored}
 places_cons : (k : ℕ) (p : NotePlace) (order : List NotePlace) → places_at k (p ∷ order) ≡ (if p.slot == k then 1 else 0) + places_at k order
 places_cons k p order = sum_by-cons (λ (q : NotePlace). if q.slot == k then 1 else 0) p order
 
-places_drop : (order : List NotePlace) (i k : ℕ) (p : NotePlace) → slice_get order i ≡ Some p
-    → places_at k (drop i order) ≡ (if p.slot == k then 1 else 0) + places_at k (drop (i + 1) order)
-places_drop order i k p here = ap (places_at k) (rest_at order i p here) ∙ places_cons k p (drop (i + 1) order)
-
 pub places_moved : (k : ℕ) (order order' : List NotePlace) → IsPermutation order order' → places_at k order' ≡ places_at k order
 places_moved k order order' moves = sum_by-IsPermutation (λ (p : NotePlace). if p.slot == k then 1 else 0) order order' moves
 
 pub places_by_number : {U : Type 0} (waits : Bool) (slot : ℕ) (notes : List (ℕ × Happening U)) → map (place_of waits slot) notes ≡ map (place_at waits slot) (map (λ n. n.0) notes)
 places_by_number waits slot [] = refl
 places_by_number waits slot (n ∷ notes) = ap (λ (l : List NotePlace). place_of waits slot n ∷ l) (places_by_number waits slot notes)
-
-pub put_made_places : {U : Type 0} (slot : ℕ) (made : List (ℕ × Happening U)) (ws : List ℕ) (order order' : List NotePlace) → order' ≡ order ++ map (place_of false slot) made
-    → order' ≡ order ++ places_of false slot (record { made = map (λ n. n.0) made; waiting = ws })
-put_made_places slot made ws order order' is = grind (arith, places_by_number, append-nil, map, place_at)
-
-pub put_both_places : {U : Type 0} (slot : ℕ) (made waiting : List (ℕ × Happening U)) (order order' order'' : List NotePlace) → order' ≡ order ++ map (place_of false slot) made
-    → order'' ≡ order' ++ map (place_of true slot) waiting
-    → order'' ≡ order ++ places_of true slot (record { made = map (λ n. n.0) made; waiting = map (λ n. n.0) waiting })
-put_both_places slot made waiting order order' order'' is is' = grind (arith, place_of, append_assoc, places_by_number, place_at)
 
 no_places : (waits : Bool) (slot : ℕ) (ts : List NoteTimes) → count_places waits ts ≤ 0 → all_places waits slot ts ≡ []
 no_places waits slot [] few = refl
@@ -92,19 +78,19 @@ module _ {T U C : Type 0} (waits : Bool) where
       → Placed clients (slot + 1) order'
   placed_more clients slot x order order' here placed put = grind (arith, places_at, to_gather, stored_at, eqb-true, stored_is, other_of)
 
-  pub placed_all : (clients : List (Option (Stored T U C))) (slot : ℕ) (order : List NotePlace) → length clients ≤ slot → Placed clients slot order → (k : ℕ)
-      → places_at k order ≡ length (to_gather waits (stored_at k clients))
+  -- each slot has as many places as its client has notes
+  abbrev pub Left : List (Option (Stored T U C)) → List NotePlace → Type 0
+  Left clients order = (k : ℕ) → places_at k order ≡ length (to_gather waits (stored_at k clients))
+
+  pub placed_all : (clients : List (Option (Stored T U C))) (slot : ℕ) (order : List NotePlace) → length clients ≤ slot → Placed clients slot order → Left clients order
   placed_all clients slot order ends placed k = grind (arith, cases_lt, places_at, to_gather, stored_at, stored_past)
 
   -- ---- places that are left
 
-  -- each slot has as many places left as its client has notes
-  abbrev pub Left : List (Option (Stored T U C)) → List NotePlace → Type 0
-  Left clients order = (k : ℕ) → places_at k order ≡ length (to_gather waits (stored_at k clients))
-
   next_count : (clients : List (Option (Stored T U C))) (order : List NotePlace) (i : ℕ) (d : NotePlace) → i < length order → Left clients (drop i order) → (k : ℕ)
       → length (to_gather waits (stored_at k clients)) ≡ (if (get_or order i d).slot == k then 1 else 0) + places_at k (drop (i + 1) order)
-  next_count clients order i d within left k = sym (left k) ∙ places_drop order i k (get_or order i d) (slice_get-get_or order i d within)
+  next_count clients order i d within left k =
+      sym (left k) ∙ (ap (places_at k) (drop_more order i d within) ∙ places_cons k (get_or order i d) (drop (i + 1) order))
 
   -- ---- the numbers that are left
 

@@ -1,5 +1,5 @@
 -- Killed clients leave, slot by slot.
-use Rattle.std.proofs.Common.{◌≡◌, ℕ, zero, suc, ◌+◌, ◌<◌, ◌≤◌, Bool, true, false, List, [], ◌∷◌, ◌++◌, length, map, min, drop, Option, None, Some, is_some, Result, refl, ap, ◌∙◌, arith, append_assoc, append-nil}
+use Rattle.std.proofs.Common.{◌≡◌, ℕ, zero, suc, ◌+◌, ◌<◌, ◌≤◌, Bool, true, false, List, [], ◌∷◌, ◌++◌, length, map, drop, Option, None, Some, is_some, Result, refl, ap, ◌∙◌, arith, append_assoc, append-nil}
 use mathlib.Core.Bool.{beq}
 use Rattle.std.specs.FinMap.{entries}
 use Rattle.std.specs.Prelude.{◌==◌, slice_get, slice_set}
@@ -68,6 +68,10 @@ module _ {T U C : Type 0} where
 
   -- ---- slot by slot
 
+  collected_long : {A : Type 0} (give : ℕ → Option (Stored T U C) → List A) (k : ℕ) (clients : List (Option (Stored T U C))) (x : Option (Stored T U C)) → slice_get clients k ≡ Some x
+      → length (collected give k (drop k clients)) ≡ length (give k x) + length (collected give (k + 1) (drop (k + 1) clients))
+  collected_long give k clients x here = ap (λ l. length (collected give k l)) (rest_at clients k x here) ∙ length-append (give k x) (collected give (k + 1) (drop (k + 1) clients))
+
   pub part_length : {A : Type 0} (give : ℕ → Option (Stored T U C) → List A) (n slot k : ℕ) (clients : List (Option (Stored T U C))) (x : Option (Stored T U C)) → slot ≡ n + k
       → slice_get clients k ≡ Some x → length (give slot x) ≤ length (collected give n clients)
   part_length give n slot k [] x at here = absurd (none-some x here)
@@ -97,48 +101,12 @@ module _ {T U C : Type 0} where
   pub leave_room : {A : Type 0} (give : ℕ → Option (Stored T U C) → List A) (slot : ℕ) (start : List (Option (Stored T U C))) (has has' : List A) (x : Option (Stored T U C)) (n n' room room' : ℕ)
       → has' ++ collected give slot (drop slot start) ≡ has ++ collected give 0 start → slice_get start slot ≡ Some x → n ≡ length has → n' ≡ length has'
       → n + length (collected give 0 start) ≤ room → room' ≡ room → n' + length (give slot x) ≤ room'
-  leave_room give slot start has has' x n n' room room' are here is is' fits same =
-      omega (
-        arith,
-        ap length are,
-        length-append has' (collected give slot (drop slot start)),
-        length-append has (collected give 0 start),
-        is,
-        is',
-        fits,
-        same,
-        ap (λ l. length (collected give slot l)) (rest_at start slot x here),
-        length-append (give slot x) (collected give (slot + 1) (drop (slot + 1) start)),
-      )
+  leave_room give slot start has has' x n n' room room' are here is is' fits same = grind (arith, length-append, ap length are, collected_long give slot start x here)
 
   pub leave_ends : (slot : ℕ) (start now : List (Option (Stored T U C))) (notes notes' : List (Note U)) (given given' : List (ClientParts × T)) → Leave slot start now notes notes' given given'
       → length start ≤ slot → length now ≡ length start
       → (now ≡ all_staying start) × (notes' ≡ notes ++ collected ends_at 0 start) × (given' ≡ given ++ collected given_at 0 start)
   leave_ends slot start now notes notes' given given' before past len = grind (arith, map_itself, staying, slice_get_within, append-nil, collected, ends_at, drop_all, given_at)
-
-  -- ---- how many they are
-
-  pub counted_more : {A : Type 0} (give : ℕ → Option (Stored T U C) → List A) (clients : List (Option (Stored T U C))) (slot : ℕ) (x : Option (Stored T U C)) (count one count' : ℕ)
-      → slice_get clients slot ≡ Some x → (count < 0xFFFFFFFFFFFFFFFF → length (collected give 0 clients) ≤ count + length (collected give slot (drop slot clients)))
-      → (one < 0xFFFFFFFFFFFFFFFF → length (give slot x) ≤ one) → count' ≡ min (count + one) 0xFFFFFFFFFFFFFFFF
-      → count' < 0xFFFFFFFFFFFFFFFF → length (collected give 0 clients) ≤ count' + length (collected give (slot + 1) (drop (slot + 1) clients))
-  counted_more give clients slot x count one count' here before some is below =
-      omega (
-        arith,
-        is,
-        below,
-        before (omega (arith, is, below)),
-        some (omega (arith, is, below)),
-        ap (λ l. length (collected give slot l)) (rest_at clients slot x here),
-        length-append (give slot x) (collected give (slot + 1) (drop (slot + 1) clients)),
-      )
-
-  pub counted_fewer : {A : Type 0} (give : ℕ → Option (Stored T U C) → List A) (clients : List (Option (Stored T U C))) (slot : ℕ) (x : Option (Stored T U C)) (count one count' : ℕ)
-      → slice_get clients slot ≡ Some x → count + length (collected give slot (drop slot clients)) ≤ length (collected give 0 clients)
-      → one ≤ length (give slot x) → count' ≡ min (count + one) 0xFFFFFFFFFFFFFFFF
-      → count' + length (collected give (slot + 1) (drop (slot + 1) clients)) ≤ length (collected give 0 clients)
-  counted_fewer give clients slot x count one count' here before some is =
-      omega (arith, is, before, some, ap (λ l. length (collected give slot l)) (rest_at clients slot x here), length-append (give slot x) (collected give (slot + 1) (drop (slot + 1) clients)))
 
 -- ---- the notes of ends are in the order of the slots
 

@@ -1,5 +1,5 @@
 -- How a handler comes to its promise: by joining what its calls say of themselves.
-use Rattle.std.proofs.Common.{◌≡◌, true, List, [], ◌∷◌, ◌++◌, refl, subst, sym}
+use Rattle.std.proofs.Common.{◌≡◌, true, List, [], ◌∷◌, ◌++◌, refl}
 use Rattle.wl_server.specs.declared.runs.step.Reply.{Reply}
 use Rattle.wl_server.specs.declared.runs.step.Step.{Step}
 use Rattle.wl_server.specs.Backend.{BackendState, Calls, IsChange}
@@ -8,7 +8,7 @@ use Rattle.wl_server.proofs.OverRuns.Alone.IsolationLaw.{join_runs}
 use Rattle.wl_server.specs.PartStep.{Asked, World}
 use Rattle.wl_server.specs.Reached.{AllSpare, Reached, spares}
 use Rattle.wl_server.specs.Server.{ServerState}
-use Rattle.wl_server.specs.Steps.{Entry}
+use Rattle.wl_server.specs.Steps.{Entry, OneStep}
 
 module _ {T U G C : Type 0} where
   pub all_spare : (id : ClientParts) (run more : List (Entry T U G C)) → AllSpare id run → AllSpare id more → AllSpare id (run ++ more)
@@ -19,27 +19,19 @@ module _ {T U G C : Type 0} where
 pub reached_none : {T U G C : Type 0} {w : World T G C} {id : ClientParts} {s : ServerState T U G C} → Reached w id s s
 reached_none = record { run = []; leads = refl; spared = tt }
 
+reached_one : {T U G C : Type 0} {w : World T G C} {id : ClientParts} {before after : ServerState T U G C} {e : Entry T U G C} → OneStep w before e after → spares id e.call ≡ true
+    → Reached w id before after
+reached_one {after = after} {e = e} one spared = record { run = e ∷ []; leads = (after, one, refl); spared = (spared, tt) }
+
 -- one call, which is not about reading or ending this client's action
 pub reached_by : {T U G C : Type 0} {w : World T G C} {id : ClientParts} {before after : BackendState T U G C} {s : Step T U G C} {answer : Reply T U}
     → Calls w before s answer after → spares {T = T} {U = U} {G = G} {C = C} id (Asked s answer) ≡ true → Reached w id before.server after.server
-reached_by {T} {U} {G} {C} {w} {id} {before} {after} {s} {answer} calls spared =
-    let (e, is, refused, one) = calls.step in
-    record {
-      run = e ∷ [];
-      leads = (after.server, one, refl);
-      spared = (subst (λ (c : _). spares id c ≡ true) (sym is) spared, tt);
-    }
+reached_by calls spared = let (e, is, refused, one) = calls.step in reached_one one (rw is spared)
 
 -- a change of a client's transport
 pub reached_change : {T U G C : Type 0} {w : World T G C} {id target : ClientParts} {before after : ServerState T U G C} {t : T}
     → IsChange w before target t after → Reached w id before after
-reached_change {T} {U} {G} {C} {w} {id} {target} {before} {after} {t} change =
-    let (e, is, refused, one) = change.step in
-    record {
-      run = e ∷ [];
-      leads = (after, one, refl);
-      spared = (subst (λ (c : _). spares id c ≡ true) (sym is) refl, tt);
-    }
+reached_change change = let (e, is, refused, one) = change.step in reached_one one (rw is refl)
 
 -- one part behind another
 pub reached_both : {T U G C : Type 0} {w : World T G C} {id : ClientParts} {before mid after : ServerState T U G C}

@@ -136,8 +136,7 @@ module _ {H T U G C : Type 0} (w : World T G C) (answers : Answering H T U G C) 
       → IsDispatched w answers id h before calls lacked answer h' mid → (ends : EndsDispatch w before calls lacked mid answer result after)
       → receives_over id (calls ++ ends.cleanup ∷ []) ≤ 64
   dispatch_bounded h h' before mid after calls lacked answer result serves ends =
-      let few = run_bounded h h' before mid calls lacked answer serves in
-      omega (arith, few, one_quiet w id mid after.server ends.cleanup (ap (λ (c : Call T U G C). reads_of id c) ends.cleanup_is) ends.cleans, over_both id calls (ends.cleanup ∷ []))
+      omega (arith, run_bounded h h' before mid calls lacked answer serves, one_quiet w id mid after.server ends.cleanup (ap (λ (c : Call T U G C). reads_of id c) ends.cleanup_is) ends.cleans, over_both id calls (ends.cleanup ∷ []))
 
 -- ---- clients one after another
 

@@ -1,6 +1,7 @@
 -- From what the calls of a dispatch say of themselves to what it does.
 use Rattle.std.proofs.Common.{◌≡◌, ◌<◌, ◌≤◌, ℕ, ◌+◌, length, get_or, take, arith, List, [], ◌∷◌, ◌++◌, append_assoc, append-nil, Bool, false, Option, None, Some, is_some, Result, Ok, Err, ap, refl, sym, ◌∙◌, true≢false}
-use Rattle.std.specs.Prelude.{◌||◌}
+use Rattle.std.specs.Prelude.{◌||◌, MatchOption}
+use Rattle.std.specs.Option.{option_map}
 use Rattle.std.proofs.lemmas.List.{take_all, take_more}
 use Rattle.wl_wire.specs.declared.error.IoFault.{IoFault}
 use Rattle.wl_server.specs.declared.error.ActionError.{ActionError}
@@ -92,31 +93,24 @@ module _ {H T U G C : Type 0} (w : World T G C) (answers : Answering H T U G C) 
         fewer = λ none. absurd (true≢false (ap is_some none));
       })
 
-  pub serves_refused : (h h' : H) (r r' : Reading) (before found left : BackendState T U G C) (a : Action) (error : FinishError) (f : IoFault) (after : BackendState T U G C) (was read : Bool)
-      → was ≡ before.refused → read ≡ found.refused → Calls w before (step.NextActionWithin id r) (reply.NextActionWithin (Ok a) r') found
-      → (run : List (Entry T U G C)) × Handles w answers id h found a run left.refused (Some error) h' left.server → f ≡ fault_of_end error → after ≡ keeping (was || read) left
-      → MakesRound w answers id h r before (Some f) h' r' after
-  serves_refused h h' r r' before found left a error f after was read was_is read_is calls handles is kept =
-      let (run, round) = round_by h h' r r' before found left.server a left.refused (Some error) calls handles in rw (kept, is) (record {
+  pub serves_handled : (h h' : H) (r r' : Reading) (before found left : BackendState T U G C) (a : Action) (why : Option FinishError) (end : Option IoFault) (after : BackendState T U G C)
+      (was read : Bool) → was ≡ before.refused → read ≡ found.refused → Calls w before (step.NextActionWithin id r) (reply.NextActionWithin (Ok a) r') found
+      → (run : List (Entry T U G C)) × Handles w answers id h found a run left.refused why h' left.server → end ≡ option_map fault_of_end why → after ≡ keeping (was || read) left
+      → MakesRound w answers id h r before end h' r' after
+  serves_handled h h' r r' before found left a why end after was read was_is read_is calls handles is kept =
+      let (run, round) = round_by h h' r r' before found left.server a left.refused why calls handles in rw (kept, is) (record {
         run = run;
         lacked = found.refused || left.refused;
-        round = not_ended error round refl;
+        round = at why run round;
         refused = grind (arith, or_assoc, was_is, read_is);
-        fewer = λ none. absurd (true≢false (ap is_some none));
+        fewer = λ none. round_fewer w id answers h h' r r' before found left.server a handles.0 left.refused why calls handles.1;
       })
-
-  pub serves_round : (h h' : H) (r r' : Reading) (before found left : BackendState T U G C) (a : Action) (after : BackendState T U G C) (was read : Bool)
-      → was ≡ before.refused → read ≡ found.refused → Calls w before (step.NextActionWithin id r) (reply.NextActionWithin (Ok a) r') found
-      → (run : List (Entry T U G C)) × Handles w answers id h found a run left.refused None h' left.server → after ≡ keeping (was || read) left
-      → MakesRound w answers id h r before None h' r' after
-  serves_round h h' r r' before found left a after was read was_is read_is calls handles kept =
-      let (run, round) = round_by h h' r r' before found left.server a left.refused None calls handles in rw kept (record {
-        run = run;
-        lacked = found.refused || left.refused;
-        round = round;
-        refused = grind (arith, or_assoc, was_is, read_is);
-        fewer = λ none. round_fewer w id answers h h' r r' before found left.server a handles.0 left.refused None calls handles.1;
-      })
+    where
+      at : (why : Option FinishError) (run : List (Entry T U G C)) → Round w answers id h r before.server run (found.refused || left.refused) why h' r' left.server
+          → MatchOption (option_map fault_of_end why) (Round w answers id h r before.server run (found.refused || left.refused) None h' r' left.server)
+          (λ f. Last w answers id h r before.server run (found.refused || left.refused) f h' r' left.server)
+      at None run round = round
+      at (Some error) run round = not_ended error round refl
 
   -- ---- actions one after another
 

@@ -1,5 +1,5 @@
 -- A message for each entry of a list, one after another.
-use Rattle.std.proofs.Common.{◌≡◌, ◌∙◌, ◌<◌, ◌≤◌, ℕ, ◌+◌, List, [], ◌∷◌, ◌++◌, length, map, take, drop, Result, Ok, Err, sym, ap, subst, ◌≢◌, arith, inr, refl, true}
+use Rattle.std.proofs.Common.{◌≡◌, ◌<◌, ◌≤◌, ℕ, ◌+◌, List, [], ◌∷◌, length, map, take, drop, Result, Ok, Err, ◌≢◌, arith, inr, refl, true}
 use Rattle.std.specs.Prelude.{get_or}
 use Rattle.std.proofs.lemmas.List.{map-append, take-append-drop, take_all, take_more}
 use Rattle.wl_wire.specs.declared.error.IoFault.{IoFault}
@@ -22,14 +22,13 @@ module _ {T A : Type 0} (sends : T → Queue → Result ℕ IoFault → T → Ty
   pub first_more : (before mid after : LinkState T) (xs : List A) (n : ℕ) (x : A) (answer : Result (Unit {0}) IoFault) → n < length xs → x ≡ get_or xs n x
       → PutsFirst before xs n (Ok tt) mid → Wrote sends mid (say x).message answer after → PutsFirst before xs (n + 1) answer after
   first_more before mid after xs n x answer below here puts wrote =
-      subst (λ (ms : List Said). Puts sends before ms answer after) (sym (ap (map say) (take_more xs n x below ∙ ap (λ (y : A). take n xs ++ y ∷ []) (sym here)) ∙ map-append say (take n xs) (x ∷ [])))
+      rw (take_more xs n x below, ← here, map-append)
       (puts_more sends before mid after (map say (take n xs)) (say x ∷ []) answer puts (puts_one sends mid after (say x) answer wrote))
 
   -- one of them failed
   pub first_failed : (before after : LinkState T) (xs : List A) (n : ℕ) (f : IoFault) → PutsFirst before xs n (Err f) after → Puts sends before (map say xs) (Err f) after
   first_failed before after xs n f puts =
-      subst (λ (ms : List Said). Puts sends before ms (Err f) after) (sym (map-append say (take n xs) (drop n xs)) ∙ ap (map say) (take-append-drop n xs))
-      (puts_failed sends before after (map say (take n xs)) (map say (drop n xs)) f puts)
+      rw (← take-append-drop n xs, map-append) (puts_failed sends before after (map say (take n xs)) (map say (drop n xs)) f puts)
 
   -- they were all put
   pub first_all : (before after : LinkState T) (xs : List A) (n : ℕ) → length xs ≤ n → PutsFirst before xs n (Ok tt) after → Puts sends before (map say xs) (Ok tt) after

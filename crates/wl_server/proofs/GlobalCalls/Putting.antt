@@ -1,13 +1,10 @@
 -- How messages that are written one after another are a list of messages that is put.
-use Rattle.std.proofs.Common.{◌≡◌, ℕ, List, [], ◌∷◌, ◌++◌, Result, Ok, Err, refl, sym, append-nil, inl}
+use Rattle.std.proofs.Common.{ℕ, List, [], ◌∷◌, ◌++◌, Result, Ok, Err, refl, sym, append-nil, inl}
 use Rattle.wl_wire.specs.declared.error.IoFault.{IoFault}
 use Rattle.wl_link.specs.Exchange.{Queue, Sending}
 use Rattle.wl_link.specs.Link.{LinkState, Wrote}
 use Rattle.wl_link.specs.Puts.{PutBy, Said}
 use Rattle.wl_server.specs.Inside.Puts.{Puts}
-
-pub ok_err : (f : IoFault) → ◌≡◌ {A = Result (Unit {0}) IoFault} (Ok tt) (Err f) → ⊥
-ok_err f same = cc
 
 module _ {T : Type 0} (sends : T → Queue → Result ℕ IoFault → T → Type 0) where
   pub puts_none : (link : LinkState T) → Puts sends link [] (Ok tt) link
@@ -30,12 +27,12 @@ module _ {T : Type 0} (sends : T → Queue → Result ℕ IoFault → T → Type
   puts_more before mid after (m ∷ ms) others answer (es, put, (one, Ok u, next, by, (rest, more', is, are, puts))) more =
       let behind = puts_more next mid after ms others answer (rest, more', puts) more in
       (one ++ behind.0, m ∷ behind.1, (one, Ok u, next, by, (behind.0, behind.1, refl, refl, behind.2)))
-  puts_more before mid after (m ∷ ms) others answer (es, put, (one, Err f, next, by, (is, are, failed, same))) more = absurd (ok_err f failed)
+  puts_more before mid after (m ∷ ms) others answer (es, put, (one, Err f, next, by, (is, are, failed, same))) more = absurd cc
 
   -- the first ones failed
   pub puts_failed : (before after : LinkState T) (first others : List Said) (f : IoFault) → Puts sends before first (Err f) after
       → Puts sends before (first ++ others) (Err f) after
-  puts_failed before after [] others f (es, put, (none, nil, is, same)) = absurd (ok_err f (sym is))
+  puts_failed before after [] others f (es, put, (none, nil, is, same)) = absurd cc
   puts_failed before after (m ∷ ms) others f (es, put, (one, Ok u, next, by, (rest, more, is, are, puts))) =
       let behind = puts_failed next after ms others f (rest, more, puts) in
       (one ++ behind.0, m ∷ behind.1, (one, Ok u, next, by, (behind.0, behind.1, refl, refl, behind.2)))

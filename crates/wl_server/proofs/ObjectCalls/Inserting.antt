@@ -1,8 +1,8 @@
 -- A new client at a free slot, as a step of the server.
-use Rattle.std.proofs.Common.{◌≡◌, ℕ, ◌+◌, ◌<◌, ◌≤◌, Bool, true, false, List, [], ◌∷◌, ◌++◌, length, map, Option, None, Some, is_some, IsSome, Result, Ok, Err, refl, sym, subst, arith, append-nil, true≢false}
-use Rattle.std.specs.Prelude.{MatchBool, MatchOption, nat_lt, slice_get, slice_set}
+use Rattle.std.proofs.Common.{◌≡◌, ℕ, ◌+◌, ◌<◌, ◌≤◌, Bool, true, false, List, [], ◌∷◌, ◌++◌, length, map, Option, None, Some, is_some, IsSome, Result, Ok, Err, refl, sym, subst, arith, append-nil}
+use Rattle.std.specs.Prelude.{MatchBool, MatchOption, nat_lt, slice_get, slice_set, ◌==◌}
 use Rattle.std.specs.Result.{OkIff, result_ok}
-use Rattle.std.proofs.lemmas.Bool.{false≢true, ltb-true, ltb-false, eq-eqb}
+use Rattle.std.proofs.lemmas.Bool.{false≢true, ltb-true, ltb-false, eq-eqb, eqb-true}
 use Rattle.std.proofs.lemmas.Option.{slice_get-get_or}
 use Rattle.wl_server.specs.declared.error.InsertClientError.TheVariants as insert
 use Rattle.wl_server.specs.declared.notes.Happening.TheVariants.{Initialized}
@@ -23,15 +23,12 @@ use Rattle.wl_server.specs.PartStep.{Asked, Inserted, Unfelt, World}
 use Rattle.wl_server.specs.Server.{Seen, ServerState, Stored, if_serial, notes_of, seen_as, stored_at}
 use Rattle.wl_server.specs.Steps.{IsLeastFree, LacksSlot}
 use Rattle.wl_sets.proofs.Lists.{get_set_other, get_set_same, other_of}
-use Rattle.wl_server.proofs.CallSteps.Slots.{client_absent, client_present, compare, did_at, held_of, same_serials, same_slots, stored_past, same_is}
+use Rattle.wl_server.proofs.CallSteps.Slots.{client_present, did_at, held_of, stored_past, same_is}
 use Rattle.wl_server.proofs.CallSteps.Numbering.{all_same}
 use Rattle.wl_server.proofs.CallSteps.Feeling.{step_of}
 
 module _ {T U C : Type 0} where
   -- ---- slots
-
-  pub none_of : (x : Option (Stored T U C)) → is_some x ≡ false → x ≡ None
-  none_of h1 h = grind (arith, true≢false)
 
   -- the first free place is a slot, or each slot is taken
   pub slot_of : {E : Type 0} (clients : List (Option (Stored T U C))) (n : ℕ) (r : Result ℕ E) (o : Option ℕ) → stored_at n clients ≡ None
@@ -77,7 +74,7 @@ module _ {T U G C : Type 0} (w : World T G C) where
         refl,
         grind (arith, seen_as, fresh_part, append-nil, same_is new id same, client_present new clients' s here, is, free, if_serial, stored_at),
       )
-      at false other = grind (arith, compare new id, eq-eqb, same_slots, same_serials, seen_as, notes_of, client_absent, slice_get, is, here, free, others, if_serial, stored_at, other_of, true≢false)
+      at false other = grind (arith, eq-eqb, eqb-true, seen_as, notes_of, slice_get, is, here, free, others, if_serial, other_of, new.slot == id.slot, new.serial == id.serial)
 
   -- ---- the step
 

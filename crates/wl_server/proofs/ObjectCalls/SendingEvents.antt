@@ -1,5 +1,5 @@
 -- What an event that is sent does, from the steps of its sending.
-use Rattle.std.proofs.Common.{◌≡◌, ◌∙◌, ℕ, Bool, true, false, List, [], ◌∷◌, ◌++◌, append-nil, map, Option, Some, IfSome, Result, Ok, Err, refl, sym, ap, subst, inl, inr, arith, is_some}
+use Rattle.std.proofs.Common.{◌≡◌, ◌∙◌, ℕ, Bool, true, false, List, [], ◌∷◌, ◌++◌, append-nil, map, Option, Some, IfSome, Result, Ok, Err, refl, ap, subst, inl, inr, arith, is_some}
 use Rattle.std.proofs.lemmas.Bool.{false≢true}
 use Rattle.wl_wire.specs.declared.error.IoFault.{IoFault}
 use Rattle.wl_wire.specs.declared.argument.Argument.{Argument}
@@ -119,24 +119,16 @@ module _ {T U C : Type 0} (client : ClientParts) (m : SessionMessage) (sender : 
             let did : List (Deed U) = Put (said m) ∷ t.0 in (
               map Sent es ++ did,
               part_of (record { core = closing c told; link = after }),
-              inr (es, did, Ok u, mid, wrote, (t.0, subst (λ (b : Bool). Tells sends (ends_sender client (core_of s.part) m sender ends) mid b t.0 (part_of (record { core = closing c told; link = after }))) (sym lacked-is) t.1, refl, refl), refl),
+              inr (es, did, Ok u, mid, wrote, (t.0, rw lacked-is t.1, refl, refl), refl),
               after-is (map Sent es ++ did) (notes_behind es did ∙ t.2),
             )
         by (Err f) wrote went (told-err, same) =
             let t = told_closed s.part ends mid f in
+            let lacks : lacked ≡ false = lacked-is ∙ ap lacks_memory told-err ∙ went in
             let q : Part T U C = part_of (record { core = closing c told; link = after }) in (
               map Sent es ++ t.0,
               q,
-              inr (
-                es,
-                t.0,
-                Err f,
-                mid,
-                wrote,
-                subst (λ (b : Bool). SentAs sends client s.part m sender ends (Err f) mid (Ok tt) b t.0 q) (sym (lacked-is ∙ ap lacks_memory told-err ∙ went))
-                    (sent_failed s.part q ends f mid t.0 went (rw (told-err, same) t.1)),
-                refl,
-              ),
+              inr (es, t.0, Err f, mid, wrote, rw lacks (sent_failed s.part q ends f mid t.0 went (rw (told-err, same) t.1)), refl),
               after-is (map Sent es ++ t.0) (notes_behind es t.0 ∙ rw told-err t.2),
             )
 

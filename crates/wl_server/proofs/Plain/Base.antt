@@ -10,10 +10,10 @@ use Rattle.wl_server.specs.Deeds.{Deed, notes_in}
 use Rattle.wl_server.specs.Ids.{ClientParts, same_client, IdParts}
 use Rattle.wl_server.specs.Part.{Part, named}
 use Rattle.wl_server.specs.Lookups.{and_then}
-use Rattle.wl_server.specs.PartStep.{Asked, Call, OfClient, OnPart, PartCall, PartStep, World}
+use Rattle.wl_server.specs.PartStep.{Asked, Call, OfClient, OnPart, PartCall, PartStep, Unfelt, World}
 use Rattle.wl_server.specs.Plain.{GlobalsStay, IsUnchanged, OtherClientsStay, client_in, notes_made_in, object_in}
-use Rattle.wl_server.specs.Server.{Seen, seen}
-use Rattle.wl_server.specs.Steps.{Entry, IsRefused, Makes, inserted_by, lacks_growth, offer_after}
+use Rattle.wl_server.specs.Server.{Seen, seen, ServerState}
+use Rattle.wl_server.specs.Steps.{Entry, IsRefused, Makes, inserted_by, lacks_growth, offer_after, OneStep}
 use Rattle.wl_server.proofs.CallSteps.Slots.{same_self}
 pub use Rattle.wl_server.proofs.CallSteps.Slots.{same_is}
 
@@ -111,12 +111,16 @@ own id s R missing lacked did t h = grind (arith, true≢false, same_client id i
 
 -- ---- a call about one client
 
+-- what a call may do to a client: whether memory was refused, the deeds, and the part before and after
+abbrev pub Change : (T U C : Type 0) → Type 1
+Change T U C = Bool → List (Deed U) → Part T U C → Part T U C → Type 0
+
 -- what it comes to for that client, whether memory was refused to it or not: it is not stored, or its part changes so
-pub data OnOne {T U C : Type 0} (R : Bool → List (Deed U) → Part T U C → Part T U C → Type 0) (missing : Type 0) (s : Seen T U C) (lacked : Bool) (t : Seen T U C) : Type 0 where
+pub data OnOne {T U C : Type 0} (R : Change T U C) (missing : Type 0) (s : Seen T U C) (lacked : Bool) (t : Seen T U C) : Type 0 where
   not_stored : s.part ≡ None → missing → lacked ≡ false → t ≡ s → OnOne R missing s lacked t
   became : (p q : Part T U C) (did : List (Deed U)) → s.part ≡ Some p → R lacked did p q → t ≡ record { part = Some q; made = s.made ++ notes_in did } → OnOne R missing s lacked t
 
-one_of : {T U C : Type 0} (id : ClientParts) (R : Bool → List (Deed U) → Part T U C → Part T U C → Type 0) (missing : Type 0) (s : Seen T U C) (lacked : Bool) (did : List (Deed U)) (t : Seen T U C)
+pub one_of : {T U C : Type 0} (id : ClientParts) (R : Change T U C) (missing : Type 0) (s : Seen T U C) (lacked : Bool) (did : List (Deed U)) (t : Seen T U C)
     → OfClient (same_client id id) s (R lacked did) missing lacked did t → OnOne R missing s lacked t
 one_of id R missing s lacked did t h =
     elim (either_option s.part (own id s (R lacked did) missing lacked did t h)) [
@@ -125,40 +129,51 @@ one_of id R missing s lacked did t h =
     ]
 
 -- what was noted stays where nothing is noted
-made_own : {T U C : Type 0} {R : Bool → List (Deed U) → Part T U C → Part T U C → Type 0} {missing : Type 0} {s t : Seen T U C} {lacked : Bool} → OnOne R missing s lacked t
+made_own : {T U C : Type 0} {R : Change T U C} {missing : Type 0} {s t : Seen T U C} {lacked : Bool} → OnOne R missing s lacked t
     → ((did : List (Deed U)) (p q : Part T U C) → R lacked did p q → notes_in did ≡ []) → t.made ≡ s.made
 made_own h silent = grind (arith, append-nil)
 
 -- So it does to the client, and nothing else has changed. Memory was refused in it exactly if it was to the client.
-pub record IsOfOne {T U G C : Type 0} (before after : BackendState T U G C) (target : ClientParts) (R : Bool → List (Deed U) → Part T U C → Part T U C → Type 0)
+pub record IsOfOne {T U G C : Type 0} (before after : BackendState T U G C) (target : ClientParts) (R : Change T U C)
     (missing : Type 0) : Type 0 where
   pub own : OnOne R missing (seen target before.server) after.refused (seen target after.server)
   pub clients : OtherClientsStay before target after
   pub globals : GlobalsStay before after
   pub last : after.server.last_client ≡ before.server.last_client
 
--- a call is so if what it is of each client is
-pub of_one : {T U G C : Type 0} {w : World T G C} {before after : BackendState T U G C} {call : Call T U G C} → Makes w before.server call after.refused after.server → (target : ClientParts)
-    → (R : ClientParts → Bool → List (Deed U) → Part T U C → Part T U C → Type 0) (missing : Type 0)
-    → ((id : ClientParts) (s t : Seen T U C) (lacked : Bool) (did : List (Deed U)) → PartCall w id before.server.offer call s lacked did t
-    → OfClient (same_client target id) s (R id lacked did) missing lacked did t)
-    → lacks_growth call ≡ false → offer_after before.server.offer call ≡ before.server.offer → inserted_by call ≡ 0 → IsOfOne before after target (R target) missing
-of_one {w = w} {before = before} {after = after} {call = call} (e, is, refused, step) target R missing by growth offer none =
-    let each : (id : ClientParts) → OfClient (same_client target id) (seen id before.server) (R id (e.lacks id) (e.did id)) missing (e.lacks id) (e.did id) (seen id after.server)
-    = λ id. by id _ _ _ _ (subst (λ (c : Call _ _ _ _). PartCall w id before.server.offer c (seen id before.server) (e.lacks id) (e.did id) (seen id after.server)) is (step.each id)) in
-    let lacks : after.refused ≡ e.lacks target
-    = sym refused ∙ lacks_as target e step.refused (ap lacks_growth is ∙ growth) (λ other differ. (when_false _ (same_client target other) differ (each other)).0) in
-    record {
-      own = subst (λ (b : Bool). OnOne (R target) missing (seen target before.server) b (seen target after.server)) (sym lacks) (one_of target (R target) missing _ _ _ _ (each target));
-      clients = λ other differ. (when_false _ (same_client target other) differ (each other)).2;
-      globals = step.offer ∙ (ap (offer_after before.server.offer) is ∙ offer);
-      last = grind (arith, step.last);
-    }
+-- what a call is of a client
+pub part_of_call : {T U G C : Type 0} {w : World T G C} {before after : ServerState T U G C} {e : Entry T U G C} {call : Call T U G C} → OneStep w before e after → e.call ≡ call → (id : ClientParts)
+    → PartCall w id before.offer call (seen id before) (e.lacks id) (e.did id) (seen id after)
+part_of_call by is id = rw is at (by.each id)
 
-module _ {T U G C : Type 0} {before after : BackendState T U G C} {target : ClientParts} {R : Bool → List (Deed U) → Part T U C → Part T U C → Type 0}
+module _ {T U G C : Type 0} {w : World T G C} {before after : BackendState T U G C} {call : Call T U G C} (made : Makes w before.server call after.refused after.server) where
+  -- a call is so if this is what it is of its client, and it is nothing of the others
+  pub of_own : (target : ClientParts) (R : Change T U C) (missing : Type 0) → OnOne R missing (seen target before.server) (made.0.lacks target) (seen target after.server)
+      → ((id : ClientParts) → same_client target id ≡ false → Unfelt (seen id before.server) (made.0.lacks id) (made.0.did id) (seen id after.server))
+      → lacks_growth call ≡ false → offer_after before.server.offer call ≡ before.server.offer → inserted_by call ≡ 0 → IsOfOne before after target R missing
+  of_own target R missing own others growth offer none =
+      let (e, is, refused, step) = made in
+      let lacks : after.refused ≡ e.lacks target = sym refused ∙ lacks_as target e step.refused (ap lacks_growth is ∙ growth) (λ other differ. (others other differ).0) in
+      record {
+        own = rw lacks own;
+        clients = λ other differ. (others other differ).2;
+        globals = step.offer ∙ (ap (offer_after before.server.offer) is ∙ offer);
+        last = grind (arith, step.last);
+      }
+
+  -- so it is if this is what it is of each client
+  pub of_one : (target : ClientParts) (R : ClientParts → Change T U C) (missing : Type 0)
+      → ((id : ClientParts) (s t : Seen T U C) (lacked : Bool) (did : List (Deed U)) → PartCall w id before.server.offer call s lacked did t
+      → OfClient (same_client target id) s (R id lacked did) missing lacked did t)
+      → lacks_growth call ≡ false → offer_after before.server.offer call ≡ before.server.offer → inserted_by call ≡ 0 → IsOfOne before after target (R target) missing
+  of_one target R missing by =
+      of_own target (R target) missing (one_of target (R target) missing _ _ _ _ (by target _ _ _ _ (part_of_call made.3 made.1 target)))
+      (λ id differ. when_false _ (same_client target id) differ (by id _ _ _ _ (part_of_call made.3 made.1 id)))
+
+module _ {T U G C : Type 0} {before after : BackendState T U G C} {target : ClientParts} {R : Change T U C}
     {missing : Type 0} (one : IsOfOne before after target R missing) where
   -- so it is of what follows for the client
-  pub refine : {R' : Bool → List (Deed U) → Part T U C → Part T U C → Type 0} → ((lacked : Bool) (did : List (Deed U)) (p q : Part T U C) → R lacked did p q → R' lacked did p q)
+  pub refine : {R' : Change T U C} → ((lacked : Bool) (did : List (Deed U)) (p q : Part T U C) → R lacked did p q → R' lacked did p q)
       → IsOfOne before after target R' missing
   refine each = record {
     own = elim one.own [ not_stored none m calm same ↦ not_stored none m calm same | became p q did there r same ↦ became p q did there (each after.refused did p q r) same ];

@@ -1,5 +1,6 @@
 -- A dispatch: what it leaves of its client, and of the others.
-use Rattle.wl_server.proofs.Plain.Requests.{ending_one, finish_starved}
+use Rattle.wl_server.specs.Plain.{RequestEndedAs}
+use Rattle.wl_server.proofs.Plain.Requests.{request_ends}
 use Rattle.std.proofs.Common.{◌≡◌, ℕ, Bool, true, false, eqb, List, [], Option, None, Some, IsSome, is_some, Result, Ok, Err, refl, sym, ap, subst, ◌∙◌, true≢false, arith, MatchResult}
 use mathlib.Core.Logic.{inl, inr}
 use Rattle.std.proofs.lemmas.Bool.{cases_lt, eq-eqb}
@@ -27,16 +28,15 @@ use Rattle.wl_server.specs.Deeds.{Deed, Handed}
 use Rattle.wl_server.specs.Dispatch.{Answering, Answers, DispatchesAll, DispatchesClient, Handles, Last, Rounds, after_cleanup, cleaned, dispatched, fault_of_end, fault_of_reading, more as one_round, no_action, none as no_round, not_ended, refusal_in, EachIsDispatched, EndsDispatch, IsDispatched, Round}
 use Rattle.wl_server.specs.Finish.{FinishesBind, refusal}
 use Rattle.wl_server.specs.Globals.{Offer}
-use Rattle.wl_server.specs.Inside.Finishing.{lacks_finish}
 use Rattle.wl_server.specs.Ids.{ClientParts, same_client}
 use Rattle.wl_server.specs.Part.{Part}
-use Rattle.wl_server.specs.PartStep.{Asked, Call, CleanedAs, PartCall, World, OfClient}
+use Rattle.wl_server.specs.PartStep.{Asked, Call, CleanedAs, World, OfClient}
 use Rattle.wl_server.specs.Plain.Dispatch.{AllLive, DispatchOfOneLeaves, DispatchOfSeveralLeaves, IsBusy, IsIdle, KeepsGlobals, LeftBy}
 use Rattle.wl_server.specs.Plain.Reading.{ReadAs, ReadsClient}
 use Rattle.wl_server.specs.Server.{Seen, ServerState, seen}
 use Rattle.wl_server.specs.Steps.{Entry, OneStep, lacks_growth, offer_after}
 use Rattle.wl_server.proofs.Dispatches.Standing.{Stands, born_still, run_stands}
-use Rattle.wl_server.proofs.Plain.Base.{none_and_some, own}
+use Rattle.wl_server.proofs.Plain.Base.{none_and_some, own, part_of_call}
 use Rattle.wl_server.proofs.Plain.Cleanup.{cleaned_killed, cleaned_live}
 use Rattle.wl_server.proofs.Plain.Reading.{reads_client, within_one}
 use Rattle.wl_server.proofs.Plain.ReadingEnds.{or_true}
@@ -96,8 +96,7 @@ module _ {T U G C : Type 0} (w : World T G C) (mid : ServerState T U G C) (after
 
   of_client : (id : ClientParts) → Cleans id
   of_client id =
-      let (r, answer_is, h) = subst (λ (c : Call T U G C). PartCall w id mid.offer c (seen id mid) (e.lacks id) (e.did id) (seen id after.server)) is (by.each id) in
-      record { r = r; answer_is = answer_is; cleans = h }
+      let (r, answer_is, h) = part_of_call by is id in record { r = r; answer_is = answer_is; cleans = h }
 
   all_live : (o : Vec (ClientParts × T) Global) → out ≡ reply.Cleanup (Ok o) → AllLive after
   all_live o fine id p there = grind (arith, of_client, either_option, none_and_some, split, cleaned_killed, cleaned_live, seen)
@@ -165,23 +164,28 @@ module _ {T U G C : Type 0} (w : World T G C) (id : ClientParts) {s s' : ServerS
   read_of : (r r' : Reading) (got : Result Action ActionError) → e.call ≡ Asked (step.NextActionWithin id r) (reply.NextActionWithin got r')
       → ReadsClient (record { server = s; refused = false }) id got (record { server = s'; refused = e.refused })
   read_of r r' got is =
-      reads_client w (record { server = s; refused = false }) (record { server = s'; refused = e.refused }) id r got (λ l. l ≡ r')
+      reads_client w (record { server = s; refused = false }) (record { server = s'; refused = e.refused }) id r got r'
       (within_one w (record { server = s; refused = false }) (record { server = s'; refused = e.refused }) id r r' got (e, is, refl, by))
 
 module _ {T U G C : Type 0} (w : World T G C) (id : ClientParts) (s s' : ServerState T U G C) (e : Entry T U G C) (by : OneStep w s e s') where
   request_starved : (u : Option U) (answer : Reply T U) → e.call ≡ Asked (step.FinishRequest id u) answer → Some finish.OutOfMemory ≡ refusal_in answer → e.refused ≡ true
   request_starved u answer is why =
-      let (r, answer_is, h) = subst (λ (c : Call T U G C). PartCall w id s.offer c (seen id s) (e.lacks id) (e.did id) (seen id s')) is (by.each id) in
-      let one = ending_one w (record { server = s; refused = false }) (record { server = s'; refused = e.refused }) id u r (e, is ∙ ap (λ (a : Reply T U). Asked (step.FinishRequest id u) a) answer_is, refl, by) in
-      finish_starved w (record { server = s; refused = false }) (record { server = s'; refused = e.refused }) id u r one (lacks r (why ∙ ap refusal_in answer_is))
+      let (r, answer_is, h) = part_of_call by is id in
+      starved r (why ∙ ap refusal_in answer_is) (request_ends w before after id u r (e, is ∙ ap (λ (a : Reply T U). Asked (step.FinishRequest id u) a) answer_is, refl, by)).request
     where
-      lacks : (r : Result (Unit {0}) (FinishRefused (Option U))) → Some finish.OutOfMemory ≡ refusal_in {T = T} (reply.FinishRequest r) → lacks_finish r ≡ true
-      lacks h1 is = grind (arith, none_and_some)
+      before : BackendState T U G C
+      before = record { server = s; refused = false }
+
+      after : BackendState T U G C
+      after = record { server = s'; refused = e.refused }
+
+      starved : (r : Result (Unit {0}) (FinishRefused (Option U))) → Some finish.OutOfMemory ≡ refusal_in {T = T} (reply.FinishRequest r) → RequestEndedAs before id u r after → e.refused ≡ true
+      starved (Ok ok) lacks so = absurd (none_and_some None refl (sym lacks))
+      starved (Err r) lacks so = grind (arith, r.error)
 
   bind_starved : (u : U) (answer : Reply T U) → e.call ≡ Asked (step.FinishBind id u) answer → Some finish.OutOfMemory ≡ refusal_in answer → e.refused ≡ true
   bind_starved u answer is why =
-      let (r, answer_is, h) = subst (λ (c : Call T U G C). PartCall w id s.offer c (seen id s) (e.lacks id) (e.did id) (seen id s')) is (by.each id) in
-      absurd (never r (seen id s) (seen id s') (e.lacks id) (e.did id) (why ∙ ap refusal_in answer_is) h)
+      let (r, answer_is, h) = part_of_call by is id in absurd (never r (seen id s) (seen id s') (e.lacks id) (e.did id) (why ∙ ap refusal_in answer_is) h)
     where
       never : (r : Result (Unit {0}) (FinishRefused U)) (s t : Seen T U C) (lacked : Bool) (did : List (Deed U)) → Some finish.OutOfMemory ≡ refusal_in {T = T} (reply.FinishBind r)
           → OfClient (same_client id id) s (λ p q. FinishesBind p u r lacked did q) (r ≡ Err (record { error = finish.InvalidId; user_data = u })) lacked did t → ⊥

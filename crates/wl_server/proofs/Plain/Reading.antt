@@ -10,10 +10,8 @@ use Rattle.wl_wire.specs.MessageRows.{request_row}
 use Rattle.wl_link.specs.Reader.{ReaderState, Turn, handled_in, Gives, Reads, Verdict}
 use Rattle.wl_link.specs.Store.{held, Store, removed}
 use Rattle.wl_server.specs.declared.error.ActionError.{ActionError}
-use Rattle.wl_server.specs.declared.error.ActionError.TheVariants.{Io}
-use Rattle.wl_server.specs.declared.notes.Happening.{Happening}
+use Rattle.wl_server.specs.declared.error.ActionError.TheVariants.{Io, ActionOpen}
 use Rattle.wl_server.specs.declared.reading.action.Action.{Action}
-use Rattle.wl_server.specs.declared.reading.action.OpenAction.{OpenAction}
 use Rattle.wl_server.specs.declared.reading.action.Reading.{Reading}
 use Rattle.wl_server.specs.declared.runs.step.Reply.TheVariants as reply
 use Rattle.wl_server.specs.declared.runs.step.Step.TheVariants as step
@@ -21,18 +19,16 @@ use Rattle.wl_server.specs.Backend.{BackendState, Calls}
 use Rattle.wl_server.specs.Deeds.{Bind, Deed, Handed, Request, notes_in}
 use Rattle.wl_server.specs.Ids.{ClientParts, IdParts, same_client}
 use Rattle.wl_server.specs.Part.{Part, fresh_object, id_at, named, id_of, serial_of}
-use Rattle.wl_server.specs.PartStep.{Asked, OfClient, World, around}
+use Rattle.wl_server.specs.PartStep.{Asked, World, around}
 use Rattle.wl_server.specs.Steps.{Makes}
 use Rattle.wl_server.specs.Plain.{client_in, killed_in, object_in}
-use Rattle.wl_server.specs.Plain.Reading.{IsHandedOut, IsOld, ReadAs, ReadingMemory, ReadsClient, ReadsWithin}
-use Rattle.wl_server.specs.Reading.{Around, NextAction, action_content, answered, exchanges_in, new_reading, read_on, binds, breaks, converted, garbled, other_request, server, registers, syncs}
+use Rattle.wl_server.specs.Plain.Reading.{IsHandedOut, IsOld, OpenReadAs, ReadAs, ReadingMemory, ReadsClient, ReadsWithin}
+use Rattle.wl_server.specs.Reading.{Around, NextAction, action_content, answered, new_reading, read_on, binds, breaks, converted, garbled, other_request, server, registers, syncs}
 use Rattle.wl_server.specs.ReadingEnds.{ComesOfLast, EndsForAReason, ReadingEnds}
 use Rattle.wl_server.specs.Server.{Seen, seen}
-use Rattle.wl_server.specs.Telling.{Core, deeds_of, end_deeds, part_of, reader_part, Told, closed_down, objects_in}
+use Rattle.wl_server.specs.Telling.{Core, end_deeds, part_of, reader_part, Told, closed_down, objects_in, core_of}
 use Rattle.wl_server.proofs.Dispatches.Receiving.{reading_bounded}
-use Rattle.wl_server.proofs.Plain.Base.{IsOfOne, became, names_stay, none_and_some, nothing_new, of_one, one_value, same_is, split_bool, stored_stay, not_stored}
-use Rattle.wl_server.proofs.OverRuns.Cut.CuttingLaws.{reads_to}
-use Rattle.wl_server.proofs.Readings.Finishing.{where_none, where_some}
+use Rattle.wl_server.proofs.Plain.Base.{Change, IsOfOne, became, names_stay, none_and_some, not_stored, nothing_new, of_one, of_own, one_of, one_value, part_of_call, refine, same_is, split_bool, stored_stay, when_false}
 use Rattle.wl_server.proofs.Plain.ReadingEnds.{MemoryOf, reading_ends, reading_memory}
 use Rattle.wl_server.proofs.Plain.ReadingNotes.{notes_of_reading}
 use Rattle.wl_wire.specs.Message.{WireMessage}
@@ -165,80 +161,65 @@ module _ {T U G C : Type 0} (sends : T → Queue → Result ℕ IoFault → T �
       })
       left before end turns out reads
 
-module _ {T U C : Type 0} where
-  abbrev seen_as : Part T U C → List (Happening U) → Seen T U C
-  seen_as q made = record { part = Some q; made = made }
+-- ---- of one client
 
 module _ {T U G C : Type 0} (sends : T → Queue → Result ℕ IoFault → T → Type 0) (receives : T → ℕ → Result Queue IoFault → T → Type 0) (a : Around G C) where
-  module _ (s t : Seen T U C) (end : ReaderState T (Core U C)) (is : t ≡ record { part = Some (part_of end); made = s.made ++ notes_in (end_deeds {U = U} end.core.ended) }) where
-    handed_out : (h : Handed) (start : ReaderState T (Core U C)) (turns : List Turn) → ComesOfLast sends receives a h start turns end → IsHandedOut a.table a.client h (part_of end)
-    handed_out (Request sender opcode args is_destructor created) start turns (earlier, es, before, split, led, (m, link, read, its)) = grind (arith, held, id_at, request_row)
-    handed_out (Bind global object) start turns (earlier, es, before, split, led, (m, link, read, (x, interface, version, kept, held_before, registry, args, there, named', may, of, of_interface, free, holds, open'))) = grind (arith, fresh_object)
+  -- what a reading is of a client that is stored: nothing is read, since an action is open, or it is killed; or it is read
+  pub data Comes (r : Reading) (answer : Result Handed ActionError) (left : Reading) (lacked : Bool) (did : List (Deed U)) (p q : Part T U C) : Type 0 where
+    is_open : IsSome p.action → answer ≡ Err ActionOpen → left ≡ r → lacked ≡ false → did ≡ [] → q ≡ p → Comes r answer left lacked did p q
+    is_dead : p.action ≡ None → p.is_killed ≡ true → answer ≡ Err (Io fault.Pipe) → left ≡ r → lacked ≡ false → did ≡ [] → q ≡ p → Comes r answer left lacked did p q
+    is_read : p.action ≡ None → p.is_killed ≡ false → (turns : List Turn) (out : Gives (Told U)) (end : ReaderState T (Core U C))
+        → Reads sends (server a) receives r.turns_left (reader_part p) turns out end → answer ≡ answered out.stopped out.gave → left ≡ read_on r out.left (handled_in turns)
+        → lacked ≡ out.refused → q ≡ part_of end → notes_in did ≡ notes_in (end_deeds {U = U} end.core.ended) → ReadingEnds sends receives a (reader_part p) turns answer lacked out.left end
+        → MemoryOf answer lacked → IdsStay (objects_in (core_of p)) (objects_in end.core) → Comes r answer left lacked did p q
 
-  next_as : (s t : Seen T U C) (p q : Part T U C) (r r' : Reading) (answer : Result Handed ActionError) (lacked : Bool) (did : List (Deed U)) → s.part ≡ Some p
-      → t ≡ record { part = Some q; made = s.made ++ notes_in did } → NextAction sends receives a r p answer r' lacked did q → ReadAs a.table a.client answer s t
-  next_as s t p q r r' answer lacked did there is h =
+  comes_to : (r : Reading) (answer : Result Handed ActionError) (left : Reading) (lacked : Bool) (did : List (Deed U)) (p q : Part T U C)
+      → NextAction sends receives a r p answer left lacked did q → Comes r answer left lacked did p q
+  comes_to r answer left lacked did p q h =
       elim (either_option p.action h) [
-        | inr (action, is_open, (says, same, calm, none, stays)) ↦
-            inr (p, there, inl (subst (λ (o : Option OpenAction). IsSome o) (sym is_open) refl, says, (nothing_new s t p q did there stays (ap notes_in none) is)))
+        | inr (action, is, (says, same, calm, none, stays)) ↦ is_open (ap is_some is) says same calm none stays
         | inl (idle, g) ↦
             elim (split_bool p.is_killed g) [
-              | inl (dead, (says, same, calm, none, stays)) ↦ inr (p, there, inr (inl (idle, dead, says, (nothing_new s t p q did there stays (ap notes_in none) is))))
-              | inr (live, (turns, out, end, reads, says, same, calm, did_so, after)) ↦
-                  let t_is : t ≡ record { part = Some (part_of end); made = s.made ++ notes_in (end_deeds {U = U} end.core.ended) } = grind (arith, seen_as, notes_in, part_of, notes_of_reading, reader_part) in
-                  inr (
-                    p,
-                    there,
-                    inr (inr (
-                      idle,
-                      live,
-                      (
-                        part_of end,
-                        grind (arith, part_of, handed_out, notes_in, end_deeds, append-nil, true≢false, reader_part, answered, reading_ends),
-                      ),
-                    )),
-                  )
+              | inl (dead, (says, same, calm, none, stays)) ↦ is_dead idle dead says same calm none stays
+              | inr (live, (turns, out, end, reads, says, left_is, lacks, did_so, ends)) ↦
+                  is_read idle live turns out end reads says left_is lacks ends (ap notes_in did_so ∙ notes_of_reading sends receives a r.turns_left (reader_part p) turns out end reads)
+                  (rw (says, lacks) (reading_ends sends receives a r.turns_left p turns out end live idle reads))
+                  (rw (says, lacks) (reading_memory sends receives a r.turns_left p turns out end live idle reads)) (reads_keep sends receives a r.turns_left (reader_part p) turns out end reads)
             ]
       ]
 
-  -- what an id of the client names, if it was not made by this reading
-  next_stays : (p q : Part T U C) (r r' : Reading) (answer : Result Handed ActionError) (lacked : Bool) (did : List (Deed U)) → NextAction sends receives a r p answer r' lacked did q
-      → (other : IdParts) → IsOld (Some p) other → named q.store other ≡ named p.store other
-  next_stays p q r r' answer lacked did h other old = grind (arith, either_option, named, split_bool, reads_keep, reader_part)
+  handed_out : (h : Handed) (start : ReaderState T (Core U C)) (turns : List Turn) (end : ReaderState T (Core U C)) → ComesOfLast sends receives a h start turns end
+      → IsHandedOut a.table a.client h (part_of end)
+  handed_out (Request sender opcode args is_destructor created) start turns end (earlier, es, before, split, led, (m, link, read, its)) = grind (arith, held, id_at, request_row)
+  handed_out (Bind global object) start turns end
+      (earlier, es, before, split, led, (m, link, read, (x, interface, version, kept, held_before, registry, args, there, named', may, of, of_interface, free, holds, open'))) = grind (arith, fresh_object)
 
-  -- what it leaves goes on from what it found
-  next_goes : (p q : Part T U C) (r r' : Reading) (answer : Result Handed ActionError) (lacked : Bool) (did : List (Deed U)) → NextAction sends receives a r p answer r' lacked did q
-      → (r' ≡ r) ⊎ ((turns handled : ℕ) × (r' ≡ read_on r turns handled))
-  next_goes p q r r' answer lacked did h = grind (arith, either_option, split_bool, handled_in)
-
-  -- whether memory was refused
-  next_memory : (p q : Part T U C) (r r' : Reading) (answer : Result Handed ActionError) (lacked : Bool) (did : List (Deed U)) → NextAction sends receives a r p answer r' lacked did q
-      → MemoryOf answer lacked
-  next_memory p q r r' answer lacked did h = grind (arith, either_option, split_bool, reading_memory)
-
-  next_killed : (p q : Part T U C) (r r' : Reading) (answer : Result Handed ActionError) (lacked : Bool) (did : List (Deed U)) → NextAction sends receives a r p answer r' lacked did q
-      → answer ≡ Err (Io fault.Pipe) → lacked ≡ true → (p.is_killed ≡ false) × (q.is_killed ≡ true)
-  next_killed p q r r' answer lacked did h pipe lacks = grind (arith, either_option, split_bool, reading_ends, true≢false, reader_part)
+  open_as : (start : ReaderState T (Core U C)) (turns : List Turn) (answer : Result Handed ActionError) (lacked : Bool) (left : ℕ) (end : ReaderState T (Core U C)) (s t : Seen T U C)
+      → ReadingEnds sends receives a start turns answer lacked left end → t ≡ record { part = Some (part_of end); made = s.made ++ notes_in (end_deeds {U = U} end.core.ended) }
+      → OpenReadAs a.table a.client answer s (part_of end) t
+  open_as start turns answer lacked left end s t ends is = grind (arith, handed_out, notes_in, end_deeds, append-nil, true≢false, answer)
 
 -- ---- the call
 
-module _ {T U G C : Type 0} (w : World T G C) (before after : BackendState T U G C) (id : ClientParts) (r : Reading) (answer : Result Action ActionError) (P : Reading → Type 0) where
-  -- what a reading does to its client, if what it leaves is so
-  abbrev Does : ClientParts → Bool → List (Deed U) → Part T U C → Part T U C → Type 0
-  Does client lacked did p q = (left : Reading) × P left × NextAction w.sends w.receives (around w client before.server.offer) r p (action_content answer) left lacked did q
-
-  abbrev pub IsReading : Type 0
-  IsReading = IsOfOne before after id (Does id) ((action_content answer ≡ Err (Io fault.InvalidInput)) × P r)
-
+module _ {T U G C : Type 0} (w : World T G C) (before after : BackendState T U G C) (id : ClientParts) (r : Reading) (answer : Result Action ActionError) (left : Reading) where
   abbrev here : Around G C
   here = around w id before.server.offer
+
+  abbrev pub IsReading : Type 0
+  IsReading = IsOfOne before after id (Comes w.sends w.receives here r (action_content answer) left) ((action_content answer ≡ Err (Io fault.InvalidInput)) × (left ≡ r))
 
   module _ (one : IsReading) where
     pub reads_as : ReadAs before.server.offer.table id (action_content answer) (seen id before.server) (seen id after.server)
     reads_as =
         elim one.own [
-          | not_stored none (says, so) calm same ↦ inl (none, says, same)
-          | became p q did there (left, so, next) same ↦ next_as w.sends w.receives here _ _ p q r left (action_content answer) after.refused did there same next
+          | not_stored none (says, l) calm same ↦ inl (none, says, same)
+          | became p q did there so same ↦
+              elim so [
+                | is_open some says l calm none stays ↦ inr (p, there, inl (some, says, nothing_new _ _ p q did there stays (ap notes_in none) same))
+                | is_dead idle dead says l calm none stays ↦ inr (p, there, inr (inl (idle, dead, says, nothing_new _ _ p q did there stays (ap notes_in none) same)))
+                | is_read idle live turns out end reads says l lacks is noted ends memory ids ↦
+                    inr (p, there, inr (inr (idle, live, (part_of end, open_as w.sends w.receives here (reader_part p) turns _ _ _ end _ _ ends (same ∙ (grind (arith)))))))
+              ]
         ]
 
     -- whether memory was refused
@@ -250,96 +231,73 @@ module _ {T U G C : Type 0} (w : World T G C) (before after : BackendState T U G
     reads_memory : ReadingMemory before id (action_content answer) after
     reads_memory =
         elim one.own [
-          | not_stored none (says, so) calm same ↦ rw says calm
-          | became p q did there (left, so, next) same ↦
-              memory_by _ (next_memory w.sends w.receives here p q r left _ after.refused did next)
-              (λ pipe lacks. let (live, dead) = next_killed w.sends w.receives here p q r left _ after.refused did next pipe lacks in (
-                ap (option_map (λ (x : Part T U C). x.is_killed)) there ∙ ap Some live,
-                ap (λ (x : Seen T U C). option_map (λ (p : Part T U C). p.is_killed) x.part) same ∙ ap Some dead,
-              ))
+          | not_stored none (says, l) calm same ↦ rw says calm
+          | became p q did there so same ↦
+              elim so [
+                | is_open some says l calm none stays ↦ rw says calm
+                | is_dead idle dead says l calm none stays ↦ rw says (λ lacks. absurd (true≢false (sym lacks ∙ calm)))
+                | is_read idle live turns out end reads says l lacks is noted ends memory ids ↦ memory_by _ memory (λ pipe known. (grind (arith, option_map, rw pipe at ends)))
+              ]
         ]
 
     names_old : (other : IdParts) → IsOld (client_in before other.client) other → object_in after other ≡ object_in before other
     names_old other old =
         names_stay one other
-        (λ about did p q there (left, so, next). next_stays w.sends w.receives here p q r left _ after.refused did next other
-        (subst (λ (o : Option (Part T U C)). IsOld o other) (rw (same_is id other.client about) at there) old))
+        (λ about did p q there so. ids_old p q did so (subst (λ (o : Option (Part T U C)). IsOld o other) (rw (same_is id other.client about) at there) old))
+      where
+        ids_old : (p q : Part T U C) (did : List (Deed U)) → Comes w.sends w.receives here r (action_content answer) left after.refused did p q → IsOld (Some p) other
+            → named q.store other ≡ named p.store other
+        ids_old p q did so old =
+            elim so [
+              | is_open some says l calm none stays ↦ ap (λ (x : Part T U C). named x.store other) stays
+              | is_dead idle dead says l calm none stays ↦ ap (λ (x : Part T U C). named x.store other) stays
+              | is_read idle live turns out end reads says l lacks is noted ends memory ids ↦ ap (λ (x : Part T U C). named x.store other) is ∙ ids.ids other old
+            ]
 
     pub reads_client : ReadsClient before id answer after
     reads_client = record { client = reads_as; objects = names_old; clients = one.clients; stored = stored_stay one; globals = one.globals; memory = reads_memory }
 
-    -- ---- why it ends
-
-    ends_so : (p q : Part T U C) (did : List (Deed U)) (left : Reading) → seen id after.server ≡ record { part = Some q; made = (seen id before.server).made ++ notes_in did }
-        → NextAction w.sends w.receives here r p (action_content answer) left after.refused did q → p.is_killed ≡ false → p.action ≡ None
-        → (turns : List Turn) × (out : Gives (Told U)) × (end : ReaderState T (Core U C)) × Reads w.sends (server here) w.receives r.turns_left (reader_part p) turns out end
-        × (action_content answer ≡ answered out.stopped out.gave) × (after.refused ≡ out.refused)
-        × ReadingEnds w.sends w.receives here (reader_part p) turns (action_content answer) after.refused out.left end × (left ≡ read_on r out.left (handled_in turns))
-        × (seen id after.server ≡ record { part = Some (part_of end); made = (seen id before.server).made ++ notes_in (end_deeds {U = U} end.core.ended) })
-    ends_so p q did left same next live idle =
-        let (turns, out, end, reads, says, left_is, lacks, did_so, ends) = reads_to w.sends w.receives here r p (action_content answer) left after.refused did q live idle next in (
-          turns,
-          out,
-          end,
-          reads,
-          says,
-          lacks,
-          (grind (arith, reading_ends w.sends w.receives here r.turns_left p turns out end live idle reads)),
-          left_is,
-          (grind (arith, part_of end, deeds_of (exchanges_in turns) out.gave end.core, notes_in (end_deeds {U = U} end.core.ended), notes_of_reading w.sends w.receives here r.turns_left (reader_part p) turns out end reads)),
-        )
-
-    pub ends_for_a_reason : (left : Reading) × P left × EndsForAReason w before id r answer left after
-    ends_for_a_reason =
+    -- why it ends
+    pub ends_for_a_reason : EndsForAReason w before id r answer left after
+    ends_for_a_reason p' there' live' idle' =
         elim one.own [
-          | not_stored none (says, so) calm same ↦ (r, so, λ p there live idle. absurd (none_and_some _ none there))
-          | became p q did there (left, so, next) same ↦ (
-            left,
-            so,
-            λ p' there'.
-                ends_so p' q did left same (subst (λ (x : Part T U C). NextAction w.sends w.receives here r x (action_content answer) left after.refused did q) (one_value _ there there') next),
-          )
+          | not_stored none m calm same ↦ absurd (none_and_some _ none there')
+          | became p q did there so same ↦
+              let e : p' ≡ p = one_value _ there' there in
+              elim so [
+                | is_open some says l calm none stays ↦ absurd (grind (arith))
+                | is_dead idle dead says l calm none stays ↦ absurd (grind (arith, true≢false))
+                | is_read idle live turns out end reads says l lacks is noted ends memory ids ↦ rw e (turns, out, end, reads, says, lacks, ends, l, same ∙ (grind (arith)))
+              ]
         ]
-
-    -- what it leaves goes on from what it found
-    goes_on : (left : Reading) × P left × ((left ≡ r) ⊎ ((turns handled : ℕ) × (left ≡ read_on r turns handled)))
-    goes_on =
-        elim one.own [
-          | not_stored none (says, so) calm same ↦ (r, so, inl refl)
-          | became p q did there (left, so, next) same ↦ (left, so, next_goes w.sends w.receives here p q r left _ after.refused did next)
-        ]
-
--- what a reading is of a client, whatever it leaves
-of_reading : {T U C : Type 0} {R R' : Part T U C → Part T U C → Type 0} {missing missing' : Type 0} (b : Bool) (s t : Seen T U C) (lacked : Bool) (did : List (Deed U))
-    → ((p q : Part T U C) → R p q → R' p q) → (missing → missing') → OfClient b s R missing lacked did t → OfClient b s R' missing' lacked did t
-of_reading false s t lacked did each none h = h
-of_reading true s t lacked did each none h =
-    elim (either_option s.part h) [
-      | inl (is, (m, rest)) ↦ where_none _ (sym is) _ _ (none m, rest)
-      | inr (p, there, (q, r, same)) ↦ where_some _ p (sym there) _ _ (q, each p q r, same)
-    ]
 
 module _ {T U G C : Type 0} (w : World T G C) (before after : BackendState T U G C) (id : ClientParts) where
+  abbrev Reads' : Reading → Result Action ActionError → Reading → ClientParts → Change T U C
+  Reads' r answer left client lacked did p q = NextAction w.sends w.receives (around w client before.server.offer) r p (action_content answer) left lacked did q
+
   next_action_one : (answer : Result Action ActionError) → Calls w before (step.NextAction id) (reply.NextAction answer) after
-      → IsReading w before after id new_reading answer (λ left. Unit {0})
+      → (left : Reading) × IsReading w before after id new_reading answer left
   next_action_one answer call =
-      of_one call.step id (Does w before after id new_reading answer (λ left. Unit {0})) _
-      (λ client s t lacked did (a, left, is, h). let e : a ≡ answer = cc in of_reading (same_client id client) s t lacked did (λ p q next. (left, tt, next)) (λ m. (m.0, tt)) (rw e at h)) refl refl refl
+      let (a, left, is, h) = part_of_call call.step.3 call.step.1 id in
+      let e : a ≡ answer = cc in (
+        left,
+        refine (of_own call.step id (Reads' new_reading answer left id) _ (one_of id _ _ _ _ _ _ (rw e at h)) (λ other differ. let (a, l, is, h) = part_of_call call.step.3 call.step.1 other in when_false _ (same_client id other) differ h)
+            refl refl refl) (comes_to w.sends w.receives (around w id before.server.offer) new_reading (action_content answer) left),
+      )
 
   pub within_one : (reading left : Reading) (answer : Result Action ActionError)
       → Makes w before.server (Asked (step.NextActionWithin id reading) (reply.NextActionWithin answer left)) after.refused after.server
-      → IsReading w before after id reading answer (λ l. l ≡ left)
+      → IsReading w before after id reading answer left
   within_one reading left answer made =
-      of_one made id (Does w before after id reading answer (λ l. l ≡ left)) _
-      (λ client s t lacked did (a, l, is, h). let e : a ≡ answer = cc in let same : l ≡ left = cc in
-      of_reading (same_client id client) s t lacked did (λ p q next. (l, same, next)) (λ m. (m.0, sym m.1 ∙ same)) (rw e at h)) refl refl refl
+      refine (of_one made id (Reads' reading answer left) _ (λ client s t lacked did (a, l, is, h). let e : a ≡ answer = cc in let same : l ≡ left = cc in rw (e, same) at h) refl refl refl)
+      (comes_to w.sends w.receives (around w id before.server.offer) reading (action_content answer) left)
 
   pub next_action_reads : (answer : Result Action ActionError) → Calls w before (step.NextAction id) (reply.NextAction answer) after → ReadsClient before id answer after
-  next_action_reads answer call = reads_client w before after id new_reading answer _ (next_action_one answer call)
+  next_action_reads answer call = let (left, one) = next_action_one answer call in reads_client w before after id new_reading answer left one
 
   pub next_action_ends : (answer : Result Action ActionError) → Calls w before (step.NextAction id) (reply.NextAction answer) after
       → (left : Reading) × EndsForAReason w before id new_reading answer left after
-  next_action_ends answer call = let (left, so, ends) = ends_for_a_reason w before after id new_reading answer _ (next_action_one answer call) in (left, ends)
+  next_action_ends answer call = let (left, one) = next_action_one answer call in (left, ends_for_a_reason w before after id new_reading answer left one)
 
   pub reads_within : (reading left : Reading) (answer : Result Action ActionError) → Calls w before (step.NextActionWithin id reading) (reply.NextActionWithin answer left) after
       → ReadsWithin before id reading answer left after
@@ -347,10 +305,15 @@ module _ {T U G C : Type 0} (w : World T G C) (before after : BackendState T U G
       let one = within_one reading left answer call.step in
       let (e, is, refused, by) = call.step in
       let few = reading_bounded w id before.server after.server e reading left answer is by in
-      record { reads = reads_client w before after id reading answer _ one; turns = omega (arith, few); count = grind (arith, min, goes_on w before after id reading answer _ one) }
+      record {
+        reads = reads_client w before after id reading answer left one;
+        turns = omega (arith, few);
+        count = elim one.own [
+          | not_stored none (says, l) calm same ↦ grind (arith, min)
+          | became p q did there so same ↦ grind (arith, min)
+        ];
+      }
 
   pub next_action_within_ends : (reading left : Reading) (answer : Result Action ActionError)
       → Calls w before (step.NextActionWithin id reading) (reply.NextActionWithin answer left) after → EndsForAReason w before id reading answer left after
-  next_action_within_ends reading left answer call =
-      let (l, same, ends) = ends_for_a_reason w before after id reading answer _ (within_one reading left answer call.step) in
-      subst (λ (l : Reading). EndsForAReason w before id reading answer l after) same ends
+  next_action_within_ends reading left answer call = ends_for_a_reason w before after id reading answer left (within_one reading left answer call.step)

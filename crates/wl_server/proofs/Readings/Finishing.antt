@@ -49,17 +49,14 @@ module _ {U : Type 0} where
   ended_named store sender x h4 is = grind (arith, none-some)
 
 module _ {T U C : Type 0} (sends : T → Queue → Result ℕ IoFault → T → Type 0) (client : ClientParts) (s : Stored T U C) (sender : IdParts) (is_destructor : Bool) where
-  abbrev changed : NoteTimes → LinkState T → Store (Kept U) → List Id → List (Happening U) → Stored T U C
-  changed times link store registries made =
-      record { serial = s.serial; part = record s.part { link = link; store = store; registries = registries }; made = made; times = times }
-
   -- it was taken out at its number, and noted
   pub ends_taken : (x : Object (Kept U)) (n : ℕ) (wrote : Result (Unit {0}) IoFault) (link : LinkState T) (store : Store (Kept U)) (registries : List Id)
       (made same_made : List (Happening U)) (times : NoteTimes) → Some x ≡ ended_by s.part.store sender is_destructor → n ≡ sender.number → Puts sends s.part.link (deletions n) wrote link
       → false ≡ lacks_memory wrote → store ≡ removed s.part.store n
       → ((y : Object (Kept U)) → held s.part.store n ≡ Some y
       → (registries ≡ registries_without s.part.registries n y) × (made ≡ same_made ++ note_of_end client n y))
-      → same_made ≡ s.made → EndsSender sends client s sender is_destructor (Ok wrote) (changed times link store registries made)
+      → same_made ≡ s.made → EndsSender sends client s sender is_destructor (Ok wrote)
+      (record { serial = s.serial; part = record s.part { link = link; store = store; registries = registries }; made = made; times = times })
   ends_taken x n wrote link store registries made same_made times ended-is n-is puts lacks store-is left same-is = grind (arith, named_is_held, ended_named, deletions, no_times, registries_without, note_of_end)
 
 -- ---- what it leaves

@@ -47,20 +47,6 @@ abbrev pub broken_with : Bool → NoAction
 broken_with refused = record { fault = fault.Pipe; refused = refused }
 
 module _ {T U C : Type 0} (sends : T → Queue → Result ℕ IoFault → T → Type 0) where
-  -- nothing changed of a client but its objects
-  pub from_there : (v : Verdict (Core U C) (Told U)) (before mid after : Stored T U C) (to : MessageResult) → mid.serial ≡ before.serial → mid.made ≡ before.made
-      → mid.part.link ≡ before.part.link → IsHandled sends v mid to after → IsHandled sends v before to after
-  from_there v before mid after to serial made link h = record {
-    es = h.es;
-    gave = h.gave;
-    refused = h.refused;
-    end = h.end;
-    carried = rw (← link) h.carried;
-    no_note = h.no_note;
-    says = h.says;
-    after_is = h.after_is ∙ rw (serial, made) refl;
-  }
-
   -- a verdict that was carried out came to what its events say
   pub handled : (v : Verdict (Core U C) (Told U)) (s after : Stored T U C) (to : MessageResult) (refused : Bool) (carried : IsCarried sends v s refused after)
       → told_notes (v.events carried.0) ≡ [] → Says to (map HandedOut (v.events carried.0)) refused carried.0 → IsHandled sends v s to after

@@ -36,10 +36,9 @@ use Rattle.wl_server.specs.Inside.Responses.{TookRequest, core_with, response_to
 use Rattle.wl_server.specs.Deeds.{Deed, Handed, notes_in}
 use Rattle.wl_server.specs.Part.{Part}
 use Rattle.wl_server.specs.Reading.{Around, action_in, NextAction, answered, exchanges_in, faulted, read_on, reads_on, request, request_to, row_in, server}
-use Rattle.wl_server.specs.Server.{Stored}
+use Rattle.wl_server.specs.Server.{Stored, untimed}
 use Rattle.wl_server.specs.Telling.{Core, Kills, Told, core_of, deeds_in, deeds_of, end_deeds, part_of, reader_part}
 use Rattle.wl_server.specs.Inside.ReadingLoop.{Acts, Ended, EndsAs, Fills, ReadsOn, WentOn, IsHandled, IsFront, LacksIn, LacksMore, Live, ReadsIn, MessageResult, HandlesMessage, answer_of, counted, linked, refused_of, stored_as}
-use Rattle.wl_server.proofs.Readings.Handling.{from_there}
 use Rattle.wl_server.proofs.Readings.Notes.{notes_append, notes_of_sends, made_end}
 use Rattle.wl_server.proofs.ObjectCalls.Posting.{kills_is}
 use Rattle.wl_server.proofs.CallSteps.Doing.{does_quietly}
@@ -88,7 +87,7 @@ module _ {T U G C : Type 0} (sends : T → Queue → Result ℕ IoFault → T �
     leads = λ turns rest end reads. reads;
     silent = λ rest. refl;
     no_note = refl;
-    read = omega (arith, within, r.read);
+    read = omega (arith, within);
     live = live;
     serial = refl;
     made = refl;
@@ -133,13 +132,19 @@ module _ {T U G C : Type 0} (sends : T → Queue → Result ℕ IoFault → T �
     on : reads_on (core_of s.part) ≡ true
     on = live_reads s.part live
 
-    module _ (v : Verdict (Core U C) (Told U)) (link : LinkState T) (t : List Sending → Turn)
-        (found : (m : ℕ) (es : List Sending) (first : List (Given (Told U))) (lacked : Bool) (mid : ReaderState T (Core U C)) (turns : List Turn) (rest : Gives (Told U)) (end : ReaderState T (Core U C))
-        → CarriesOut sends (server a) v link es first lacked mid → Reads sends (server a) receives m mid turns rest end
+    -- what is held of the client, once the message was taken
+    module _ (v : Verdict (Core U C) (Told U)) (p : Part T U C) (t : List Sending → Turn)
+        (found : (m : ℕ) (es : List Sending) (first : List (Given (Told U))) (lacked : Bool) (mid : ReaderState T (Core U C)) (turns : List Turn)
+        (rest : Gives (Told U)) (end : ReaderState T (Core U C))
+        → CarriesOut sends (server a) v p.link es first lacked mid → Reads sends (server a) receives m mid turns rest end
         → Reads sends (server a) receives m (reader_part s.part) (t es ∷ turns) (given_first first lacked rest) end)
         (left : r'.turns_left ≡ r.turns_left) (read : (es : List Sending) → r'.read ≡ counted r.read (handled_in (t es ∷ []))) where
-      ends_so : (answer : Result Handed NoAction) (to : MessageResult) (after : Stored T U C) (i : IsHandled sends v (linked s link) to after)
-          → (i.refused ≡ refused_of answer) × (reads_on i.end.core ≡ false) × (action_in i.gave ≡ answer_of answer) → EndsAs sends receives a s r answer after r'
+      abbrev Came : MessageResult → Stored T U C → Type 0
+      Came to after = IsHandled sends v (record s { part = p }) to after
+
+      ends_so : (answer : Result Handed NoAction) (to : MessageResult) (after : Stored T U C) (i : Came to after)
+          → (i.refused ≡ refused_of answer) × (reads_on i.end.core ≡ false) × (action_in i.gave ≡ answer_of answer)
+          → EndsAs sends receives a s r answer after r'
       ends_so answer to after i (refuses, off, says) =
           let rest : Gives (Told U) = stops None false r.turns_left in
           record {
@@ -155,7 +160,7 @@ module _ {T U G C : Type 0} (sends : T → Queue → Result ℕ IoFault → T �
             after_is = i.after_is;
           }
 
-      goes_so : (after : Stored T U C) → IsHandled sends v (linked s link) WentOn after → ReadsOn sends receives a s r after r'
+      goes_so : (after : Stored T U C) → Came WentOn after → ReadsOn sends receives a s r after r'
       goes_so after i =
           let (calm, unended, alive, unopened, silent) = i.says in
           record {
@@ -171,42 +176,44 @@ module _ {T U G C : Type 0} (sends : T → Queue → Result ℕ IoFault → T �
             made = ap (λ (x : Stored T U C). x.made) i.after_is ∙ rw unended (append-nil s.made);
           }
 
-      handles_so : (to : MessageResult) (after : Stored T U C) → IsHandled sends v (linked s link) to after → length link.incoming.bytes < length s.part.link.incoming.bytes
+      handles_so : (to : MessageResult) (after : Stored T U C) → Came to after → length p.link.incoming.bytes < length s.part.link.incoming.bytes
           → HandlesMessage sends receives a s r to after r'
       handles_so (Acts h) after i fewer = ends_so (Ok h) (Acts h) after i i.says
       handles_so WentOn after i fewer = (
         goes_so after i,
         left,
-        (let kept = carries_stays sends (server a) v link i.end i.es i.gave i.refused i.carried in
+        (let kept = carries_stays sends (server a) v p.link i.end i.es i.gave i.refused i.carried in
             omega (arith, ap (λ (x : Stored T U C). length x.part.link.incoming.bytes) i.after_is ∙ ap (λ (q : Queue). length q.bytes) kept.incoming, fewer)),
       )
       handles_so LacksMore after i fewer = absurd i.says
       handles_so (Ended end) after i fewer = ends_so (Err end) (Ended end) after i i.says
 
     -- the message at the front was taken and handled
-    pub message_handled : (v : Verdict (Core U C) (Told U)) (link : LinkState T) (to : MessageResult) (after : Stored T U C) → Takes sends (server a) (reader_part s.part) v link
-        → IsHandled sends v (linked s link) to after → length link.incoming.bytes < length s.part.link.incoming.bytes → r'.turns_left ≡ r.turns_left
+    pub message_handled : (v : Verdict (Core U C) (Told U)) (p : Part T U C) (to : MessageResult) (after : Stored T U C)
+        → Takes sends (server a) (reader_part s.part) v p.link → IsHandled sends v (record s { part = p }) to after
+        → length p.link.incoming.bytes < length s.part.link.incoming.bytes → r'.turns_left ≡ r.turns_left
         → r'.read ≡ counted r.read 1 → HandlesMessage sends receives a s r to after r'
-    message_handled v link to after taken handled fewer left read =
-        handles_so v link (λ es. Handled es)
-        (λ m es first lacked mid turns rest end carried reads. (on, (v, link, first, lacked, mid, rest, taken, carried, refl, reads))) left (λ es. read) to after handled fewer
+    message_handled v p to after taken handled fewer left read =
+        handles_so v p (λ es. Handled es)
+        (λ m es first lacked mid turns rest end carried reads. (on, (v, p.link, first, lacked, mid, rest, taken, carried, refl, reads))) left (λ es. read) to
+        after handled fewer
 
   -- malformed bytes stay, and the connection is closed
   pub message_unread : (s : Stored T U C) (r : Reading) (end : NoAction) (after : Stored T U C) → Live s.part → r.read ≤ most
       → Leaves sends (server a) (reader_part s.part) ((server a).malformed (core_of s.part)) s.part.link
       → IsHandled sends ((server a).malformed (core_of s.part)) s (Ended end) after → HandlesMessage sends receives a s r (Ended end) after r
   message_unread s r end after live within leaves i =
-      ends_so s r r live ((server a).malformed (core_of s.part)) s.part.link (λ es. Unread es)
+      ends_so s r r live ((server a).malformed (core_of s.part)) s.part (λ es. Unread es)
       (λ m es first lacked mid turns rest last carried reads. (on s r r live, ((server a).malformed (core_of s.part), s.part.link, first, lacked, mid, rest, leaves, carried, refl, reads)))
-      refl (λ es. (omega (arith, within, r.read))) (Err end) (Ended end) after i i.says
+      refl (λ es. (omega (arith, within))) (Err end) (Ended end) after i i.says
 
   -- ---- where it halts
 
-  pub halts_so : (s : Stored T U C) (r : Reading) (f : IoFault) (refused : Bool) → Live s.part → r.read ≤ most
-      → Halts sends (server a) r.turns_left (reader_part s.part) (stops (Some f) refused r.turns_left)
-      → EndsAs sends receives a s r (Err (record { fault = f; refused = refused })) s r
-  halts_so s r f refused live within halts =
-      let out : Gives (Told U) = stops (Some f) refused r.turns_left in
+  pub halts_so : (s after : Stored T U C) (r r' : Reading) (end : NoAction) → Live s.part → r'.read ≡ counted r.read 0
+      → Halts sends (server a) r.turns_left (reader_part s.part) (stops (Some end.fault) end.refused r'.turns_left)
+      → untimed after ≡ stored_as s (reader_part s.part) → EndsAs sends receives a s r (Err end) after r'
+  halts_so s after r r' end live read halts is =
+      let out : Gives (Told U) = stops (Some end.fault) end.refused r'.turns_left in
       record {
         turns = [];
         out = out;
@@ -215,15 +222,15 @@ module _ {T U G C : Type 0} (sends : T → Queue → Result ℕ IoFault → T �
         answer_is = refl;
         refused_is = refl;
         left = refl;
-        read = omega (arith, within, r.read);
+        read = read;
         no_note = refl;
-        after_is = made_end s s.part;
+        after_is = is;
       }
 
   -- no receive is left
   pub none_left : (s : Stored T U C) (r : Reading) → Live s.part → r.read ≤ most → LacksIn sends receives a s.part → r.turns_left ≡ 0
       → EndsAs sends receives a s r (Err (record { fault = fault.WouldBlock; refused = false })) s r
-  none_left s r live within lacks none = halts_so s r fault.WouldBlock false live within (inl (lacks, none, refl))
+  none_left s r live within lacks none = halts_so s s r r _ live (omega (arith, within)) (inl (lacks, none, refl)) (made_end s s.part)
 
   -- ---- a message was taken
 
@@ -245,15 +252,14 @@ module _ {T U G C : Type 0} (sends : T → Queue → Result ℕ IoFault → T �
       → HandlesMessage sends receives a s r to after r'
   message_taken s r r' link objects objects' response f args to after live same (m, row, read, is, responds) handled fewer left count =
       let store : objects.map.store ≡ s.part.store = ap (λ (core : Core U C). core.store) same in
-      let k : (x : Object (Kept U)) × ((held objects.map.store m.sender) ≡ Some x) = grind (arith, held objects.map.store m.sender) in
-      let mid = gone_through s link objects' in
-      let v = response_to a (core_of mid.part) response f args in
-      let verdict : request_to a (core_of s.part) m k.0 row ≡ v
-      = subst (λ (core : Core U C). request_to a core m k.0 row ≡ v) same (responds k.0 (core_of s.part) k.1) in
+      let (x, holds) : (x : Object (Kept U)) × (held objects.map.store m.sender ≡ Some x) = grind (arith, held objects.map.store m.sender) in
       let there : row_in a.table (held s.part.store m.sender) m.opcode ≡ Some row = rw (← store) is in
-      let found : v ≡ (server a).handles (core_of s.part) m = sym verdict ∙ sym (ap₂ (request a (core_of s.part) m) (ap (λ (core : Core U C). held core.store m.sender) (sym same) ∙ k.1) there) in
-      message_handled s r r' live v link to after (m, rw (← store) read, found)
-      (from_there sends v (linked s link) mid after to refl refl refl handled) fewer left count
+      let v = response_to a (core_of (gone_through s link objects').part) response f args in
+      let verdict : request_to a (core_of s.part) m x row ≡ v
+      = subst (λ (core : Core U C). request_to a core m x row ≡ v) same (responds x (core_of s.part) holds) in
+      message_handled s r r' live v (gone_through s link objects').part to after
+      (m, rw (← store) read, sym verdict ∙ sym (ap₂ (request a (core_of s.part) m) (ap (λ (kept : Store (Kept U)). held kept m.sender) (sym store) ∙ holds) there))
+      handled fewer left count
 
   -- ---- receives
 
@@ -281,7 +287,7 @@ module _ {T U G C : Type 0} (sends : T → Queue → Result ℕ IoFault → T �
       leads = λ turns rest end reads. receive_reads rc (Ok tt) after.part.link turns rest end made finds (rw is at reads);
       silent = λ rest. refl;
       no_note = refl;
-      read = read ∙ (omega (arith, within, r.read));
+      read = read ∙ (omega (arith, within));
       live = (ap (λ (x : Stored T U C). x.part.is_killed) is ∙ live.0, ap (λ (x : Stored T U C). x.part.action) is ∙ live.1);
       serial = ap (λ (x : Stored T U C). x.serial) is;
       made = ap (λ (x : Stored T U C). x.made) is;
@@ -300,25 +306,14 @@ module _ {T U G C : Type 0} (sends : T → Queue → Result ℕ IoFault → T �
           answer_is = refl;
           refused_is = refused;
           left = refl;
-          read = read ∙ (omega (arith, within, r.read));
+          read = read ∙ (omega (arith, within));
           no_note = refl;
           after_is = is;
         }
     fills_ends end after (link, inr (failed, same, asks), finds, refused, is) =
         let memory : end.fault ≡ fault.OutOfMemory = grind (arith, end.fault) in
-        let out : Gives (Told U) = stops (Some fault.OutOfMemory) true q.turns_left in
-        record {
-          turns = [];
-          out = out;
-          end = reader_part s.part;
-          reads = (refl, at_true (out ≡ stops None false r.turns_left) (reads_on (core_of s.part)) (live_reads s.part live) (inr (inr ((lacks, asks), (q.turns_left, left, refl)))));
-          answer_is = ap (λ (f : IoFault). let r : Result Handed ActionError = Err (Io f) in r) memory;
-          refused_is = refused ∙ ap (λ (f : IoFault). lacks_memory (Err f)) memory;
-          left = refl;
-          read = read ∙ (omega (arith, within, r.read));
-          no_note = refl;
-          after_is = grind (arith, stored_as, faulted, core_of);
-        }
+        halts_so s after r q end live (read ∙ (omega (arith, within))) (inr (inr ((lacks, asks), (q.turns_left, left, rw (refused, memory) refl))))
+        (is ∙ rw (memory, same) refl)
 
 -- ---- an open action is answered first, and then that the client was killed
 

@@ -19,14 +19,14 @@ use Rattle.wl_server.specs.declared.objects.Kept.{Kept}
 use Rattle.wl_server.specs.declared.reading.action.Reading.{Reading}
 use Rattle.wl_server.specs.declared.reading.front_request.FrontRequest.{FrontRequest}
 use Rattle.wl_server.specs.Inside.Puts.{Puts}
-use Rattle.wl_server.specs.Inside.ReadingLoop.{HandlesMessage, IsFront, IsHandled, Live, WentOn, counted, linked, IsSenderOf, MessageResult}
+use Rattle.wl_server.specs.Inside.ReadingLoop.{HandlesMessage, IsFront, IsHandled, Live, WentOn, counted, IsSenderOf, MessageResult}
 use Rattle.wl_server.specs.Inside.Syncing.{IsSyncOf, LeavesNoTrace}
-use Rattle.wl_server.specs.Part.{Part, objects_of}
+use Rattle.wl_server.specs.Part.{Part, objects_of, with_link}
 use Rattle.wl_server.specs.Reading.{Around, new_at, replies, request, request_to, row_in, syncs}
 use Rattle.wl_server.specs.Requests.{made_object}
 use Rattle.wl_server.specs.Server.{Stored}
 use Rattle.wl_server.specs.Telling.{Core, core_of, deletions, done_message, objects_in, with_objects, Told}
-use Rattle.wl_server.proofs.Readings.Handling.{from_there, replied_all}
+use Rattle.wl_server.proofs.Readings.Handling.{replied_all}
 use Rattle.wl_server.proofs.Readings.OneMessage.{message_handled}
 use Rattle.wl_link.specs.Reader.{Verdict}
 use Rattle.wl_wire.specs.Argument.{WireArgument}
@@ -53,13 +53,13 @@ module _ {T U G C : Type 0} (sends : T → Queue → Result ℕ IoFault → T �
   pub front_handled : IsWhole s.part.link.incoming.bytes → (args : List WireArgument) → ReadsArgs row.signature args (payload_of s.part.link.incoming.bytes) s.part.link.incoming.tokens
       → fd_count row.signature ≡ 0 → (v : Verdict (Core U C) (Told U))
       → ((x : Object (Kept U)) → IsSenderOf front.sender x → request_to a (core_of s.part) (record { sender = front.number; opcode = front.opcode; args = args }) x row ≡ v)
-      → (mid : Stored T U C) (to : MessageResult) (after : Stored T U C) → mid.serial ≡ s.serial → mid.made ≡ s.made → mid.part.link ≡ taken s.part.link → IsHandled sends v mid to after
+      → (p : Part T U C) (to : MessageResult) (after : Stored T U C) → IsHandled sends v (record s { part = with_link p (taken s.part.link) }) to after
       → (r r' : Reading) → r'.turns_left ≡ r.turns_left → r'.read ≡ counted r.read 1 → HandlesMessage sends receives a s r to after r'
-  front_handled whole args reads no_fd v is mid to after serial made link handled r r' left read =
+  front_handled whole args reads no_fd v is p to after handled r r' left read =
       let (x, holds, sender, has) = receiver in
       let m : WireMessage = record { sender = front.number; opcode = front.opcode; args = args } in
       let found : row_in a.table (held s.part.store front.number) front.opcode ≡ Some row = ap (λ o. row_in a.table o front.opcode) holds ∙ has in
-      message_handled sends receives a s r r' live v (taken s.part.link) to after (
+      message_handled sends receives a s r r' live v (with_link p (taken s.part.link)) to after (
         m,
         rw (le-leb 8 (length s.part.link.incoming.bytes) whole.header) (
           Some row.signature,
@@ -68,7 +68,7 @@ module _ {T U G C : Type 0} (sends : T → Queue → Result ℕ IoFault → T �
         ),
         sym (is x sender) ∙ sym (ap₂ (request a (core_of s.part) m) holds found),
       )
-      (from_there sends v (linked s (taken s.part.link)) mid after to serial made link handled)
+      handled
       (omega (arith, length-drop (length_of s.part.link.incoming.bytes) s.part.link.incoming.bytes, whole.counts_header, whole.there)) left read
 
 -- ---- a sync
@@ -109,7 +109,7 @@ module _ {T U G C : Type 0} (sends : T → Queue → Result ℕ IoFault → T �
       let puts_all : List Said = done_message (new_at a core n) ∷ deletions n in
       let mid : Stored T U C = record s { part = after_sync s.part (taken s.part.link) } in
       front_handled sends receives a s live front is_front sync.whole (arg.NewId n ∷ []) one_word (ap (λ (o : Option MessageRow). fd_count (option_map_or (λ row. row.signature) o [])) row_is)
-      (syncs a core n) to_display mid WentOn after refl refl refl
+      (syncs a core n) to_display mid.part WentOn after
       (subst (λ (c : Core U C). IsHandled sends (replies c puts_all []) mid WentOn after) (sym (ap (λ (store : Store (Kept U)). with_objects core
       (record { store = store; last_serial = s.part.last_serial + 1 })) (no_trace.stays (made_object (objects_in core) callback_id 1))))
       (replied_all sends mid after link puts_all [] (λ stops. (refl, λ rest. refl)) live puts is)) reading reading' left read

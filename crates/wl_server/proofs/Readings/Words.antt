@@ -33,7 +33,7 @@ use Rattle.wl_server.specs.Inside.ReadingLoop.{Acts, HandlesMessage, IsFront, Is
 use Rattle.wl_wire.specs.Inside.Cursor.{◌>>=◌, argument_at, counted_at, text_of}
 use Rattle.wl_wire.proofs.Spelling.CursorLaws.{IsRead, argument_reads}
 use Rattle.wl_server.specs.Inside.Conversion.{MakesObject}
-use Rattle.wl_server.specs.Inside.InPlace.{Front, HandsOut, IsPut, front_of, fronts, word_front}
+use Rattle.wl_server.specs.Inside.InPlace.{HandsOut, IsPut, front_of, fronts, word_front}
 use Rattle.wl_server.specs.Inside.Words.{asked_after, first_word, handed_object, handed_word, handed_words, object_fits, word_fits, words_fit}
 use Rattle.wl_server.specs.Part.{objects_of}
 use Rattle.wl_server.specs.Reading.{Around, hands_out, request_to}
@@ -54,12 +54,6 @@ long_enough store (k ∷ kinds) asked bytes fit = grind (arith, and_parts, nat_l
 -- a step that may find nothing has found something
 found_first : {A B : Type 0} (r : Option A) (f : A → Option B) (y : B) → (r >>= f) ≡ Some y → (x : A) × (r ≡ Some x) × (f x ≡ Some y)
 found_first h1 f y e = grind (arith)
-
-abbrev text_found : Option (List ℕ) → List ℕ → Front
-text_found text rest = Some (arg.Str text, rest)
-
-abbrev array_found : List ℕ → List ℕ → Front
-array_found content rest = Some (arg.Array content, rest)
 
 text_read : (null : AllowNull) (bytes content rest : List ℕ) (text : Option (List ℕ)) (fds : List Token) → counted_at bytes ≡ Some (content, rest) → text_of content ≡ Some text
     → IsRead (kind.Str null) bytes fds (arg.Str text, rest, fds)
@@ -118,13 +112,13 @@ module _ {U : Type 0} (client : ClientParts) (version : ℕ) (objects : Objects 
 
     one_front : (k : ArgumentType) (x : Argument IdParts Token × List ℕ) → front_of client objects.store k (next_interface asked) bytes ≡ Some x → One k kinds asked bytes x
     one_front (kind.Str null) x found =
-        let c = found_first (counted_at bytes) (λ counted. text_of counted.0 >>= λ text. text_found text counted.1) x found in
-        let t = found_first (text_of c.0.0) (λ text. text_found text c.0.1) x c.2 in
+        let c = found_first (counted_at bytes) (λ counted. text_of counted.0 >>= λ text. Some (arg.Str text, counted.1)) x found in
+        let t = found_first (text_of c.0.0) (λ text. Some (arg.Str text, c.0.1)) x c.2 in
         let read = text_read null bytes c.0.0 c.0.1 t.0 [] c.1 t.1 in
         subst (One (kind.Str null) kinds asked bytes) (let h = t.2 in cc)
         (record { a = arg.Str t.0; piece = read.piece; bytes_are = read.bytes; no_token = refl; no_fd = refl; is_piece = read.is_piece; converts = refl })
     one_front kind.Array x found =
-        let c = found_first (counted_at bytes) (λ counted. array_found counted.0 counted.1) x found in
+        let c = found_first (counted_at bytes) (λ counted. Some (arg.Array counted.0, counted.1)) x found in
         let read = array_read bytes c.0.0 c.0.1 [] c.1 in
         subst (One kind.Array kinds asked bytes) (let h = c.2 in cc)
         (record { a = arg.Array c.0.0; piece = read.piece; bytes_are = read.bytes; no_token = refl; no_fd = refl; is_piece = read.is_piece; converts = refl })
@@ -224,5 +218,5 @@ module _ {T U G C : Type 0} (sends : T → Queue → Result ℕ IoFault → T �
       → after ≡ record s { part = record (mid link).part { action = Some action } } → r'.turns_left ≡ r.turns_left → r'.read ≡ counted r.read 1
       → HandlesMessage sends receives a s r (Acts handed) after r'
   request_handed r r' link after link_is after_is left read =
-      front_handled sends receives a s live front is_front put.whole hands.args hands.reads hands.no_fd _ to_sender (mid (taken s.part.link)) (Acts handed) after refl refl refl
+      front_handled sends receives a s live front is_front put.whole hands.args hands.reads hands.no_fd _ to_sender (mid (taken s.part.link)).part (Acts handed) after
       (rw (after_is, link_is) (handed_out sends (mid (taken s.part.link)) action handed)) r r' left read

@@ -63,14 +63,12 @@ module _ {T U C : Type 0} where
   module _ (sends : T → Queue → Result ℕ IoFault → T → Type 0) where
     sent_place : (k : ℕ) (lacked : Bool) (before after : Option (Option (Stored T U C))) → FeltAt (λ id p lacked did q. FlushesKilled sends p lacked did q) k before lacked after
         → HasSent (option_map_or (λ s. s) before None) → HasSent (option_map_or (λ s. s) after None)
-    sent_place k lacked None after (none, is) sent = subst (λ (o : Option (Option (Stored T U C))). HasSent (option_map_or (λ s. s) o None)) (sym is) tt
+    sent_place k lacked None after (none, is) sent = rw is tt
     sent_place k lacked (Some None) after (place, (none, gone), is) sent = grind (arith, option_map_or)
-    sent_place k lacked (Some (Some s)) after (place, (s', (did, q, feels, made), there), is) sent =
-        subst (λ (o : Option (Option (Stored T U C))). HasSent (option_map_or (λ s. s) o None)) (sym (is ∙ ap Some there))
-        (elim (either_bool s.part.is_killed feels) [
-          | inl (answer, flushed) ↦ sent_flushed sends s s' answer lacked (did, q, flushed, made) sent
-          | inr (none, nothing, same) ↦ ap (λ (x : Stored T U C). x.part.link.outgoing.bytes) made ∙ (ap (λ (p : Part T U C). p.link.outgoing.bytes) same ∙ sent)
-        ])
+    sent_place k lacked (Some (Some s)) after (place, (s', (did, q, feels, made), there), is) sent = rw (is, there) (elim (either_bool s.part.is_killed feels) [
+      | inl (answer, flushed) ↦ sent_flushed sends s s' answer lacked (did, q, flushed, made) sent
+      | inr (none, nothing, same) ↦ ap (λ (x : Stored T U C). x.part.link.outgoing.bytes) made ∙ (ap (λ (p : Part T U C). p.link.outgoing.bytes) same ∙ sent)
+    ])
 
     sent_killed : (words : List ℕ) (refused : Bool) (clients clients' : List (Option (Stored T U C)))
         → AllFeel (λ id p lacked did q. FlushesKilled sends p lacked did q) refused (length clients) clients clients' → AllSent words clients → AllSent words clients'

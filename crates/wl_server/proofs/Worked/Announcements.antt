@@ -1,5 +1,5 @@
 -- What is announced by worked logs, computed from the definition.
-use Rattle.std.proofs.Common.{◌≡◌, ℕ, Bool, true, false, [], ◌∷◌, map, Some, is_some, refl, sym, ap, subst, ◌∙◌, true≢false, arith}
+use Rattle.std.proofs.Common.{◌≡◌, ℕ, Bool, true, false, [], ◌∷◌, map, Some, is_some, refl, sym, ap, ◌∙◌, true≢false, arith}
 use mathlib.Core.Logic.{inl, inr}
 use Rattle.std.specs.Prelude.{codes}
 use Rattle.std.proofs.lemmas.Bool.{cases_eq}
@@ -77,13 +77,16 @@ no_other is_disabled n x holds =
 shown_to_one : IsShown says client true (offer_of false) first
 shown_to_one = record { global = quad_global false; at = stored_here empty_store 1 (quad_global false) 1 refl; passes = refl; is = refl }
 
+not_shown : (is_disabled client_data : Bool) → is_shown says client client_data (1, quad_global is_disabled) ≡ false
+    → (g : Announced) → IsShown says client client_data (offer_of is_disabled) g → ⊥
+not_shown is_disabled client_data hidden g h =
+    let is = (no_other is_disabled g.name h.global h.at).1 in true≢false (sym h.passes ∙ rw (← is) hidden)
+
 hidden_from_another : (g : Announced) → IsShown says client false (offer_of false) g → ⊥
-hidden_from_another g h =
-    true≢false (sym (subst (λ (x : Object (KeptGlobal ℕ)). is_shown says client false (g.name, x) ≡ true) (sym (no_other false g.name h.global h.at).1) h.passes))
+hidden_from_another = not_shown false false refl
 
 disabled_for_all : (client_data : Bool) (g : Announced) → IsShown says client client_data (offer_of true) g → ⊥
-disabled_for_all client_data g h =
-    true≢false (sym (subst (λ (x : Object (KeptGlobal ℕ)). is_shown says client client_data (g.name, x) ≡ true) (sym (no_other true g.name h.global h.at).1) h.passes))
+disabled_for_all client_data = not_shown true client_data refl
 
 -- announced to the one that may see it: as it has to be
 as_it_has_to_be : AreSameGlobals (announced (tells_of (at 2 1) one ∷ []) (at 2 1)) (shown_of says (offer_of false) client true)
@@ -99,15 +102,17 @@ as_it_has_to_be g = (
     whole h = grind (arith, no_other, announced_as, table, shown_as)
 
 -- what is hidden or disabled may not be announced, and what is shown may not be kept back
+wrongly_announced : (is_disabled client_data : Bool) → is_shown says client client_data (1, quad_global is_disabled) ≡ false
+    → AreSameGlobals (announced (tells_of (at 2 1) one ∷ []) (at 2 1)) (shown_of says (offer_of is_disabled) client client_data) → ⊥
+wrongly_announced is_disabled client_data hidden same =
+    not_shown is_disabled client_data hidden first
+    (among_shown says client client_data (offer_of is_disabled) first (among_contains _ first ((same first).0 (contains_among (first ∷ []) first (inl refl)))))
+
 hidden_and_announced : AreSameGlobals (announced (tells_of (at 2 1) one ∷ []) (at 2 1)) (shown_of says (offer_of false) client false) → ⊥
-hidden_and_announced same =
-    hidden_from_another first
-    (among_shown says client false (offer_of false) first (among_contains _ first ((same first).0 (contains_among (first ∷ []) first (inl refl)))))
+hidden_and_announced = wrongly_announced false false refl
 
 disabled_and_announced : AreSameGlobals (announced (tells_of (at 2 1) one ∷ []) (at 2 1)) (shown_of says (offer_of true) client true) → ⊥
-disabled_and_announced same =
-    disabled_for_all true first
-    (among_shown says client true (offer_of true) first (among_contains _ first ((same first).0 (contains_among (first ∷ []) first (inl refl)))))
+disabled_and_announced = wrongly_announced true true refl
 
 shown_and_kept_back : AreSameGlobals (announced [] (at 2 1)) (shown_of says (offer_of false) client true) → ⊥
 shown_and_kept_back same =

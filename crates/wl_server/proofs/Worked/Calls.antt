@@ -36,13 +36,10 @@ use Rattle.wl_server.specs.Part.{Part, display_object, display_of, fresh_object,
 use Rattle.wl_server.specs.Reading.{Around, NextAction, new_reading, read_on}
 use Rattle.wl_server.specs.Requests.{Wrong, convert, object_argument, object_found, start}
 use Rattle.wl_server.specs.Telling.{Kills, global_message, making, removal_message}
-use Rattle.wl_server.proofs.Worked.Messages.{at, client, id_in, link_row, make_row, one, other, quad_id, says, table}
+use Rattle.wl_server.proofs.Worked.Messages.{at, client, id_in, link_row, make_row, one, other, quad, quad_id, says, table}
 use Rattle.wl_link.specs.Identity.{Objects}
 
 -- ---- events
-
-abbrev quad : Object (Kept ℕ)
-quad = fresh_object quad_id 3 2 (Some 6)
 
 abbrev event : ℕ → List (Argument IdParts Token) → SessionMessage
 event opcode args = record { sender = id_in client 3 2 quad_id; opcode = opcode; args = args }
@@ -99,20 +96,13 @@ data_wanted = (refl, refl, refl, refl, refl)
 -- ---- calls on one client
 
 module _ (sends : ℕ → Queue → Result ℕ IoFault → ℕ → Type 0) (p : Part ℕ ℕ Bool) where
-  -- an error on a null id: nothing
-  an_error_on_null : PostsError sends table p (id_in client 0 5 quad_id) 3 [] false [] p
-  an_error_on_null = (refl, refl, refl)
+  -- an error on a null id: nothing; and the display is not destroyed
+  nothing_done : PostsError sends table p (id_in client 0 5 quad_id) 3 [] false [] p × Destroys sends client p (display_of client) (Err destroy.InvalidId) false [] p
+  nothing_done = ((refl, refl, refl), (refl, refl, refl, refl))
 
-  -- the display is not destroyed
-  the_display_stays : Destroys sends client p (display_of client) (Err destroy.InvalidId) false [] p
-  the_display_stays = (refl, refl, refl, refl)
-
-  -- to a killed client nothing is sent, whatever the event
-  an_event_to_the_killed : p.is_killed ≡ true → SendsEvent sends client table p (event 9 []) (Ok tt) false [] p
-  an_event_to_the_killed killed = rw killed (refl, refl, refl, refl)
-
-  the_killed_hear_nothing : p.is_killed ≡ true → (messages : _) → Hears sends p messages false [] p
-  the_killed_hear_nothing killed messages = rw killed (refl, refl, refl)
+  -- to a killed client nothing is sent, whatever the event, and nothing is told
+  nothing_to_the_killed : p.is_killed ≡ true → SendsEvent sends client table p (event 9 []) (Ok tt) false [] p × ((messages : _) → Hears sends p messages false [] p)
+  nothing_to_the_killed killed = rw killed ((refl, refl, refl, refl), λ messages. (refl, refl, refl))
 
   a_kill : p.is_killed ≡ false → Kills p ConnectionClosed (Noted (happened.Disconnected ConnectionClosed) ∷ []) (record p { is_killed = true })
   a_kill live = (rw live refl, refl)

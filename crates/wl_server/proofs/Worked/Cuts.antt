@@ -1,6 +1,6 @@
 -- A worked stretch of a client's own run, computed from the definitions: five bytes of a header arrive, are read, and wait.
 -- The deeds of the reading are those of its turns; and what is served of the five bytes is nothing, by no answer to a send.
-use Rattle.std.proofs.Common.{◌≡◌, ℕ, Bool, List, [], ◌∷◌, Some, None, Result, Ok, Err, true, false, refl, inl, lit≤, arith, true≢false}
+use Rattle.std.proofs.Common.{◌≡◌, ℕ, Bool, List, [], ◌∷◌, Some, None, Result, Ok, Err, false, refl, inl, lit≤, arith, true≢false}
 use Rattle.wl_wire.specs.declared.error.IoFault.{IoFault}
 use Rattle.wl_wire.specs.declared.error.IoFault.TheVariants as fault
 use Rattle.wl_link.specs.Exchange.{Queue, nothing}
@@ -24,11 +24,7 @@ use Rattle.wl_server.specs.Server.{Seen}
 use Rattle.wl_server.proofs.OverRuns.Cut.StretchLaws.{stretch_served}
 use Rattle.wl_server.specs.Stretches.{IsStretch, StretchIsServed}
 use Rattle.wl_server.specs.Telling.{Core, Told, core_of, deeds_of, reader_part}
-use Rattle.wl_server.proofs.Worked.Messages.{client, says}
-
-abbrev is_cons : List ℕ → Bool
-is_cons [] = false
-is_cons (_ ∷ _) = true
+use Rattle.wl_server.proofs.Worked.Messages.{client, is_cons, says}
 
 abbrev half : Queue
 half = record { bytes = 1 ∷ 0 ∷ 0 ∷ 0 ∷ 0 ∷ []; tokens = [] }

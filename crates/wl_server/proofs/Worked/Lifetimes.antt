@@ -8,22 +8,17 @@ use Rattle.wl_server.specs.declared.error.ActionError.{ActionError}
 use Rattle.wl_server.specs.declared.error.ActionError.TheVariants.{ActionOpen, Io}
 use Rattle.wl_server.specs.declared.reading.action.Action.{Action}
 use Rattle.wl_server.specs.declared.reading.action.OpenAction.{OpenAction}
-use Rattle.wl_server.specs.declared.runs.step.Reply.{Reply}
 use Rattle.wl_server.specs.declared.runs.step.Reply.TheVariants as reply
-use Rattle.wl_server.specs.declared.runs.step.Step.{Step}
 use Rattle.wl_server.specs.declared.runs.step.Step.TheVariants as step
 use Rattle.wl_server.specs.GivenOnce.{ClientsRise, global_over}
 use Rattle.wl_server.specs.Ids.{ClientParts, GlobalParts}
 use Rattle.wl_server.specs.Killed.{ReadingAnswers, StaysKilled}
 use Rattle.wl_server.specs.Part.{Part}
-use Rattle.wl_server.specs.PartStep.{Asked, share_of}
+use Rattle.wl_server.specs.PartStep.{share_of}
 use Rattle.wl_server.specs.Reading.{new_reading}
 use Rattle.wl_server.specs.Server.{nothing_seen}
 use Rattle.wl_server.specs.Steps.{Entry}
-use Rattle.wl_server.proofs.Worked.Messages.{client, other, quad_global}
-
-abbrev entry : Step ℕ ℕ ℕ Bool → Reply ℕ ℕ → Entry ℕ ℕ ℕ Bool
-entry call answer = record { call = Asked call answer; refused = false; lacks = λ id. false; did = λ id. [] }
+use Rattle.wl_server.proofs.Worked.Messages.{client, entry, other, quad_global}
 
 -- ---- a killed client
 
@@ -94,12 +89,10 @@ abbrev removing : GlobalParts → Entry ℕ ℕ ℕ Bool
 removing g = entry (step.RemoveGlobal g) reply.RemoveGlobal
 
 -- a global is not touched by calls that name one of the same name
-same_name_alone : global_over first_global (disabling next_global ∷ removing next_global ∷ []) (Some (quad_global false)) ≡ Some (quad_global false)
-same_name_alone = refl
-
-disabled_then_removed : (global_over first_global (disabling first_global ∷ disabling first_global ∷ []) (Some (quad_global false)) ≡ Some (quad_global true))
+its_own_calls : (global_over first_global (disabling next_global ∷ removing next_global ∷ []) (Some (quad_global false)) ≡ Some (quad_global false))
+    × (global_over first_global (disabling first_global ∷ disabling first_global ∷ []) (Some (quad_global false)) ≡ Some (quad_global true))
     × (global_over first_global (disabling first_global ∷ removing first_global ∷ disabling first_global ∷ []) (Some (quad_global false)) ≡ None)
-disabled_then_removed = (refl, refl)
+its_own_calls = (refl, refl, refl)
 
 -- a client that takes the slot of an earlier one has another id
 never_twice : ClientsRise (inserted client ∷ inserted other ∷ inserted client ∷ []) → ⊥

@@ -18,7 +18,12 @@ use Rattle.wl_server.specs.Errors.{bind_text, error_of, fault_text, new_id_text,
 use Rattle.wl_server.specs.Globals.{Shown, is_shown, is_visible}
 use Rattle.wl_server.specs.Ids.{ClientParts, GlobalParts, IdParts}
 use Rattle.wl_server.specs.Lookups.{display_text}
-use Rattle.wl_server.specs.Part.{display_of}
+use Rattle.wl_server.specs.Part.{display_of, fresh_object}
+use Rattle.wl_server.specs.PartStep.{Asked}
+use Rattle.wl_server.specs.Steps.{Entry}
+use Rattle.wl_server.specs.declared.objects.Kept.{Kept}
+use Rattle.wl_server.specs.declared.runs.step.Reply.{Reply}
+use Rattle.wl_server.specs.declared.runs.step.Step.{Step}
 use Rattle.wl_server.specs.Telling.{delete_message, deletions, done_message, error_message, global_message, removal_message}
 
 -- ---- a table of one interface more
@@ -75,6 +80,18 @@ id_in of n serial i = record { number = n; serial = serial; client = of; interfa
 
 abbrev pub at : ℕ → ℕ → Id
 at number serial = record { number = number; serial = serial }
+
+-- a `quad` of the client's, with data
+abbrev pub quad : Object (Kept ℕ)
+quad = fresh_object quad_id 3 2 (Some 6)
+
+-- a call that met no want of memory, and no deeds
+abbrev pub entry : Step ℕ ℕ ℕ Bool → Reply ℕ ℕ → Entry ℕ ℕ ℕ Bool
+entry call answer = record { call = Asked call answer; refused = false; lacks = λ id. false; did = λ id. [] }
+
+abbrev pub is_cons : List ℕ → Bool
+is_cons [] = false
+is_cons (_ ∷ _) = true
 
 -- ---- the server's own messages
 
@@ -147,11 +164,8 @@ ids_as_texts = (refl, refl)
 
 -- ---- what clients see
 
--- a global is shown where it is enabled and the client may see it, and only then
+-- a global is shown where it is enabled and the client may see it, and only then; a disabled one may still be seen
 shown_globals : (is_shown says client true (1, quad_global false) ≡ true) × (is_shown says client false (1, quad_global false) ≡ false)
     × (is_shown says client true (1, quad_global true) ≡ false) × (is_shown says client false (1, quad_global true) ≡ false)
-shown_globals = (refl, refl, refl, refl)
-
--- a disabled one may still be seen
-seen_globals : (is_visible says client true 1 (quad_global true) ≡ true) × (is_visible says client false 1 (quad_global true) ≡ false)
-seen_globals = (refl, refl)
+    × (is_visible says client true 1 (quad_global true) ≡ true) × (is_visible says client false 1 (quad_global true) ≡ false)
+shown_globals = (refl, refl, refl, refl, refl, refl)

@@ -16,16 +16,10 @@ use Rattle.wl_server.specs.Server.{Seen, ServerState, notes_of}
 use Rattle.wl_server.proofs.OverRuns.Outcome.ShareLaws.{same_client_is}
 use Rattle.wl_server.specs.Steps.{RiseBySlot}
 use Rattle.wl_server.specs.Outcome.Whole.{SameServer}
-use Rattle.wl_server.proofs.Worked.Messages.{table}
+use Rattle.wl_server.proofs.Worked.Messages.{client, other, table}
 
-abbrev first : ClientParts
-first = record { slot = 0; serial = 1 }
-
-abbrev second : ClientParts
-second = record { slot = 1; serial = 2 }
-
-not_both : (id : ClientParts) → same_client first id ≡ true → same_client second id ≡ true → ⊥
-not_both id one two = grind (arith, same_client_is, first, second)
+not_both : (id : ClientParts) → same_client client id ≡ true → same_client other id ≡ true → ⊥
+not_both id one two = grind (arith, same_client_is, client, other)
 
 -- ---- the order of the notes of two clients
 
@@ -33,20 +27,20 @@ abbrev noted : List (Note ℕ) → ServerState ℕ ℕ ℕ Bool
 noted notes = record { offer = new_offer table; last_client = 2; clients = []; notes = notes; numbers = record { waiting = 0; made = 0 } }
 
 abbrev one_order : List (Note ℕ)
-one_order = Initialized first ∷ Initialized second ∷ []
+one_order = Initialized client ∷ Initialized other ∷ []
 
 abbrev other_order : List (Note ℕ)
-other_order = Initialized second ∷ Initialized first ∷ []
+other_order = Initialized other ∷ Initialized client ∷ []
 
 -- servers that differ in it are the same only where it does not count: each client finds the same
 either_order : (id : ClientParts) → notes_of id one_order ≡ notes_of id other_order
-either_order id = grind (arith, cases_Bool, same_client, first, second, not_both)
+either_order id = grind (arith, cases_Bool, same_client, client, other, not_both)
 
 orders_alike : SameServer false (noted one_order) (noted other_order)
 orders_alike = grind (arith, either_order, false≢true)
 
 orders_differ : SameServer true (noted one_order) (noted other_order) → ⊥
-orders_differ same = grind (arith, true≢false, first)
+orders_differ same = grind (arith, true≢false, client)
 
 -- and the notes of one client stand as they were made
 abbrev is_first : List (Happening ℕ) → Bool
@@ -54,22 +48,22 @@ is_first (WasInserted ∷ _) = true
 is_first _ = false
 
 abbrev ended : List (Note ℕ)
-ended = Disconnected first ConnectionClosed ∷ Initialized first ∷ []
+ended = Disconnected client ConnectionClosed ∷ Initialized client ∷ []
 
 abbrev begun : List (Note ℕ)
-begun = Initialized first ∷ Disconnected first ConnectionClosed ∷ []
+begun = Initialized client ∷ Disconnected client ConnectionClosed ∷ []
 
 not_turned : (ordered : Bool) → SameServer ordered (noted ended) (noted begun) → ⊥
-not_turned ordered same = true≢false (sym (ap (λ (s : Seen ℕ ℕ Bool). is_first s.made) (same.held.each first)))
+not_turned ordered same = true≢false (sym (ap (λ (s : Seen ℕ ℕ Bool). is_first s.made) (same.held.each client)))
 
 -- ---- a cleanup's list
 
 -- the clients that it takes out do not stand in the other order
 abbrev descending : List (ClientParts × ℕ)
-descending = (second, 8) ∷ (first, 7) ∷ []
+descending = (other, 8) ∷ (client, 7) ∷ []
 
 not_descending : RiseBySlot descending → ⊥
-not_descending rises = let falls = rises 0 1 (first, 7) (lit< tt) (lit< tt) in omega (arith, falls)
+not_descending rises = let falls = rises 0 1 (client, 7) (lit< tt) (lit< tt) in omega (arith, falls)
 
 -- ---- a transport that chooses
 

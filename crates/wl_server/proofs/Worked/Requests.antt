@@ -20,10 +20,7 @@ use Rattle.wl_server.specs.Part.{display_of, fresh_object}
 use Rattle.wl_server.specs.Reading.{Around, binds_to, breaks, display_request, garbled, hands_out, may_bind, other_request, registry_request, replies, request, request_to}
 use Rattle.wl_server.specs.Requests.{is_valid_new}
 use Rattle.wl_server.specs.Telling.{Core, Stops, closed_down, delete_message, done_message, introductions, killed, objects_in}
-use Rattle.wl_server.proofs.Worked.Messages.{at, client, destroy_row, id_in, link_row, make_row, quad_global, quad_id, says, table}
-
-abbrev quad : Object (Kept ℕ)
-quad = fresh_object quad_id 3 2 (Some 6)
+use Rattle.wl_server.proofs.Worked.Messages.{at, client, destroy_row, id_in, link_row, make_row, quad, quad_global, quad_id, says, table}
 
 -- a `quad` of the first version
 abbrev old_quad : Object (Kept ℕ)
@@ -97,10 +94,10 @@ module _ (globals : Globals ℕ) (c : Core ℕ Bool) where
 
   -- ---- other requests
 
-  -- the version is looked at before the arguments
-  a_make_at_version_1 : other_request around c (message 3 1 (arg.NewId 0xFF000000 ∷ [])) old_quad make_row
-      ≡ breaks around c 1 (since_text 1 1 2 (codes "quad") 3)
-  a_make_at_version_1 = refl
+  -- the version is looked at before the arguments: a make at version 1; and a link to null
+  refused_requests : (other_request around c (message 3 1 (arg.NewId 0xFF000000 ∷ [])) old_quad make_row ≡ breaks around c 1 (since_text 1 1 2 (codes "quad") 3))
+      × (other_request around c (message 3 3 (arg.Object 0 ∷ arg.Object 0 ∷ [])) quad link_row ≡ breaks around c 0 (fault_text table quad_id link_row wrong.NullObject))
+  refused_requests = (refl, refl)
 
   a_destroy : other_request around c (message 3 2 []) quad destroy_row
       ≡ hands_out c (opened.Request (id_in client 3 2 quad_id) true None) (Request (id_in client 3 2 quad_id) 2 [] true None)
@@ -113,10 +110,6 @@ module _ (globals : Globals ℕ) (c : Core ℕ Bool) where
       (opened.Request (id_in client 3 2 quad_id) false (Some made)) (Request (id_in client 3 2 quad_id) 1 (arg.NewId made ∷ []) false (Some made)))
   a_make valid = rw valid refl
 
-  a_link_to_null : other_request around c (message 3 3 (arg.Object 0 ∷ arg.Object 0 ∷ [])) quad link_row
-      ≡ breaks around c 0 (fault_text table quad_id link_row wrong.NullObject)
-  a_link_to_null = refl
-
   -- ---- which requests these are
 
   -- each object of the display's interface is treated as a display, and each of the registry's as one, whatever its number
@@ -127,26 +120,20 @@ module _ (globals : Globals ℕ) (c : Core ℕ Bool) where
 
   -- ---- what a verdict says
 
-  -- an error of a live client is put, unless the display is gone, which it never is; it is flushed; and the client is killed for it
-  an_error_kills : (breaks around c 0 []).last c ≡ killed c (BrokeProtocol (error_of table (display_of client) 0 []))
-  an_error_kills = refl
+  -- An error of a live client is put, unless the display is gone, which it never is; it is flushed; and the client is killed for it. Where there
+  -- was no memory for a text, or for a message of the server's own, it is closed.
+  an_error_kills : ((breaks around c 0 []).last c ≡ killed c (BrokeProtocol (error_of table (display_of client) 0 [])))
+      × ((breaks around c 0 []).starved ≡ closed_down c) × ((replies c [] []).starved ≡ closed_down c)
+  an_error_kills = (refl, refl, refl)
 
   -- where it could not be put, the client was closed before
   an_error_that_was_not_put : c.is_killed ≡ false → (((breaks around c 0 []).last (closed_down c)).ended ≡ Some ConnectionClosed)
   an_error_that_was_not_put live = rw live refl
 
-  -- where there was no memory for a text, or for a message of the server's own, the client is closed
-  an_error_without_memory : ((breaks around c 0 []).starved ≡ closed_down c) × ((replies c [] []).starved ≡ closed_down c)
-  an_error_without_memory = (refl, refl)
-
-  -- only the first kill counts
-  a_second_kill : c.is_killed ≡ true → killed c ConnectionClosed ≡ record c { is_killed = true }
-  a_second_kill dead = rw dead refl
-
   -- malformed bytes answer by another fault than all else that kills
   malformed_bytes : ((garbled c).events c ≡ Stops fault.Proto ∷ []) × ((garbled c).core ≡ closed_down c)
   malformed_bytes = (refl, refl)
 
-  -- a live client goes on behind a reply, and a killed one is read no more
-  behind_a_reply : c.is_killed ≡ true → (replies c [] []).events c ≡ Stops fault.Pipe ∷ []
-  behind_a_reply dead = rw dead refl
+  -- only the first kill counts, and a killed client is read no more behind a reply
+  of_the_killed : c.is_killed ≡ true → (killed c ConnectionClosed ≡ record c { is_killed = true }) × ((replies c [] []).events c ≡ Stops fault.Pipe ∷ [])
+  of_the_killed dead = rw dead (refl, refl)

@@ -34,15 +34,12 @@ use Rattle.wl_server.specs.Reading.{new_reading}
 use Rattle.wl_server.specs.Runs.{Own, mine}
 use Rattle.wl_server.specs.Server.{Seen, Stored, no_times, notes_of}
 use Rattle.wl_server.specs.Steps.{Entry, IsLeastFree, lacks_growth, offer_after}
-use Rattle.wl_server.proofs.Worked.Messages.{client, id_in, other, quad_id, table}
+use Rattle.wl_server.proofs.Worked.Messages.{client, entry, id_in, other, quad_id, table}
 
 -- ---- what is a client's
 
 abbrev asked : Step ℕ ℕ ℕ Bool → Reply ℕ ℕ → Call ℕ ℕ ℕ Bool
 asked call answer = Asked call answer
-
-abbrev entry : Step ℕ ℕ ℕ Bool → Reply ℕ ℕ → Entry ℕ ℕ ℕ Bool
-entry call answer = record { call = Asked call answer; refused = false; lacks = λ id. false; did = λ id. [] }
 
 abbrev own : Entry ℕ ℕ ℕ Bool → Own ℕ ℕ ℕ Bool
 own e = record { call = e.call; lacked = false; did = [] }

@@ -28,17 +28,13 @@ use Rattle.wl_server.specs.Part.{Part, display_object, objects_of, fresh_object}
 use Rattle.wl_server.specs.Reading.{Around, NextAction, new_reading, server}
 use Rattle.wl_server.specs.Requests.{is_valid_new}
 use Rattle.wl_server.specs.Telling.{Core, Stops, Told, core_of, delete_message, error_message, killed}
-use Rattle.wl_server.proofs.Worked.Messages.{client, says, table, at, id_in, quad_id}
+use Rattle.wl_server.proofs.Worked.Messages.{at, client, id_in, is_cons, quad, quad_id, says, table}
 use Rattle.wl_link.specs.declared.object.Object.{Object}
 use Rattle.wl_link.specs.Stretch.{EndsByPipe}
 use Rattle.wl_server.specs.declared.reading.action.OpenAction.TheVariants as opened
 use Rattle.wl_server.specs.declared.objects.Kept.{Kept}
 use Rattle.wl_server.specs.Events.{SendsEvent, SessionMessage, said}
 use Rattle.wl_server.specs.Finish.{FinishesRequest}
-
-abbrev is_cons : List ℕ → Bool
-is_cons [] = false
-is_cons (_ ∷ _) = true
 
 abbrev arrived : List ℕ
 arrived = 1 ∷ 0 ∷ 0 ∷ 0 ∷ 0 ∷ 0 ∷ 0x0c ∷ 0 ∷ 5 ∷ 0 ∷ 0 ∷ 0 ∷ []
@@ -184,9 +180,6 @@ module _ (sends : ℕ → Queue → Result ℕ IoFault → ℕ → Type 0) (p : 
         refl,
       ))
 
-  abbrev bound : Object (Kept ℕ)
-  bound = fresh_object quad_id 3 2 (Some 6)
-
   abbrev full : Part ℕ ℕ Bool
   full = record p { link = record (link_with 0 [] []) { outgoing_capacity = 4; limit = Some 4; outgoing = record { bytes = 7 ∷ []; tokens = [] } }; is_killed = false; action = Some (opened.Request (id_in client 3 2 quad_id) true None) }
 
@@ -204,7 +197,7 @@ module _ (sends : ℕ → Queue → Result ℕ IoFault → ℕ → Type 0) (p : 
       (failed ∷ [], Err fault.Pipe, broken, inl (inr (full.link, stays full.link 12 (λ w. absurd (let h = w.1 in omega (arith, h))), (broken, Err fault.Pipe, sent, (refl, refl)))), (refl, refl, refl, refl))
 
   -- where the `delete_id` of a destructor request fails, the sender is noted first, and then the end of the client
-  an_end_that_fails : held p.store 3 ≡ Some bound → held (removed p.store 3) 3 ≡ None → sends 0 (record { bytes = 7 ∷ []; tokens = [] }) (Err fault.Pipe) 1
+  an_end_that_fails : held p.store 3 ≡ Some quad → held (removed p.store 3) 3 ≡ None → sends 0 (record { bytes = 7 ∷ []; tokens = [] }) (Err fault.Pipe) 1
       → FinishesRequest sends client full None (Ok tt) false
       (Sent failed ∷ Noted (happened.Destroyed (id_in client 3 2 quad_id) 6) ∷ Left (at 3 2) ∷ Noted (happened.Disconnected ConnectionClosed) ∷ [])
       (record full { link = broken; store = removed p.store 3; is_killed = true; action = None })

@@ -3,7 +3,7 @@ use Rattle.std.proofs.Common.{◌≡◌, ◌+◌, ◌<◌, ◌≤◌, Bool, true
 use Rattle.std.specs.Prelude.{if◌then◌else◌}
 use Rattle.std.proofs.lemmas.Bool.{cases_lt, eqb-true, eq-eqb, false≢true}
 use Rattle.wl_wire.specs.Table.{InterfaceRow}
-use Rattle.wl_link.specs.Link.{LinkState, IsFresh}
+use Rattle.wl_link.specs.Link.{IsFresh}
 use Rattle.wl_link.specs.Runs.{RunEntry}
 use Rattle.wl_server.specs.declared.error.InsertClientError.{InsertClientError}
 use Rattle.wl_server.specs.declared.error.InsertClientError.TheVariants as insert
@@ -11,12 +11,11 @@ use Rattle.wl_server.specs.declared.notes.Happening.TheVariants.{Initialized}
 use Rattle.wl_server.specs.declared.runs.step.Reply.{Reply}
 use Rattle.wl_server.specs.declared.runs.step.Reply.TheVariants as reply
 use Rattle.wl_server.specs.declared.runs.step.Step.{Step}
-use Rattle.wl_server.specs.declared.runs.step.Step.TheVariants as step
 use Rattle.wl_server.specs.Deeds.{Deed}
 use Rattle.wl_server.specs.Globals.{Offer}
 use Rattle.wl_server.specs.Ids.{ClientParts, same_client}
 use Rattle.wl_server.specs.Part.{Part, fresh_part}
-use Rattle.wl_server.specs.PartStep.{Call, InsertedAs, PartCall, PartStep, Unfelt, World}
+use Rattle.wl_server.specs.PartStep.{Call, InsertedAs, PartCall, Unfelt, World}
 use Rattle.wl_server.specs.Runs.{Alone, AreOf, EachAlone, Inserts, IsIsolated, IsNeverInserted, IsNotInserted, Leads, Performs, SharedAlone, just_inserted, concerns, mine, offer_over, own_of}
 use Rattle.wl_server.specs.Server.{Seen, ServerState, new_server, nothing_seen, seen}
 use Rattle.wl_server.specs.Steps.{Entry, InsertsNext, NumbersClient, inserted_by, offer_after}
@@ -64,7 +63,7 @@ module _ {T U G C : Type 0} where
 
   unborn_run : (w : World T G C) (before after : ServerState T U G C) (run : List (Entry T U G C)) → Unborn before → Leads w before run after
       → Unborn after
-  unborn_run w before after [] born same = subst (λ (s : ServerState T U G C). Unborn s) (sym same) born
+  unborn_run w before after [] born same = rw same born
   unborn_run w before after (e ∷ run) born (mid, by, leads) = unborn_run w mid after run
       (grind (arith, nothing_call, seen, eqb-true, false≢true, numbered, one_more)) leads
 
@@ -106,15 +105,6 @@ module _ {T U G C : Type 0} where
 
   -- ---- the insertion
 
-  inserted_as : (w : World T G C) (id : ClientParts) (offer : Offer G) (transport : T) (client_data : C) (before : Seen T U C) (lacked : Bool) (did : List (Deed U)) (after : Seen T U C)
-      → before ≡ nothing_seen
-      → PartStep w id offer (step.InsertClient transport client_data) (reply.InsertClient (Ok id)) before lacked did after
-      → (link : LinkState T) × IsFresh transport (Some offer.default_limit) link × (after ≡ just_inserted link client_data)
-  inserted_as w id offer transport client_data before lacked did after nothing (r, is, h) =
-      let inserted = subst (λ (r : Result ClientParts InsertClientError). InsertedAs w id offer transport client_data r before lacked did after) (sym (ap inserted_in is)) h in
-      let (link, fresh, no_memory, deeds, same) = rw (same_self id) at inserted in
-      (link, fresh, same ∙ ap (λ (s : Seen T U C). record { part = Some (fresh_part link client_data); made = s.made ++ Initialized ∷ [] }) nothing)
-
   new_unborn : (table : List InterfaceRow) → Unborn (new_server {T = T} {U = U} {G = G} {C = C} table)
   new_unborn table = record { each = λ id late. refl }
 
@@ -126,14 +116,17 @@ module _ {T U G C : Type 0} where
   pub each_alone : (w : World T G C) (table : List InterfaceRow) (run : List (Entry T U G C)) (after : ServerState T U G C)
       → Leads w (new_server table) run after → EachAlone w table run after
   each_alone w table run after leads id transport client_data earlier later e is inserts =
-      let (mid, first, (next, by, rest)) =
-      split_run w (new_server table) after earlier (e ∷ later) (subst (λ (r : List (Entry T U G C)). Leads w (new_server table) r after) is leads) in
+      let (mid, first, (next, by, rest)) = split_run w (new_server table) after earlier (e ∷ later) (rw is at leads) in
       let offered = offer_run w (new_server table) mid earlier first in
       let born = unborn_run w (new_server table) mid earlier (new_unborn table) first in
       let number : id.serial ≡ mid.last_client + 1 = (numbered mid e.call id by.client (transport, client_data, inserts)).2 in
-      let (link, fresh, begun_so) =
-      inserted_as w id mid.offer transport client_data (seen id mid) (e.lacks id) (e.did id) (seen id next) (born.each id (omega (arith, number)))
-      (subst (λ (c : Call T U G C). PartCall w id mid.offer c (seen id mid) (e.lacks id) (e.did id) (seen id next)) inserts (by.each id)) in (
+      let (r, answered, h) =
+      subst (λ (c : Call T U G C). PartCall w id mid.offer c (seen id mid) (e.lacks id) (e.did id) (seen id next)) inserts (by.each id) in
+      let inserted =
+      subst (λ r. InsertedAs w id mid.offer transport client_data r (seen id mid) (e.lacks id) (e.did id) (seen id next)) (sym (ap inserted_in answered)) h in
+      let (link, fresh, unlacked, did, same) = rw (same_self id) at inserted in
+      let begun_so : seen id next ≡ just_inserted link client_data
+      = same ∙ ap (λ (s : Seen T U C). record { part = Some (fresh_part link client_data); made = s.made ++ Initialized ∷ [] }) (born.each id (omega (arith, number))) in (
         link,
         subst (λ (o : Offer G). IsFresh transport (Some o.default_limit) link) offered fresh,
         grind (arith, just_inserted, mine, seen, offer_after, offer_over_one, new_server, alone_run, one_more e.call id (transport, client_data, inserts)),

@@ -1,16 +1,15 @@
 -- What an object's messages announce, one list behind another.
-use Rattle.std.proofs.Common.{◌≡◌, ◌≢◌, ◌⊎◌, ℕ, Bool, true, false, not, cond, eqb, List, [], ◌∷◌, ◌++◌, length, map, refl, sym, ap, ◌∙◌, true≢false, append-nil, append_assoc, arith}
+use Rattle.std.proofs.Common.{◌≡◌, ◌≢◌, ℕ, Bool, true, false, cond, eqb, List, [], ◌∷◌, ◌++◌, length, map, refl, sym, ap, ◌∙◌, true≢false, append-nil, append_assoc, arith, subst}
 use mathlib.Core.Logic.{inl, inr}
-use Rattle.std.proofs.lemmas.Bool.{eqb-true, eq-eqb, ne_eqb}
+use Rattle.std.proofs.lemmas.Bool.{eqb-true, eq-eqb}
 use Rattle.wl_wire.specs.Table.{InterfaceRow, name_of}
 use Rattle.wl_link.specs.Identity.{Id}
 use Rattle.wl_link.specs.Puts.{Said}
-use Rattle.wl_server.proofs.OverRuns.Ids.AmongLaws.{among_both, among_filter, among_first, among_later, filter_among}
-use Rattle.wl_server.specs.Announced.{Announced, announced_after, announced_as, announced_over, sender_of, without_name}
+use Rattle.wl_server.specs.Announced.{Announced, announced_after, announced_as, announced_over, sender_of}
 use Rattle.wl_server.specs.Deeds.{IsAmong}
 use Rattle.wl_server.specs.Globals.{Shown}
 use Rattle.wl_server.specs.Part.{same_id}
-use Rattle.wl_server.specs.Telling.{global_message, introductions, making, removal_message}
+use Rattle.wl_server.specs.Telling.{introductions}
 
 -- ---- ids
 
@@ -26,18 +25,14 @@ pub announced-append : (r : Id) (told : List Announced) (a b : List Said) → an
 announced-append r told [] b = refl
 announced-append r told (m ∷ a) b = announced-append r (cond (same_id (sender_of m) r) (announced_after told m.message) told) a b
 
--- the object says nothing in these messages
-pub record SaysNothing (r : Id) (log : List Said) : Type 0 where
-  pub same : (told : List Announced) → announced_over r told log ≡ told
-
 -- they are of others
 abbrev pub AreOfOthers : Id → List Said → Type 0
 AreOfOthers r [] = Unit {0}
 AreOfOthers r (m ∷ log) = (sender_of m ≢ r) × AreOfOthers r log
 
-pub others_say : (r : Id) (log : List Said) → AreOfOthers r log → SaysNothing r log
-others_say r [] others = record { same = λ told. refl }
-others_say r (m ∷ log) others = grind (arith, announced_over, announced_after, other_id, sender_of, others_say r log others.1)
+pub others_say : (r : Id) (log : List Said) → AreOfOthers r log → (told : List Announced) → announced_over r told log ≡ told
+others_say r [] others told = refl
+others_say r (m ∷ log) others told = grind (arith, announced_over, announced_after, other_id, sender_of, others_say r log others.1 told)
 
 -- ---- a registry is told of globals one after another
 
@@ -55,68 +50,34 @@ module _ (table : List InterfaceRow) where
   greeted_other r y room [] other = tt
   greeted_other r y room (g ∷ gs) other = (other, greeted_other r y (length (name_of table g.interface.0)) gs other)
 
-  -- ---- all registries are told of a new global
+-- ---- each of some objects sends one message
 
-  module _ (g : Shown) (makes : Id → Bool) (r : Id) where
-    abbrev after_adding : List Announced → List Id → List Announced
-    after_adding told rs = announced_over r told (map (λ y. making (makes y) (global_message table y g)) rs)
-
-    pub adding_keeps : (told : List Announced) (rs : List Id) (x : Announced) → IsAmong told x
-        → IsAmong (announced_over r told (map (λ y. making (makes y) (global_message table y g)) rs)) x
-    adding_keeps told [] x among = among
-    adding_keeps told (y ∷ rs) x among = go (same_id y r) (λ t k. adding_keeps t rs x k)
-      where
-        go : (b : Bool) → ((t : List Announced) → IsAmong t x → IsAmong (after_adding t rs) x)
-            → IsAmong (after_adding (cond b (told ++ announced_as table g ∷ []) told) rs) x
-        go h1 more = grind (arith, announced_as, among_first)
-
-    pub adding_adds : (told : List Announced) (rs : List Id) → IsAmong rs r
-        → IsAmong (announced_over r told (map (λ y. making (makes y) (global_message table y g)) rs)) (announced_as table g)
-    adding_adds told [] among = absurd among
-    adding_adds told (y ∷ rs) (inl e) = grind (arith, announced_as, same_id_self, adding_keeps, among_later)
-    adding_adds told (y ∷ rs) (inr among) = adding_adds (cond (same_id y r) (told ++ announced_as table g ∷ []) told) rs among
-
-    pub adding_only : (told : List Announced) (rs : List Id) (x : Announced)
-        → IsAmong (announced_over r told (map (λ y. making (makes y) (global_message table y g)) rs)) x → IsAmong told x ⊎ (announced_as table g ≡ x)
-    adding_only told [] x among = inl among
-    adding_only told (y ∷ rs) x among = go (same_id y r) (λ t k. adding_only t rs x k) among
-      where
-        go : (b : Bool) → ((t : List Announced) → IsAmong (after_adding t rs) x → IsAmong t x ⊎ (announced_as table g ≡ x))
-            → IsAmong (after_adding (cond b (told ++ announced_as table g ∷ []) told) rs) x → IsAmong told x ⊎ (announced_as table g ≡ x)
-        go b h1 h2 = grind (arith, announced_as, among_both)
-
--- those that are told say nothing of a registry that is not among them
+-- those that send say nothing of an object that is not among them
 pub told_others : (r : Id) (message : Id → Said) → ((y : Id) → sender_of (message y) ≡ y) → (rs : List Id) → (IsAmong rs r → ⊥)
     → AreOfOthers r (map message rs)
 told_others r message by [] none = tt
 told_others r message by (y ∷ rs) none = (λ is. none (inl (sym (by y) ∙ is)), told_others r message by rs (λ among. none (inr among)))
 
--- ---- all registries are told that a global is announced no more
+-- what is announced on an object changes so in each message that it sends
+module _ (r : Id) (message : Id → Said) (by : (y : Id) → sender_of (message y) ≡ y) (change : List Announced → List Announced)
+    (does : (y : Id) (told : List Announced) → announced_after told (message y).message ≡ change told) where
+  -- what stays in a change
+  each_keeps : (P : List Announced → Type 0) → ((told : List Announced) → P told → P (change told)) → (told : List Announced) (rs : List Id) → P told
+      → P (announced_over r told (map message rs))
+  each_keeps P stays told [] h = h
+  each_keeps P stays told (y ∷ rs) h =
+      each_keeps P stays (cond (same_id (sender_of (message y)) r) (announced_after told (message y).message) told) rs
+      (elim (same_id (sender_of (message y)) r) as (λ b. P (cond b (announced_after told (message y).message) told)) [
+        | true ↦ subst P (sym (does y told)) (stays told h)
+        | false ↦ h
+      ])
 
-module _ (name : ℕ) (r : Id) where
-  abbrev after_removing : List Announced → List Id → List Announced
-  after_removing told rs = announced_over r told (map (removal_message name) rs)
-
-  pub removing_keeps : (told : List Announced) (rs : List Id) (x : Announced) → IsAmong told x → x.name ≢ name
-      → IsAmong (announced_over r told (map (removal_message name) rs)) x
-  removing_keeps told [] x among other = among
-  removing_keeps told (y ∷ rs) x among other = go (same_id y r) (λ t k. removing_keeps t rs x k other)
-    where
-      go : (b : Bool) → ((t : List Announced) → IsAmong t x → IsAmong (after_removing t rs) x)
-          → IsAmong (after_removing (cond b (without_name name told) told) rs) x
-      go h1 more = grind (arith, without_name, filter_among, not, ne_eqb)
-
-  pub removing_only : (told : List Announced) (rs : List Id) (x : Announced) → IsAmong (announced_over r told (map (removal_message name) rs)) x
-      → IsAmong told x
-  removing_only told [] x among = among
-  removing_only told (y ∷ rs) x among = go (same_id y r) (λ t k. removing_only t rs x k) among
-    where
-      go : (b : Bool) → ((t : List Announced) → IsAmong (after_removing t rs) x → IsAmong t x)
-          → IsAmong (after_removing (cond b (without_name name told) told) rs) x → IsAmong told x
-      go h1 more among = grind (arith, among_filter, without_name)
-
-  pub removing_removes : (told : List Announced) (rs : List Id) (x : Announced) → IsAmong rs r
-      → IsAmong (announced_over r told (map (removal_message name) rs)) x → x.name ≢ name
-  removing_removes told [] x there among = absurd there
-  removing_removes told (y ∷ rs) x (inl e) among = grind (arith, without_name, removing_only, same_id_self, true≢false, among_filter, eq-eqb)
-  removing_removes told (y ∷ rs) x (inr there) among = removing_removes (cond (same_id y r) (without_name name told) told) rs x there among
+  -- what a change makes of what holds before, if the object is among them
+  pub some_turns : (P Q : List Announced → Type 0) → ((told : List Announced) → Q told → P told) → ((told : List Announced) → P told → Q (change told))
+      → (told : List Announced) (rs : List Id) → IsAmong rs r → P told → Q (announced_over r told (map message rs))
+  some_turns P Q weak turns told [] among h = absurd among
+  some_turns P Q weak turns told (y ∷ rs) (inr among) h =
+      some_turns P Q weak turns (cond (same_id (sender_of (message y)) r) (announced_after told (message y).message) told) rs among (each_keeps P (λ t k. weak _ (turns t k)) told (y ∷ []) h)
+  some_turns P Q weak turns told (y ∷ rs) (inl e) h =
+      each_keeps Q (λ t k. turns t (weak t k)) (cond (same_id (sender_of (message y)) r) (announced_after told (message y).message) told) rs (subst (λ (b : Bool). Q (cond b (announced_after told (message y).message) told))
+      (sym (ap (λ (z : Id). same_id z r) (by y ∙ e) ∙ same_id_self r)) (subst Q (sym (does y told)) (turns told h)))

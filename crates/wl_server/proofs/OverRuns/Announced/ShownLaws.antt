@@ -12,7 +12,7 @@ use Rattle.wl_server.specs.declared.globals.KeptGlobal.{KeptGlobal}
 use Rattle.wl_server.proofs.OverRuns.Ids.AmongLaws.{among_contains, among_filter, among_map, contains_among, filter_among, map_among}
 use Rattle.wl_server.specs.Announced.{Announced, announced_as, shown_of}
 use Rattle.wl_server.specs.Deeds.{IsAmong}
-use Rattle.wl_server.specs.Globals.{Globals, Offer, as_disabled, disabled, disabled_at, freed, freed_at, global_of, global_serial, is_enabled, is_shown, shown, shown_as, with_globals}
+use Rattle.wl_server.specs.Globals.{Globals, Offer, as_disabled, global_of, global_serial, is_enabled, is_shown, shown, shown_as, with_globals}
 use Rattle.wl_server.specs.Ids.{ClientParts, GlobalParts}
 
 module _ {G C : Type 0} (views : G → ClientParts → C → GlobalParts → Bool) (client : ClientParts) (client_data : C) where
@@ -46,25 +46,34 @@ module _ {G C : Type 0} (views : G → ClientParts → C → GlobalParts → Boo
       (filter_among (is_shown views client client_data) (finmap.entries offer.globals.store.objects) (g.name, h.global)
       (among_contains (finmap.entries offer.globals.store.objects) (g.name, h.global) (((walk_of_entries offer.globals.store).each g.name h.global).1 h.at)) h.passes)))
 
+  -- what is at the name stays, and is announced as before
+  pub shown_in : (offer offer' : Offer G) (g : Announced) → ((x : Object (KeptGlobal G)) → held offer.globals.store g.name ≡ Some x
+      → (held offer'.globals.store g.name ≡ Some x) × (announced_as offer'.table (shown_as (g.name, x)) ≡ announced_as offer.table (shown_as (g.name, x)))) → IsShown offer g → IsShown offer' g
+  shown_in offer offer' g same h = let (at, named) = same h.global h.at in record { global = h.global; at = at; passes = h.passes; is = named ∙ h.is }
+
+  -- the same globals are shown
+  pub record StaysShown (offer offer' : Offer G) : Type 0 where
+    pub kept : (a : Announced) → IsShown offer a → IsShown offer' a
+    pub only : (a : Announced) → IsShown offer' a → IsShown offer a
+
+  -- the same globals, announced as before
+  pub renamed_stays : (offer offer' : Offer G) → offer'.globals ≡ offer.globals → ((a : Announced) (x : Object (KeptGlobal G)) → held offer.globals.store a.name ≡ Some x
+      → announced_as offer'.table (shown_as (a.name, x)) ≡ announced_as offer.table (shown_as (a.name, x))) → StaysShown offer offer'
+  renamed_stays offer offer' same named = record {
+    kept = λ a h. shown_in offer offer' a (λ x at. (ap (λ (globals : Globals G). held globals.store a.name) same ∙ at, named a x at)) h;
+    only = λ a h. shown_in offer' offer a
+        (λ x at. (let old = ap (λ (globals : Globals G). held globals.store a.name) (sym same) ∙ at in (old, sym (named a x old)))) h;
+  }
+
   module _ (offer : Offer G) (name : ℕ) where
-    abbrev With : Globals G → Announced → Type 0
-    With globals g = IsShown (with_globals offer globals) g
-
-    -- the same globals are shown at every other name
-    moved : (after : Globals G) (g : Announced) → held after.store g.name ≡ held offer.globals.store g.name → IsShown offer g → With after g
-    moved after g same h = record { global = h.global; at = same ∙ h.at; passes = h.passes; is = h.is }
-
-    back : (after : Globals G) (g : Announced) → held after.store g.name ≡ held offer.globals.store g.name → With after g → IsShown offer g
-    back after g same h = record { global = h.global; at = sym same ∙ h.at; passes = h.passes; is = h.is }
-
     -- a new global at a free name
     module _ (x : Object (KeptGlobal G)) (last : ℕ) (free : held offer.globals.store name ≡ None) where
       abbrev created : Globals G
       created = record { store = stored offer.globals.store name x; last_serial = last }
 
       pub created_old : (g : Announced) → IsShown offer g → IsShown (with_globals offer (record { store = stored offer.globals.store name x; last_serial = last })) g
-      created_old g h =
-          moved created g (stored_other offer.globals.store name x g.name (λ same. none-some _ (sym free ∙ ap (held offer.globals.store) (sym same) ∙ h.at))) h
+      created_old g h = shown_in offer (with_globals offer created) g
+          (λ y at. (stored_other offer.globals.store name x g.name (λ same. none-some _ (sym free ∙ ap (held offer.globals.store) (sym same) ∙ at)) ∙ at, refl)) h
 
       pub created_new : is_shown views client client_data (name, x) ≡ true
           → IsShown (with_globals offer (record { store = stored offer.globals.store name x; last_serial = last })) (announced_as offer.table (shown_as (name, x)))
@@ -75,7 +84,7 @@ module _ {G C : Type 0} (views : G → ClientParts → C → GlobalParts → Boo
       created_only g h =
           elim (cases_eq g.name name) [
             | inl same ↦ grind (arith, same_Some, stored_here, is_shown, announced_as, shown_as)
-            | inr other ↦ inl (back created g (stored_other offer.globals.store name x g.name other) h)
+            | inr other ↦ inl (shown_in (with_globals offer created) offer g (λ y at. (sym (stored_other offer.globals.store name x g.name other) ∙ at, refl)) h)
           ]
 
     -- other globals are as they were, and what has the name is not shown
@@ -85,47 +94,28 @@ module _ {G C : Type 0} (views : G → ClientParts → C → GlobalParts → Boo
 
     module _ (after : Globals G) (hides : Hides after) where
       pub hidden_old : (g : Announced) → IsShown offer g → g.name ≢ name → IsShown (with_globals offer after) g
-      hidden_old g h other = moved after g (hides.beside g.name other) h
+      hidden_old g h other = shown_in offer (with_globals offer after) g (λ x at. (hides.beside g.name other ∙ at, refl)) h
 
       pub hidden_only : (g : Announced) → IsShown (with_globals offer after) g → IsShown offer g × (g.name ≢ name)
-      hidden_only g h = (back after g (hides.beside g.name (λ same. grind (arith, held, is_shown))) h, (λ same. grind (arith, held, is_shown)))
+      hidden_only g h =
+          let other : g.name ≢ name = λ same. (grind (arith, held, is_shown)) in
+          (shown_in (with_globals offer after) offer g (λ x at. (sym (hides.beside g.name other) ∙ at, refl)) h, other)
 
-    disabled_hides : (x : Object (KeptGlobal G)) → Hides (record offer.globals { store = rewritten offer.globals.store name (as_disabled x) })
+    pub disabled_hides : (x : Object (KeptGlobal G)) → Hides (record offer.globals { store = rewritten offer.globals.store name (as_disabled x) })
     disabled_hides x = grind (arith, rewritten_other, as_disabled, rewritten_here, true≢false, is_shown)
 
-    removed_hides : Hides (record offer.globals { store = removed offer.globals.store name })
+    pub removed_hides : Hides (record offer.globals { store = removed offer.globals.store name })
     removed_hides = grind (arith, removed_other, removed_here)
 
-  module _ (offer : Offer G) (g : GlobalParts) (x : Object (KeptGlobal G)) (is : global_of offer.globals g ≡ Some x) where
-    pub disabled_one : Hides offer g.name (disabled offer.globals g)
-    disabled_one = grind (arith, disabled_at, disabled_hides)
-
-    pub freed_one : Hides offer g.name (freed offer.globals g)
-    freed_one = grind (arith, freed_at, removed_hides)
-
   -- a global that is not enabled is shown to nobody: nothing changes where it is disabled again, or removed
-  module _ (offer : Offer G) (g : GlobalParts) (hidden : is_enabled (global_of offer.globals g) ≡ false) where
-    -- what is shown stays
-    pub record StaysShown (after : Globals G) : Type 0 where
-      pub kept : (a : Announced) → IsShown offer a → IsShown (with_globals offer after) a
-      pub only : (a : Announced) → IsShown (with_globals offer after) a → IsShown offer a
-
-    stays_where_hidden : (after : Globals G) (x : Object (KeptGlobal G)) → global_of offer.globals g ≡ Some x → Hides offer g.name after → StaysShown after
-    stays_where_hidden after x is hides = record {
-      kept = λ a h. hidden_old offer g.name after hides a h (λ same. grind (arith, eqb, global_serial, is_enabled, is_shown, true≢false));
-      only = λ a h. (hidden_only offer g.name after hides a h).0;
-    }
-
-    pub disabled_stays : StaysShown (disabled offer.globals g)
-    disabled_stays = go (global_of offer.globals g) refl
-      where
-        go : (o : Option (Object (KeptGlobal G))) → global_of offer.globals g ≡ o → StaysShown (disabled_at offer.globals g.name o)
-        go None is = record { kept = λ a h. h; only = λ a h. h }
-        go (Some x) is = stays_where_hidden (disabled_at offer.globals g.name (Some x)) x is (disabled_hides offer g.name x)
-
-    pub freed_stays : StaysShown (freed offer.globals g)
-    freed_stays = go (global_of offer.globals g) refl
-      where
-        go : (o : Option (Object (KeptGlobal G))) → global_of offer.globals g ≡ o → StaysShown (freed_at offer.globals g.name o)
-        go None is = record { kept = λ a h. h; only = λ a h. h }
-        go (Some x) is = stays_where_hidden (freed_at offer.globals g.name (Some x)) x is (removed_hides offer g.name)
+  pub hidden_stays : (offer : Offer G) (g : GlobalParts) (at : Option (Object (KeptGlobal G)) → Globals G) → at None ≡ offer.globals
+      → ((x : Object (KeptGlobal G)) → Hides offer g.name (at (Some x))) → is_enabled (global_of offer.globals g) ≡ false
+      → StaysShown offer (with_globals offer (at (global_of offer.globals g)))
+  hidden_stays offer g at none hides off = go (global_of offer.globals g) refl
+    where
+      go : (o : Option (Object (KeptGlobal G))) → global_of offer.globals g ≡ o → StaysShown offer (with_globals offer (at o))
+      go None is = subst (λ (globals : Globals G). StaysShown offer (with_globals offer globals)) (sym none) (record { kept = λ a h. h; only = λ a h. h })
+      go (Some x) is = record {
+        kept = λ a h. hidden_old offer g.name (at (Some x)) (hides x) a h (λ same. grind (arith, eqb, global_serial, is_enabled, is_shown, true≢false));
+        only = λ a h. (hidden_only offer g.name (at (Some x)) (hides x) a h).0;
+      }

@@ -1,5 +1,5 @@
 -- A registry that is watched over what the program does with its client.
-use Rattle.std.proofs.Common.{◌≡◌, ◌≢◌, ◌⊎◌, ℕ, Bool, true, false, cond, eqb, List, [], ◌∷◌, ◌++◌, map, append-nil, Option, None, Some, is_some, Result, Ok, Err, MatchResult, refl, sym, ap, ◌∙◌, true≢false, arith}
+use Rattle.std.proofs.Common.{◌≡◌, ◌≢◌, ◌⊎◌, ℕ, Bool, true, false, cond, eqb, List, [], ◌∷◌, ◌++◌, map, Option, None, Some, is_some, Result, Ok, Err, MatchResult, refl, sym, ap, ◌∙◌, arith}
 use mathlib.Core.Logic.{inl, inr}
 use Rattle.wl_wire.specs.declared.error.IoFault.{IoFault}
 use Rattle.wl_wire.specs.declared.error.IoFault.TheVariants as fault
@@ -14,9 +14,8 @@ use Rattle.wl_server.specs.declared.error.DestroyError.{DestroyError}
 use Rattle.wl_server.specs.declared.error.EventError.{EventError}
 use Rattle.wl_server.specs.declared.error.FinishRefused.{FinishRefused}
 use Rattle.wl_server.specs.declared.objects.Kept.{Kept}
-use Rattle.wl_server.proofs.OverRuns.Moves.BaseMoves.{Doings}
 use Rattle.wl_server.specs.Deeds.{Deed, Sent, left_if, log_of, registries_in}
-use Rattle.wl_server.proofs.OverRuns.Moves.DoingsLaws.{doings_sends, told_deeds}
+use Rattle.wl_server.proofs.OverRuns.Moves.DoingsLaws.{told_deeds}
 use Rattle.wl_server.specs.Events.{SendsEvent, SendsGranted, SentAs, SessionMessage, ends_closed, ends_sender, event_check, said}
 use Rattle.wl_server.specs.Finish.{FinishesBind, FinishesRequest, core_finished, finish_verdict, data_given, ended_by, ends, refusal, store_with_data}
 use Rattle.wl_server.specs.Globals.{Offer}
@@ -26,47 +25,35 @@ use Rattle.wl_server.specs.Objects.{Destroys, destroyable, unless_refused, witho
 use Rattle.wl_server.specs.Part.{Part, end_note, id_at, id_of, named, with_link}
 use Rattle.wl_server.specs.Telling.{Core, Did, Tells, core_of, delete_message, deletions, tells}
 use Rattle.wl_server.proofs.OverRuns.Announced.WatchedReadings.{deletions_other}
-use Rattle.wl_server.proofs.OverRuns.Announced.WatchedVerdicts.{Lives, PartLives, lives_not, lives_same, lives_so, lives_then, log_both, registries_both, tells_lives}
-use Rattle.wl_server.proofs.OverRuns.Announced.Watching.{Goes, Scene, Steady, goes_then, others_goes, part_scene, scene_of, set_action_goes, steady_goes, steady_same, steady_then, went_goes, wrote_goes}
+use Rattle.wl_server.proofs.OverRuns.Announced.WatchedVerdicts.{IsSilent, PartLives, log_both, registries_both, silent_sends, tells_lives}
+use Rattle.wl_server.proofs.OverRuns.Announced.Watching.{Goes, Scene, goes_not, goes_on, goes_so, goes_then, others_goes, part_scene, scene_of, set_action_goes, steady_same, went_goes, wrote_goes}
 use Rattle.wl_server.proofs.ObjectCalls.Destroying.{named_is_held}
 use Rattle.std.proofs.lemmas.Option.{none-some}
 
 -- ---- deeds that put nothing
 
 module _ {U : Type 0} where
-  -- nothing is put, and no registry made
-  abbrev IsSilent : List (Deed U) → Type 0
-  IsSilent did = (log_of did ≡ []) × (registries_in did ≡ [])
-
   silent_left : (client : ClientParts) (waits : Bool) (id : IdParts) (x : Object (Kept U)) (b : Bool) → IsSilent (told_deeds (cond b [] (map Did (left_deeds client waits id x))))
   silent_left client waits id x b = grind (arith, end_note, id_at, left_if, id_of)
 
-pub silent_sends : (U : Type 0) (es : List Sending) → IsSilent {U = U} (map Sent es)
-silent_sends U es = (ap (λ (d : Doings U). d.put) (doings_sends es), ap (λ (d : Doings U). d.registries) (doings_sends es))
-
 module _ {G C : Type 0} (views : G → ClientParts → C → GlobalParts → Bool) (client : ClientParts) (r : Id) {U : Type 0} (offer : Offer G) where
-  abbrev Still : Scene U C → Scene U C → Type 0
-  Still s t = Steady views client r offer s t
-
   abbrev Change : Scene U C → List Said → List Id → Scene U C → Type 0
-  Change s put regs t = Goes views client r offer s put regs t
+  Change s put regs t = Goes views client r offer offer s put regs t
+
+  abbrev Still : Scene U C → Scene U C → Type 0
+  Still s t = Change s [] [] t
 
   abbrev Run : {T : Type 0} → Part T U C → List (Deed U) → Part T U C → Type 0
   Run p did q = PartLives views client r offer p did q
 
   -- ---- forms of a call
 
-  -- nothing is put, and the client stays as live as it was
-  pub quietly : {T : Type 0} (p q e : Part T U C) (did : List (Deed U)) → IsSilent did → q ≡ e → e.is_killed ≡ p.is_killed → Still (part_scene p) (part_scene e) → Run p did q
-  quietly p q e did silent same live still = grind (arith, lives_so, part_scene, log_of, registries_in, steady_goes)
+  -- nothing is put
+  pub quietly : {T : Type 0} (p q e : Part T U C) (did : List (Deed U)) → IsSilent did → q ≡ e → Still (part_scene p) (part_scene e) → Run p did q
+  quietly p q e did silent same still = grind (arith, goes_so, part_scene, log_of, registries_in)
 
   pub none_done : {T : Type 0} (p q : Part T U C) (did : List (Deed U)) → did ≡ [] → q ≡ p → Run p did q
   none_done p q did none same = grind (arith, quietly, log_of, registries_in, steady_same, part_scene)
-
-  -- messages and then a change, of a core that is as live as before
-  speaks_then : (c e : Core U C) (puts : List Said) (told : List (Deed U)) → e.is_killed ≡ c.is_killed → registries_in told ≡ [] → Change (scene_of c) puts [] (scene_of c)
-      → Still (scene_of c) (scene_of e) → Lives views client r offer c.is_killed e.is_killed (scene_of c) puts (registries_in told) (scene_of e)
-  speaks_then c e puts told same none says still = grind (arith, lives_so, scene_of, registries_in, append-nil, goes_then, steady_goes)
 
   -- ---- an object that leaves
 
@@ -74,15 +61,15 @@ module _ {G C : Type 0} (views : G → ClientParts → C → GlobalParts → Boo
   without_still : (c : Core U C) (id : IdParts) (x : Object (Kept U)) → named c.store id ≡ Some x → (id_of id ≢ r)
       → Still (scene_of c) (scene_of (without c id.number x))
   without_still c id x is other =
-      went_goes views client r offer (scene_of c) id.number x (named_is_held c.store id x is) (λ log made w among same. other (sym
+      went_goes views client r offer (scene_of c) id.number x (named_is_held c.store id x is) (λ told made w among same. other (sym
       (ap (λ (s : ℕ). record { number = id.number; serial = s }) (named_serial c.store id x is)) ∙ same))
 
   -- an object leaves, and its number is told
   leaves_lives : {T : Type 0} (sends : T → Queue → Result ℕ IoFault → T → Type 0) (p : Part T U C) (e starved : Core U C) (waits asks : Bool) (id : IdParts) (x : Object (Kept U))
-      (link : LinkState T) (lacked : Bool) (did : List (Deed U)) (q : Part T U C) → e.is_killed ≡ p.is_killed → (starved.is_killed ≡ true) ⊎ (starved ≡ core_of p)
+      (link : LinkState T) (lacked : Bool) (did : List (Deed U)) (q : Part T U C) → (starved.is_killed ≡ true) ⊎ (starved ≡ core_of p)
       → (lacked ≡ false → Still (part_scene p) (scene_of e))
       → Tells sends (leaving_by client e starved waits asks id x (deletions id.number)) link lacked did q → Run p did q
-  leaves_lives sends p e starved waits asks id x link lacked did q live back still tells' =
+  leaves_lives sends p e starved waits asks id x link lacked did q back still tells' =
       tells_lives views client r offer sends p (leaving_by client e starved waits asks id x (deletions id.number)) link lacked did q
       (record {
         last = λ d killed'. killed';
@@ -90,9 +77,10 @@ module _ {G C : Type 0} (views : G → ClientParts → C → GlobalParts → Boo
         silent = λ d. (silent_left client waits id x (is_some (named d.store id))).0;
       })
       (λ fits.
-      speaks_then (core_of p) e (deletions id.number) (told_deeds (cond (is_some (named e.store id)) [] (map Did (left_deeds client waits id x)))) live
+      goes_so views client r offer offer (part_scene p) (scene_of e) (deletions id.number) (deletions id.number) [] _ refl
       (silent_left client waits id x (is_some (named e.store id))).1
-      (grind (arith, others_goes, deletions, deletions_other, part_scene p, id.number)) (still (fits refl)))
+      (goes_on views client r offer (part_scene p) (part_scene p) (scene_of e) (deletions id.number) []
+      (grind (arith, others_goes, deletions, deletions_other, part_scene p, id.number)) (still (fits refl))))
       tells'
 
   pub destroys_lives : {T : Type 0} (sends : T → Queue → Result ℕ IoFault → T → Type 0) (p : Part T U C) (id : IdParts) (answer : Result (Unit {0}) DestroyError) (lacked : Bool)
@@ -101,7 +89,7 @@ module _ {G C : Type 0} (views : G → ClientParts → C → GlobalParts → Boo
       elim (either_option (destroyable p id) h) [
         | inl (none, (is, no_memory, nothing, same)) ↦ none_done p q did nothing same
         | inr (x, some, (is, tells')) ↦
-            leaves_lives sends p (without_noted client (core_of p) id.number x) (core_of p) true (is_some x.value.user_data) id x p.link lacked did q refl (inr refl)
+            leaves_lives sends p (without_noted client (core_of p) id.number x) (core_of p) true (is_some x.value.user_data) id x p.link lacked did q (inr refl)
             (λ fine. without_still (core_of p) id x (grind (arith, eqb, named)) (λ same. alone same (is ∙ ap (unless_refused _) fine))) tells'
       ]
 
@@ -115,25 +103,27 @@ module _ {G C : Type 0} (views : G → ClientParts → C → GlobalParts → Boo
   module _ {T : Type 0} (sends : T → Queue → Result ℕ IoFault → T → Type 0) (m : SessionMessage) (sender : Object (Kept U)) where
     module _ (p : Part T U C) (b : Bool) (es : List Sending) (link : LinkState T) (answer : Result (Unit {0}) EventError) (lacked : Bool) (rest did : List (Deed U)) (q : Part T U C)
         (is : named p.store m.sender ≡ Some sender) (alone : id_of m.sender ≡ r → answer ≢ Ok tt) (did_so : did ≡ map Sent es ++ rest) where
-      after_sends : Lives views client r offer p.is_killed q.is_killed (part_scene p) (log_of rest) (registries_in rest) (part_scene q) → Run p did q
-      after_sends lives = grind (arith, lives_so, part_scene, log_of, registries_in, log_both, silent_sends, registries_both)
+      after_sends : Run p rest q → Run p did q
+      after_sends lives = grind (arith, goes_so, part_scene, log_of, registries_in, log_both, silent_sends, registries_both)
 
       -- the sender is not the registry: it may leave
       sender_lives : (d : Bool) (more : List (Deed U)) → id_of m.sender ≢ r → Tells sends (ends_sender client (core_of p) m sender d) link lacked more q → Run p more q
-      sender_lives false more other tells' = grind (arith, tells_lives, tells, core_of, lives_same, part_scene, lives_so, scene_of, log_of, registries_in, steady_goes, steady_same)
+      sender_lives false more other tells' =
+          tells_lives views client r offer sends p (tells (core_of p) []) link lacked more q (record { last = λ d killed'. killed'; starved = inl refl; silent = λ e. refl })
+          (λ fits. steady_same views client r offer (part_scene p)) tells'
       sender_lives true more other tells' =
-          leaves_lives sends p (without_noted client (core_of p) m.sender.number sender) _ true false m.sender sender link lacked more q refl (inl refl)
+          leaves_lives sends p (without_noted client (core_of p) m.sender.number sender) _ true false m.sender sender link lacked more q (inl refl)
           (λ fine. without_still (core_of p) m.sender sender is other) tells'
 
       sent_lives : (w : Result (Unit {0}) IoFault) → SentAs sends client p m sender b w link answer lacked rest q → Run p did q
       sent_lives (Ok u) (more, tells', is_ok, rest_so) =
           let other : id_of m.sender ≢ r = λ same. alone same is_ok in
-          after_sends (lives_so views client r offer p.is_killed q.is_killed (part_scene p) (part_scene q) (said m ∷ log_of more) (log_of rest) (registries_in more) (registries_in rest)
+          after_sends (goes_so views client r offer offer (part_scene p) (part_scene q) (said m ∷ log_of more) (log_of rest) (registries_in more) (registries_in rest)
           (ap log_of rest_so) (ap registries_in rest_so)
-          (lives_then views client r offer p.is_killed p.is_killed q.is_killed (part_scene p) (part_scene p) (part_scene q) (said m ∷ []) (log_of more) [] (registries_in more)
-          (record { live = λ on. on; goes = λ on. (others_goes views client r offer (part_scene p) (said m ∷ []) (λ log made w ours. (other, tt))) }) (sender_lives b more other tells')))
-      sent_lives (Err fault.OutOfMemory) (is_err, no_memory, none, same) = grind (arith, after_sends, part_scene, log_of, registries_in, lives_so, lives_same)
-      sent_lives _ h = grind (arith, after_sends, tells_lives, ends_closed, core_of, silent_left, is_some, named, lives_not, part_scene, h.0)
+          (goes_then views client r offer (part_scene p) (part_scene p) (part_scene q) (said m ∷ []) (log_of more) [] (registries_in more)
+          (others_goes views client r offer (part_scene p) (said m ∷ []) (λ told made w ours. (other, tt))) (sender_lives b more other tells')))
+      sent_lives (Err fault.OutOfMemory) (is_err, no_memory, none, same) = grind (arith, after_sends, part_scene, log_of, registries_in, goes_so, steady_same)
+      sent_lives _ h = grind (arith, after_sends, tells_lives, ends_closed, core_of, silent_left, is_some, named, goes_not, part_scene, h.0)
 
     granted_lives : (p : Part T U C) (b : Bool) (answer : Result (Unit {0}) EventError) (lacked : Bool) (did : List (Deed U)) (q : Part T U C)
         → named p.store m.sender ≡ Some sender → (id_of m.sender ≡ r → answer ≢ Ok tt) → SendsGranted sends client p m sender b answer lacked did q → Run p did q
@@ -152,17 +142,19 @@ module _ {G C : Type 0} (views : G → ClientParts → C → GlobalParts → Boo
   -- ---- the end of an action
 
   finish_still : (c : Core U C) (created : Option IdParts) (u : Option U) → Still (scene_of c) (scene_of (core_finished c created u))
-  finish_still c created u = grind (arith, steady_then, scene_of, core_finished, set_action_goes, true≢false, is_some, given)
+  finish_still c created u = goes_on views client r offer (scene_of c) (scene_of over) (scene_of (core_finished c created u)) [] []
+      (set_action_goes views client r offer (scene_of c) None (λ sender b made is. absurd (none-some _ is))) (given created u)
     where
-      given : (created : Option IdParts) (u : Option U) → Still (scene_of (record c { action = None })) (scene_of (core_finished c created u))
-      given None u = steady_same views client r offer (scene_of (record c { action = None }))
-      given (Some id) None = steady_same views client r offer (scene_of (record c { action = None }))
+      over : Core U C
+      over = record c { action = None }
+
+      given : (created : Option IdParts) (u : Option U) → Still (scene_of over) (scene_of (core_finished c created u))
       given (Some id) (Some u) = go (named c.store id) refl
         where
-          go : (o : Option (Object (Kept U))) → named c.store id ≡ o
-              → Still (scene_of (record c { action = None })) (scene_of (record c { action = None; store = data_given c.store id.number o u }))
-          go None e = steady_same views client r offer (scene_of (record c { action = None }))
-          go (Some x) e = wrote_goes views client r offer (scene_of (record c { action = None })) id.number x u (named_is_held c.store id x e)
+          go : (o : Option (Object (Kept U))) → named c.store id ≡ o → Still (scene_of over) (scene_of (record over { store = data_given c.store id.number o u }))
+          go None e = steady_same views client r offer (scene_of over)
+          go (Some x) e = wrote_goes views client r offer (scene_of over) id.number x u (named_is_held c.store id x e)
+      given _ _ = steady_same views client r offer (scene_of over)
 
   module _ {T : Type 0} (sends : T → Queue → Result ℕ IoFault → T → Type 0) (p : Part T U C) (sender : IdParts) (b : Bool) (created : Option IdParts) (u : Option U)
       (open' : p.action ≡ Some (opened.Request sender b created)) (lacked : Bool) (did : List (Deed U)) (q : Part T U C) where
@@ -171,17 +163,13 @@ module _ {G C : Type 0} (views : G → ClientParts → C → GlobalParts → Boo
     ends_lives None is tells' =
         tells_lives views client r offer sends p (finish_verdict (core_of p) created u) p.link lacked did q
         (record { last = λ d killed'. killed'; starved = inl refl; silent = λ e. refl })
-        (λ fits. record {
-          live = λ on. on;
-          goes = λ on. steady_goes views client r offer (part_scene p) (scene_of (core_finished (core_of p) created u)) (finish_still (core_of p) created u);
-        })
-        tells'
+        (λ fits. finish_still (core_of p) created u) tells'
     ends_lives (Some x) is tells' =
-        leaves_lives sends p (core_finished (without (core_of p) sender.number x) created u) (core_of p) false (is_some x.value.user_data) sender x p.link lacked did q refl (inr refl)
+        leaves_lives sends p (core_finished (without (core_of p) sender.number x) created u) (core_of p) false (is_some x.value.user_data) sender x p.link lacked did q (inr refl)
         (λ fine.
-        steady_then views client r offer (part_scene p) (scene_of (without (core_of p) sender.number x)) (scene_of (core_finished (without (core_of p) sender.number x) created u))
+        goes_on views client r offer (part_scene p) (scene_of (without (core_of p) sender.number x)) (scene_of (core_finished (without (core_of p) sender.number x) created u)) [] []
         (went_goes views client r offer (scene_of (core_of p)) sender.number x (named_is_held (core_of p).store sender x (is x refl))
-        (λ log made w among same. w.open_other sender b created open' among (sym (ap (λ (s : ℕ). record { number = sender.number; serial = s })
+        (λ told made w among same. w.open_other sender b created open' among (sym (ap (λ (s : ℕ). record { number = sender.number; serial = s })
         (named_serial (core_of p).store sender x (is x refl))) ∙ same)))
         (finish_still (without (core_of p) sender.number x) created u)) tells'
 
@@ -207,6 +195,6 @@ module _ {G C : Type 0} (views : G → ClientParts → C → GlobalParts → Boo
         | inl (none, refuses) ↦ none_done p q did refuses.2 refuses.3
         | inr (opened.Request sender b created, is, refuses) ↦ none_done p q did refuses.2 refuses.3
         | inr (opened.Bind object, is, (is', no_memory, none, same)) ↦
-            quietly p q (record p { action = None; store = store_with_data p.store (Some object) (Some u) }) did (ap log_of none, ap registries_in none) same refl
+            quietly p q (record p { action = None; store = store_with_data p.store (Some object) (Some u) }) did (ap log_of none, ap registries_in none) same
             (finish_still (core_of p) (Some object) (Some u))
       ]

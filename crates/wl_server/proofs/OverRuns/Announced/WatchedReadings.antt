@@ -1,5 +1,5 @@
 -- A registry that is watched over the readings of its client.
-use Rattle.std.proofs.Common.{◌≡◌, ◌≢◌, ℕ, Bool, true, false, cond, eqb, List, [], ◌∷◌, ◌++◌, map, append-nil, Option, Some, Result, refl, sym, ap, subst, true≢false, arith}
+use Rattle.std.proofs.Common.{◌≡◌, ◌≢◌, ℕ, Bool, true, false, cond, eqb, List, [], ◌∷◌, ◌++◌, append-nil, Some, Result, refl, sym, subst, true≢false, arith}
 use mathlib.Core.Logic.{inl}
 use Rattle.std.specs.Prelude.{nat_lt}
 use Rattle.wl_wire.specs.declared.error.IoFault.{IoFault}
@@ -23,7 +23,6 @@ use Rattle.wl_server.specs.declared.globals.KeptGlobal.{KeptGlobal}
 use Rattle.wl_server.proofs.OverRuns.Announced.AnnouncementLaws.{AreOfOthers}
 use Rattle.wl_server.specs.Deeds.{Deed, Handed, Remembered, log_of, registries_in}
 use Rattle.wl_server.specs.Deeds as deeds
-use Rattle.wl_server.proofs.OverRuns.Moves.DoingsLaws.{told_deeds, told_stops}
 use Rattle.wl_server.specs.Errors.{fault_text, since_text}
 use Rattle.wl_server.specs.Globals.{Offer, global_at}
 use Rattle.wl_server.specs.Ids.{ClientParts, GlobalParts, IdParts}
@@ -33,9 +32,9 @@ use Rattle.wl_server.specs.Part.{Part, id_at, id_of}
 use Rattle.wl_server.specs.Reading.{Around, NextAction, binds, breaks, converted, faulted, garbled, hands_out, new_at, other_request, replies, server, stops_if, synced, syncs, with_registry}
 use Rattle.wl_server.proofs.OverRuns.Announced.RequestCases.{request_case}
 use Rattle.wl_server.specs.Requests.{Outcome, Whole, Wrong, convert, is_valid_new, made_id, made_object, start, with_made}
-use Rattle.wl_server.specs.Telling.{Core, Did, Told, deeds_in, delete_message, deletions, done_message, objects_in, reader_part, with_objects}
-use Rattle.wl_server.proofs.OverRuns.Announced.WatchedVerdicts.{CoreLives, Forms, Leads, PartLives, carried_to, lives_not, lives_same, lives_so, lives_then, log_both, registries_both, turned, verdict_lives}
-use Rattle.wl_server.proofs.OverRuns.Announced.Watching.{Goes, Scene, Steady, born_goes, goes_then, kept_other, others_goes, part_scene, registers_goes, scene_of, set_action_goes, steady_goes, steady_same, steady_then, went_goes}
+use Rattle.wl_server.specs.Telling.{Core, Told, deeds_in, delete_message, deletions, done_message, objects_in, reader_part, with_objects}
+use Rattle.wl_server.proofs.OverRuns.Announced.WatchedVerdicts.{CoreLives, Forms, Leads, PartLives, carried_to, log_both, registries_both, turned, verdict_lives, told_replies}
+use Rattle.wl_server.proofs.OverRuns.Announced.Watching.{Goes, Scene, born_goes, goes_then, kept_other, others_goes, part_scene, registers_goes, scene_of, set_action_goes, steady_same, went_goes, goes_not, goes_on, goes_so, steady}
 use Rattle.wl_server.proofs.Readings.OneMessage.{deeds_append}
 
 -- the messages that a display sends are of no registry
@@ -51,11 +50,8 @@ abbrev around_of : {G C : Type 0} → (G → ClientParts → C → GlobalParts �
 around_of views client offer = record { table = offer.table; client = client; globals = offer.globals; views = views }
 
 module _ {G C : Type 0} (views : G → ClientParts → C → GlobalParts → Bool) (client : ClientParts) (r : Id) {U : Type 0} (offer : Offer G) where
-  abbrev Still : Scene U C → Scene U C → Type 0
-  Still s t = Steady views client r offer s t
-
-  abbrev Goes' : Scene U C → List Said → List Id → Scene U C → Type 0
-  Goes' s put regs t = Goes views client r offer s put regs t
+  abbrev Change : Scene U C → List Said → List Id → Scene U C → Type 0
+  Change s put regs t = Goes views client r offer offer s put regs t
 
   -- a verdict that is carried out over the client
   record Handles (c : Core U C) (v : Verdict (Core U C) (Told U)) : Type 0 where
@@ -65,36 +61,31 @@ module _ {G C : Type 0} (views : G → ClientParts → C → GlobalParts → Boo
   -- ---- verdicts that end the client
 
   garbled_handles : (c : Core U C) → Handles c (garbled c)
-  garbled_handles c = grind (arith, lives_not, scene_of)
+  garbled_handles c = grind (arith, goes_not, scene_of)
 
   breaks_handles : (c m : Core U C) (code : ℕ) (text : List ℕ) → Handles c (breaks (around_of views client offer) m code text)
-  breaks_handles c m code text = grind (arith, lives_not, scene_of)
+  breaks_handles c m code text = grind (arith, goes_not, scene_of)
 
   -- ---- verdicts that answer
 
-  -- what it answers, where the client is as live as it was
-  replies_handles : (c m : Core U C) (puts : List Said) (did : List (Deed U)) → m.is_killed ≡ c.is_killed → log_of did ≡ []
-      → told_deeds (map Did did ++ stops_if m) ≡ did → ((e : Core U C) → log_of (told_deeds (map Did did ++ stops_if e)) ≡ [])
-      → Goes' (scene_of c) puts (registries_in did) (scene_of m) → Handles c (replies m puts did)
-  replies_handles c m puts did same quiet told silent goes = grind (arith, lives_so, scene_of, registries_in, stops_if)
+  replies_handles : (c m : Core U C) (puts : List Said) (did : List (Deed U)) → log_of did ≡ [] → Change (scene_of c) puts (registries_in did) (scene_of m)
+      → Handles c (replies m puts did)
+  replies_handles c m puts did quiet goes = grind (arith, goes_so, scene_of, registries_in, stops_if, told_replies)
 
-  hands_out_handles : (c m : Core U C) (action : OpenAction) (h : Handed) → m.is_killed ≡ c.is_killed → Still (scene_of c) (scene_of (record m { action = Some action }))
-      → Handles c (hands_out m action h)
-  hands_out_handles c m action h same still = grind (arith, steady_goes, scene_of)
+  hands_out_handles : (c m : Core U C) (action : OpenAction) (h : Handed) → Change (scene_of c) [] [] (scene_of (record m { action = Some action })) → Handles c (hands_out m action h)
+  hands_out_handles c m action h goes = grind (arith, scene_of)
 
   -- ---- a display's
 
   syncs_handles : (c : Core U C) (n : ℕ) → is_valid_new (objects_in c) n ≡ true → Handles c (syncs (around_of views client offer) c n)
   syncs_handles c n valid =
-      replies_handles c (synced (around_of views client offer) c n) (done_message (new_at (around_of views client offer) c n) ∷ deletions n) [] refl refl (told_stops (synced (around_of views client offer) c n)) (λ e. ap log_of (told_stops e))
-      (goes_then views client r offer (scene_of c) made (scene_of (synced (around_of views client offer) c n)) [] (done_message (new_at (around_of views client offer) c n) ∷ deletions n) [] []
-      (steady_goes views client r offer (scene_of c) made (born_goes views client r offer (scene_of c) n x (valid_new (objects_in c) n valid).0 refl))
-      (subst (λ (l : List Said). Goes' made l [] (scene_of (synced (around_of views client offer) c n))) (append-nil (done_message (new_at (around_of views client offer) c n) ∷ deletions n))
-      (goes_then views client r offer made made (scene_of (synced (around_of views client offer) c n)) (done_message (new_at (around_of views client offer) c n) ∷ deletions n) [] [] []
-      (grind (arith, others_goes, made, done_message, new_at, around_of, deletions, kept_other, x, stored_here, deletions_other))
-      (steady_goes views client r offer made (scene_of (synced (around_of views client offer) c n))
+      replies_handles c after says [] refl
+      (goes_then views client r offer (scene_of c) made (scene_of after) [] says [] []
+      (born_goes views client r offer (scene_of c) n x (valid_new (objects_in c) n valid).0 refl)
+      (goes_on views client r offer made made (scene_of after) says []
+      (grind (arith, others_goes, made, says, done_message, new_at, around_of, deletions, kept_other, x, stored_here, deletions_other))
       (went_goes views client r offer made n x (stored_here c.store n x n refl)
-      (λ log regs w is. kept_other views client r offer made log regs w (inl is) n x (stored_here c.store n x n refl) refl))))))
+      (λ told regs w is. kept_other views client r offer made told regs w (inl is) n x (stored_here c.store n x n refl) refl))))
     where
       x : Object (Kept U)
       x = made_object (objects_in c) callback_id 1
@@ -102,14 +93,20 @@ module _ {G C : Type 0} (views : G → ClientParts → C → GlobalParts → Boo
       made : Scene U C
       made = scene_of (with_objects c (with_made (objects_in c) n callback_id 1))
 
+      after : Core U C
+      after = synced (around_of views client offer) c n
+
+      says : List Said
+      says = done_message (new_at (around_of views client offer) c n) ∷ deletions n
+
   -- ---- a registry's
 
   binds_handles : (c : Core U C) (g version n : ℕ) (x : Object (KeptGlobal G)) → is_valid_new (objects_in c) n ≡ true → Handles c (binds (around_of views client offer) c g version n x)
   binds_handles c g version n x valid =
-      hands_out_handles c made (opened.Bind id) (deeds.Bind (global_at g x) id) refl
-      (steady_then views client r offer (scene_of c) (scene_of made) (scene_of (record made { action = Some (opened.Bind id) }))
+      hands_out_handles c made (opened.Bind id) (deeds.Bind (global_at g x) id)
+      (goes_then views client r offer (scene_of c) (scene_of made) (scene_of (record made { action = Some (opened.Bind id) })) [] [] [] []
       (born_goes views client r offer (scene_of c) n (made_object (objects_in c) x.interface version) (valid_new (objects_in c) n valid).0 refl)
-      (set_action_goes views client r offer (scene_of made) (Some (opened.Bind id)) (λ sender b created is. true≢false (ap is_bind is))))
+      (set_action_goes views client r offer (scene_of made) (Some (opened.Bind id)) (λ sender b created is. cc)))
     where
       id : IdParts
       id = made_id client (objects_in c) n x.interface
@@ -117,15 +114,11 @@ module _ {G C : Type 0} (views : G → ClientParts → C → GlobalParts → Boo
       made : Core U C
       made = with_objects c (with_made (objects_in c) n x.interface version)
 
-      is_bind : Option OpenAction → Bool
-      is_bind (Some (opened.Bind o)) = true
-      is_bind _ = false
-
   -- ---- other requests
 
   -- from some objects to others, whatever ids came up
   abbrev Over : Core U C → Objects (Kept U) → List (HandedId IdParts) → Objects (Kept U) → Type 0
-  Over c o ids o' = Still (scene_of (with_objects c o)) (scene_of (with_objects c o'))
+  Over c o ids o' = Change (scene_of (with_objects c o)) [] [] (scene_of (with_objects c o'))
 
   module _ (c : Core U C) (m : WireMessage) (receiver : Object (Kept U)) (row : MessageRow) (holds : held c.store m.sender ≡ Some receiver)
       (other : eqb receiver.interface.0 registry_id.0 ≡ false) where
@@ -136,11 +129,10 @@ module _ {G C : Type 0} (views : G → ClientParts → C → GlobalParts → Boo
     converted_handles : (outcome : Outcome U) → ((e : Core U C) → Came (Over e (objects_in c)) outcome) → Handles c (converted (around_of views client offer) c m receiver row outcome)
     converted_handles (Wrong w objects) came = breaks_handles c (with_objects c objects) 0 (fault_text offer.table receiver.interface row w)
     converted_handles (Whole d args) came =
-        hands_out_handles c (with_objects c d.objects) (opened.Request id row.is_destructor d.created) _ refl
-        (steady_then views client r offer (scene_of c) (scene_of (record c { action = Some (opened.Request id row.is_destructor d.created) }))
-        (scene_of (with_objects (record c { action = Some (opened.Request id row.is_destructor d.created) }) d.objects))
-        (grind (arith, id_of, scene_of c, row.is_destructor, d.created)) (came
-        (record c { action = Some (opened.Request id row.is_destructor d.created) })).0)
+        let opening : Core U C = record c { action = Some (opened.Request id row.is_destructor d.created) } in
+        hands_out_handles c (with_objects c d.objects) (opened.Request id row.is_destructor d.created) _
+        (goes_then views client r offer (scene_of c) (scene_of opening) (scene_of (with_objects opening d.objects)) [] [] [] []
+        (steady views client r offer (scene_of c) (scene_of opening) refl (λ told made w. (grind (arith, id_of, scene_of c, row.is_destructor, d.created)))) (came opening).0)
 
     other_handles : Handles c (other_request (around_of views client offer) c m receiver row)
     other_handles = go (nat_lt receiver.version row.since)
@@ -152,18 +144,14 @@ module _ {G C : Type 0} (views : G → ClientParts → C → GlobalParts → Boo
         go false =
             converted_handles (convert client receiver.version (start (objects_in c) row) [] m.args)
             (λ e. converts client receiver.version (Over e (objects_in c))
-            (λ ids o n i valid so. steady_then views client r offer _ _ _ so (born_goes views client r offer (scene_of (with_objects e o)) n (made_object o i receiver.version) (valid_new o n valid).0 refl))
+            (λ ids o n i valid so. goes_then views client r offer _ _ _ [] [] [] [] so (born_goes views client r offer (scene_of (with_objects e o)) n (made_object o i receiver.version) (valid_new o n valid).0 refl))
             (λ ids o n x there so. so) (λ ids o so. so) (start (objects_in c) row) [] m.args
             (steady_same views client r offer (scene_of (with_objects e (objects_in c))), λ id among. among))
 
   handles : (c : Core U C) (m : WireMessage) → Handles c ((server (around_of views client offer)).handles c m)
   handles c m =
       request_case (around_of views client offer) c (Handles c) (garbled_handles c) (λ code text. breaks_handles c c code text) (syncs_handles c)
-      (λ n valid. replies_handles c (with_registry (around_of views client offer) c n) _ (Remembered (new_at
-      (around_of views client offer) c n) ∷ []) refl refl
-      (ap (λ (did : List (Deed U)). Remembered (new_at (around_of views client offer) c n) ∷ did) (told_stops (with_registry
-      (around_of views client offer) c n)))
-      (λ e. ap log_of (told_stops e))
+      (λ n valid. replies_handles c (with_registry (around_of views client offer) c n) _ (Remembered (new_at (around_of views client offer) c n) ∷ []) refl
       (registers_goes views client r offer (scene_of c) n (made_object (objects_in c) registry_id 1) (valid_new (objects_in c) n valid).0 refl refl))
       (binds_handles c) m
       (λ receiver row holds other. other_handles c m receiver row holds other)
@@ -175,10 +163,10 @@ module _ {G C : Type 0} (views : G → ClientParts → C → GlobalParts → Boo
     Gave c gave e = CoreLives views client r offer c (log_of (deeds_in gave)) (registries_in (deeds_in gave)) e
 
     none_gave : (c : Core U C) (gave : List (Given (Told U))) → gave ≡ [] → Gave c gave c
-    none_gave c gave none = subst (λ (g : List (Given (Told U))). Gave c g c) (sym none) (lives_same views client r offer c.is_killed (scene_of c))
+    none_gave c gave none = subst (λ (g : List (Given (Told U))). Gave c g c) (sym none) (steady_same views client r offer (scene_of c))
 
     gave_then : (c m e : Core U C) (first rest : List (Given (Told U))) → Gave c first m → Gave m rest e → Gave c (first ++ rest) e
-    gave_then c m e first rest one more = grind (arith, lives_so, scene_of, log_of, deeds_in, registries_in, deeds_append, log_both, registries_both, lives_then)
+    gave_then c m e first rest one more = grind (arith, goes_so, scene_of, log_of, deeds_in, registries_in, deeds_append, log_both, registries_both, goes_then)
 
     turn_lives : (before : ReaderState T (Core U C)) (link : LinkState T) (v : Verdict (Core U C) (Told U)) → Handles before.core v → (es : List Sending) (first : List (Given (Told U)))
         (lacked : Bool) (mid : ReaderState T (Core U C)) → CarriesOut sends (server (around_of views client offer)) v link es first lacked mid → Gave before.core first mid.core
@@ -187,13 +175,14 @@ module _ {G C : Type 0} (views : G → ClientParts → C → GlobalParts → Boo
         (carried_to sends (server (around_of views client offer)) (λ d f. refl) before.core v h.forms link es first lacked mid by)
 
     faulted_lives : (c : Core U C) (f : IoFault) → Gave c [] (faulted c f)
-    faulted_lives c f = grind (arith, none_gave, lives_not, scene_of, lives_same, true≢false)
+    faulted_lives c f = grind (arith, none_gave, goes_not, scene_of, steady_same, true≢false)
 
     reads_lives : (left : ℕ) (before : ReaderState T (Core U C)) (turns : List Turn) (out : Gives (Told U)) (after : ReaderState T (Core U C))
         → Reads sends (server (around_of views client offer)) receives left before turns out after → Gave before.core out.gave after.core
     reads_lives left before [] out after (same, ends) =
         subst (λ (e : ReaderState T (Core U C)). Gave before.core out.gave e.core) (sym same) (none_gave before.core out.gave (gave_none sends (around_of views client offer) left before out ends))
-    reads_lives left before (Received t ∷ turns) out after (on, lacks, (n, is, (link, filled, room, h))) = grind (arith, either_result, counted_answer, count_of, with_link, faulted, faulted_lives, reads_lives n (with_link before link) turns out after)
+    reads_lives left before (Received t ∷ turns) out after (on, lacks, (n, is, (link, filled, room, h))) =
+        grind (arith, either_result, counted_answer, count_of, with_link, faulted, faulted_lives, reads_lives n (with_link before link) turns out after)
     reads_lives left before (Handled es ∷ turns) out after (on, (v, link, first, lacked, mid, rest, (m, read, is), by, split, more)) =
         subst (λ (o : Gives (Told U)). Gave before.core o.gave after.core) (sym split)
         (gave_then before.core mid.core after.core first rest.gave
@@ -204,4 +193,4 @@ module _ {G C : Type 0} (views : G → ClientParts → C → GlobalParts → Boo
     pub next_action_lives : (t : Reading) (p : Part T U C) (answer : Result Handed ActionError) (t' : Reading) (lacked : Bool) (did : List (Deed U)) (q : Part T U C)
         → NextAction sends receives (record { table = offer.table; client = client; globals = offer.globals; views = views }) t p answer t' lacked did q
         → PartLives views client r offer p did q
-    next_action_lives t p answer t' lacked did q h1 = grind (arith, either_option, either_bool, turned, lives_so, part_scene, scene_of, log_of, deeds_in, registries_in, reads_lives, reader_part, lives_same, append-nil, none_gave, gave_none, around_of, either_result, counted_answer, count_of, with_link, faulted, faulted_lives, gave_then, turn_lives, handles, garbled_handles, steady_goes, steady_same)
+    next_action_lives t p answer t' lacked did q h1 = grind (arith, either_option, either_bool, turned, goes_so, part_scene, scene_of, log_of, deeds_in, registries_in, reads_lives, reader_part, append-nil, none_gave, gave_none, around_of, either_result, counted_answer, count_of, with_link, faulted, faulted_lives, gave_then, turn_lives, handles, garbled_handles, steady_same)

@@ -1,37 +1,32 @@
 -- What the readings of a client of a server answer, and how they leave it: an action, or that the client was killed, or that
 -- more may be received later.
-use Rattle.std.proofs.Common.{◌≡◌, ◌≢◌, ◌⊎◌, ℕ, Bool, true, false, not, ◌&&◌, eqb, cond, List, [], ◌∷◌, ◌++◌, append-nil, map, Option, None, Some, is_none, is_some, Result, Ok, Err, is_ok, refl, sym, ap, ap₂, subst, ◌∙◌, true≢false, arith}
+use Rattle.std.proofs.Common.{◌≡◌, ◌≢◌, ◌⊎◌, ℕ, Bool, true, false, not, ◌&&◌, List, [], ◌∷◌, ◌++◌, append-nil, map, Option, None, Some, is_none, is_some, Result, Ok, Err, is_ok, refl, sym, ap, ap₂, subst, ◌∙◌, true≢false, arith}
 use mathlib.Core.Logic.{inr}
 use Rattle.std.proofs.lemmas.Option.{same_Some, none-some}
 use Rattle.std.specs.Prelude.{nat_lt}
-use Rattle.std.specs.Option.{option_map_or}
-use Rattle.wl_wire.specs.declared.argument.Argument.TheVariants as arg
 use Rattle.wl_wire.specs.declared.error.IoFault.{IoFault}
 use Rattle.wl_wire.specs.declared.error.IoFault.TheVariants as fault
-use Rattle.wl_wire.specs.Argument.{WireArgument}
 use Rattle.wl_wire.specs.Message.{WireMessage}
-use Rattle.wl_wire.specs.Table.{MessageRow, display_id, registry_id}
+use Rattle.wl_wire.specs.Table.{MessageRow}
 use Rattle.wl_link.specs.declared.object.Object.{Object}
 use Rattle.wl_link.specs.Exchange.{Queue, Sending}
 use Rattle.wl_link.specs.Link.{LinkState, counted_answer, count_of}
 use Rattle.wl_link.specs.Puts.{PutsOut, Said, lacks_memory}
 use Rattle.wl_link.specs.Reader.{CarriesOut, Ends, Given, Gives, HandedOut, Handled, Reads, Received, Turn, Unread, Verdict, given_first, came_to, put_and_gave, stops, with_link, ReaderState}
 use Rattle.wl_link.proofs.Readings.ServedLaws.{both_false}
-use Rattle.wl_link.specs.Store.{held}
 use Rattle.wl_server.specs.declared.reading.action.OpenAction.{OpenAction}
 use Rattle.wl_server.specs.declared.error.ActionError.{ActionError}
 use Rattle.wl_server.specs.declared.error.ActionError.TheVariants.{Io}
 use Rattle.wl_server.specs.declared.objects.Kept.{Kept}
-use Rattle.wl_server.specs.declared.globals.KeptGlobal.{KeptGlobal}
 use Rattle.wl_server.specs.declared.notes.DisconnectReason.{DisconnectReason}
 use Rattle.wl_server.specs.declared.notes.Happening.TheVariants.{Disconnected}
 use Rattle.wl_server.specs.Deeds.{Acted, Came, Deed, Handed, Noted, Put, Sent}
+use Rattle.wl_server.proofs.OverRuns.Announced.RequestCases.{request_case}
 use Rattle.wl_server.proofs.OverRuns.Moves.DoingsLaws.{deeds_given}
-use Rattle.wl_server.specs.Errors.{bind_text, new_id_text}
 use Rattle.wl_server.specs.Finish.{finish_verdict, ended_by, ends, ends_request, refusal}
 use Rattle.wl_server.specs.Ids.{IdParts}
-use Rattle.wl_server.specs.Reading.{Around, action_in, binds, binds_to, breaks, display_request, exchanges_in, garbled, hands_out, made_at, may_bind, other_request, reads_on, registry_request, request, row_in, server, synced, with_registry}
-use Rattle.wl_server.specs.Requests.{convert, is_valid_new, start}
+use Rattle.wl_server.specs.Reading.{Around, action_in, breaks, exchanges_in, garbled, hands_out, other_request, reads_on, server, synced, with_registry}
+use Rattle.wl_server.specs.Requests.{convert, start}
 use Rattle.wl_server.specs.Stretches.{answers_in, beside_exchanges, was_killed}
 use Rattle.wl_server.specs.Telling.{Core, Did, Finish, Stops, Told, closed_down, deeds_in, killed, objects_in, with_objects}
 use Rattle.wl_server.proofs.Readings.OneMessage.{deeds_append}
@@ -150,41 +145,16 @@ module _ {U G C : Type 0} (a : Around G C) where
   action_speaks : (c : Core U C) (action : OpenAction) (h : Handed) → IsReady c → Speaks (hands_out c action h)
   action_speaks c action h r = grind (arith)
 
-  made_speaks : (c : Core U C) (n : ℕ) (v : Verdict (Core U C) (Told U)) → IsReady c → Speaks v → Speaks (made_at a c n v)
-  made_speaks c n v r speaks = grind (arith, stops_speaks c 0 (new_id_text n) r, is_valid_new (objects_in c) n)
+  other_speaks : (c : Core U C) (m : WireMessage) (receiver : Object (Kept U)) (row : MessageRow) → IsReady c
+      → Speaks (other_request a c m receiver row)
+  other_speaks c m receiver row r = grind (arith, nat_lt, stops_speaks, with_objects, action_speaks, convert, start, objects_in)
 
-  -- ---- requests to a display
-
-  display_speaks : (c : Core U C) (opcode : ℕ) (args : List WireArgument) → IsReady c → Speaks (display_request a c opcode args)
-  display_speaks c opcode (arg.NewId n ∷ []) r = made_speaks c n _ r
-      (grind (arith, on_of, sound_killed, synced, with_registry, eqb opcode 0))
-  display_speaks c opcode _ r = garbled_speaks c r
-
-  -- ---- requests to a registry
-
-  binds_to_speaks : (c : Core U C) (g : ℕ) (name : Option (List ℕ)) (version n : ℕ) (x : Option (Object (KeptGlobal G))) → IsReady c → Speaks (binds_to a c g name version n x)
-  binds_to_speaks c g name version n None r = stops_speaks c 0 _ r
-  binds_to_speaks c g name version n (Some x) r = go (may_bind a c g name version x)
-    where
-      go : (b : Bool) → Speaks (cond b (made_at a c n (binds a c g version n x)) (breaks a c 0 (bind_text (option_map_or (λ t. t) name []) version g)))
-      go true = made_speaks c n _ r (action_speaks _ _ _ r)
-      go false = stops_speaks c 0 _ r
-
-  registry_speaks : (c : Core U C) (args : List WireArgument) → IsReady c → Speaks (registry_request a c args)
-  registry_speaks c (arg.Uint g ∷ arg.Str name ∷ arg.Uint version ∷ arg.NewId n ∷ []) r = binds_to_speaks c g name version n (held a.globals.store g) r
-  registry_speaks c _ r = garbled_speaks c r
-
-  -- ---- a message
-
-  request_speaks : (c : Core U C) (m : WireMessage) (receiver : Option (Object (Kept U))) (row : Option MessageRow) → IsReady c → Speaks (request a c m receiver row)
-  request_speaks c m None row r = garbled_speaks c r
-  request_speaks c m (Some receiver) None r = garbled_speaks c r
-  request_speaks c m (Some receiver) (Some row) r = go (eqb receiver.interface.0 display_id.0) (eqb receiver.interface.0 registry_id.0)
-    where
-      go : (b t : Bool) → Speaks (cond b (display_request a c m.opcode m.args) (cond t (registry_request a c m.args) (other_request a c m receiver row)))
-      go true t = display_speaks c m.opcode m.args r
-      go false true = registry_speaks c m.args r
-      go false false = grind (arith, nat_lt, stops_speaks, with_objects, action_speaks, convert, start, objects_in)
+  -- a message, of whatever kind
+  handles_speaks : (c : Core U C) (m : WireMessage) → IsReady c → Speaks ((server a).handles c m)
+  handles_speaks c m r =
+      request_case a c Speaks (garbled_speaks c r) (λ code text. stops_speaks c code text r) (λ n new. (grind (arith, on_of, sound_killed, synced)))
+      (λ n new. (grind (arith, on_of, sound_killed, with_registry))) (λ g version n x new. action_speaks _ _ _ r) m
+      (λ receiver row holds other. other_speaks c m receiver row r)
 
   -- ---- a verdict that was carried out
 
@@ -235,9 +205,8 @@ module _ {T U G C : Type 0} (sends : T → Queue → Result ℕ IoFault → T �
       grind (arith, sound_killed, is_none, true≢false, counted_answer (count_of r), reads_so n (with_link p link) after turns out)
   reads_so left p after (Handled es ∷ turns) out (on, (v, link, first, lacked, mid, rest, (m, read, is), carried, split, more)) ample sound =
       let calm = both_false lacked rest.refused (sym ample ∙ ap (λ (o : Gives (Told U)). o.refused) split) in
-      let says = carried_says a sends v (subst (λ (w : Verdict (Core U C) (Told U)). Speaks a w) (sym is) (request_speaks a p.core m
-      (held p.core.store m.sender) (row_in a.table (held p.core.store m.sender) m.opcode)
-      (grind (arith, is_none, true≢false, p.core)))) link es first lacked mid calm.0 carried in
+      let ready : IsReady p.core = grind (arith, is_none, true≢false, p.core) in
+      let says = carried_says a sends v (subst (Speaks a) (sym is) (handles_speaks a p.core m ready)) link es first lacked mid calm.0 carried in
       joins_so p.core mid.core after.core first lacked rest out split says (reads_so left mid after turns rest more calm.1 says.sound) (λ off. reads_off left mid after turns rest off more)
   reads_so left p after (Unread es ∷ turns) out
       (on, (v, link, first, lacked, mid, rest, (read, same, is), carried, split, more)) ample sound = grind (arith, both_false, garbled_speaks, is_none, true≢false, carried_says, joins_so, reads_off, reads_so left mid after turns rest more)

@@ -5,7 +5,6 @@ use Rattle.std.specs.Prelude.{MatchOption}
 use Rattle.wl_wire.specs.declared.error.IoFault.{IoFault}
 use Rattle.wl_link.specs.Exchange.{Queue}
 use Rattle.wl_link.proofs.Readings.HoldingLaws.{puts_hold}
-use Rattle.wl_link.specs.Link.{IsFresh, LinkState}
 use Rattle.wl_server.proofs.OverRuns.Moves.BaseMoves.{Doings, Goes, Moves, any, doings_of, followed, handed_by, handed_out, notes_taken, moved, stayed, taken_out, unfelt, within}
 use Rattle.wl_server.proofs.OverRuns.Moves.BaseMovesLaw.{call_goes}
 use Rattle.wl_server.specs.Globals.{Offer}
@@ -45,6 +44,3 @@ module _ {T U G C : Type 0} (w : World T G C) (id : ClientParts) where
   run_holds offer s (e ∷ run) t own (mid, by, alone) holds =
       run_holds (offer_after offer e.call) mid run t own.1 alone
       (goes_hold w.sends w.receives id s mid (doings_of (handed_by id e.call e.did) e.did) (call_goes true w id offer e.call s e.lacked e.did mid own.0 by (λ cleans. refl)) holds)
-
-pub fresh_holds : {T : Type 0} (transport : T) (limit : Option ℕ) (link : LinkState T) → IsFresh transport limit link → 0 < link.outgoing_capacity
-fresh_holds {T = T} transport limit link h5 = grind (arith)

@@ -1,18 +1,15 @@
 -- That what is told to a client outside a reading is told as in one, and that the end of an action is what the reader makes
 -- of it.
-use Rattle.std.proofs.Common.{◌≡◌, ℕ, inl, Bool, false, List, [], Option, None, Some, Result, Ok, is_ok, map, refl, ap, true≢false, arith}
-use Rattle.std.specs.Prelude.{MatchOption}
+use mathlib.Core.Logic.{inl, inr}
+use Rattle.wl_link.proofs.Calls.Branches.{either_option}
+use Rattle.std.proofs.Common.{◌≡◌, ℕ, Bool, false, List, [], Option, Some, Result, Ok, is_ok, map, refl, ap, true≢false, arith}
 use Rattle.wl_wire.specs.declared.error.IoFault.{IoFault}
 use Rattle.wl_link.specs.Exchange.{Queue, Sending}
 use Rattle.wl_link.specs.Link.{LinkState}
 use Rattle.wl_link.specs.Reader.{CarriesOut, Ends, Given, Verdict, came_to, put_and_gave, ReaderState}
-use Rattle.wl_server.specs.declared.reading.action.OpenAction.{OpenAction}
 use Rattle.wl_server.specs.declared.reading.action.OpenAction.TheVariants as opened
-use Rattle.wl_server.specs.declared.error.FinishError.{FinishError}
-use Rattle.wl_server.specs.declared.error.FinishError.TheVariants as finish
 use Rattle.wl_server.specs.Deeds.{Deed, Sent}
-use Rattle.wl_server.specs.Finish.{EndsRequest, FinishesBind, FinishesOpenBind, FinishesRequest, Refuses, core_finished, finish_verdict, ends_request, refusal}
-use Rattle.wl_server.specs.Ids.{IdParts}
+use Rattle.wl_server.specs.Finish.{FinishesBind, FinishesRequest, core_finished, finish_verdict, ends_request, refusal}
 use Rattle.wl_server.specs.Part.{Part}
 use Rattle.wl_server.specs.Reading.{Around, server}
 use Rattle.wl_server.specs.Telling.{Core, Finish, OfBind, OfRequest, Told, core_of, deeds_of, part_of, reader_part, speaker}
@@ -31,41 +28,32 @@ module _ {T U G C : Type 0} (sends : T → Queue → Result ℕ IoFault → T �
 
   pub request_ends_alike : (before : Part T U C) (u : Option U) (refused : Bool) (did : List (Deed U)) (after : Part T U C) → before.is_killed ≡ false
       → FinishesRequest sends a.client before u (Ok tt) refused did after → EndsAlike before (OfRequest u) refused did after
-  request_ends_alike before u refused did after live h = grind (arith, true≢false, is_ok, ended, refusal, before.action)
-    where
-      ended : (sender : IdParts) (d : Bool) (created : Option IdParts) (e : Option FinishError) → before.action ≡ Some (opened.Request sender d created)
-          → refusal before.is_killed created u ≡ e
-          → MatchOption e (EndsRequest sends a.client before sender d created u (Ok tt) refused did after) (λ e. Refuses before u e (Ok tt) refused did after)
-          → EndsAlike before (OfRequest u) refused did after
-      ended sender d created (Some e) is_open accepted h = absurd (true≢false (ap is_ok h.0))
-      ended sender d created None is_open accepted (answer, (es, gave, end, carried, did_so, is)) = (
-        es,
-        gave,
-        end,
-        (ends_request a.client (core_of before) sender d created u, rw is_open (rw accepted (rw live refl)), carried_alike (ends_request a.client (core_of before) sender d created u) before.link es gave refused end carried),
-        did_so,
-        is,
-      )
+  request_ends_alike before u refused did after live h =
+      elim (either_option before.action h) [
+        | inl (none, (wrong, calm, nothing, still)) ↦ absurd (true≢false (ap is_ok wrong))
+        | inr (opened.Bind object, is_open, (wrong, calm, nothing, still)) ↦ absurd (true≢false (ap is_ok wrong))
+        | inr (opened.Request sender d created, is_open, g) ↦
+            elim (either_option (refusal before.is_killed created u) g) [
+              | inr (e, why, (wrong, calm, nothing, still)) ↦ absurd (true≢false (ap is_ok wrong))
+              | inl (accepted, (answer, (es, gave, end, carried, did_so, is))) ↦
+                  let v = ends_request a.client (core_of before) sender d created u in
+                  let by : Ends sends (server a) (reader_part before) (OfRequest u) es gave refused end
+                  = (v, rw is_open (rw accepted (rw live refl)), carried_alike v before.link es gave refused end carried) in
+                  (es, gave, end, by, did_so, is)
+            ]
+      ]
 
   -- so is the end of a bind
   pub bind_ends_alike : (before : Part T U C) (u : U) (refused : Bool) (did : List (Deed U)) (after : Part T U C) → before.is_killed ≡ false
       → FinishesBind before u (Ok tt) refused did after → EndsAlike before (OfBind u) refused did after
-  bind_ends_alike before u refused did after live h = at before.action refl h
-    where
-      at : (action : Option OpenAction) → before.action ≡ action
-          → MatchOption action (Refuses before u finish.NoOpenAction (Ok tt) refused did after) (λ a'. FinishesOpenBind before a' u (Ok tt) refused did after)
-          → EndsAlike before (OfBind u) refused did after
-      at None is_open h = absurd (true≢false (ap is_ok h.0))
-      at (Some (opened.Request sender d created)) is_open h = absurd (true≢false (ap is_ok h.0))
-      at (Some (opened.Bind object)) is_open (answer, no_memory, did_so, is) = (
-        [],
-        [],
-        record { core = core_finished (core_of before) (Some object) (Some u); link = before.link },
-        (
-          finish_verdict (core_of before) (Some object) (Some u),
-          rw is_open (rw live refl),
-          inl ([], [], [], Ok tt, before.link, false, (refl, refl, refl, refl), (refl, refl, refl), refl, refl, refl, no_memory),
-        ),
-        did_so,
-        is,
-      )
+  bind_ends_alike before u refused did after live h =
+      elim (either_option before.action h) [
+        | inl (none, (wrong, calm, nothing, still)) ↦ absurd (true≢false (ap is_ok wrong))
+        | inr (opened.Request sender d created, is_open, (wrong, calm, nothing, still)) ↦ absurd (true≢false (ap is_ok wrong))
+        | inr (opened.Bind object, is_open, (answer, no_memory, did_so, is)) ↦
+            let end : ReaderState T (Core U C) = record { core = core_finished (core_of before) (Some object) (Some u); link = before.link } in
+            let v = finish_verdict (core_of before) (Some object) (Some u) in
+            let carried : CarriesOut sends (server a) v before.link [] [] refused end
+            = inl ([], [], [], Ok tt, before.link, false, (refl, refl, refl, refl), (refl, refl, refl), refl, refl, refl, no_memory) in
+            ([], [], end, (v, rw is_open (rw live refl), carried), did_so, is)
+      ]

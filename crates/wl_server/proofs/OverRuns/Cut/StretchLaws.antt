@@ -1,7 +1,7 @@
 -- That what a stretch of a client's own run gives is what is served of all that arrived.
 --
 -- Its entries are acts of the client as a reader: those that are refused change nothing, and are none.
-use Rattle.std.proofs.Common.{◌≡◌, ◌⊎◌, ℕ, Bool, true, false, List, [], ◌∷◌, ◌++◌, append_assoc, append-nil, Option, None, Some, Result, Ok, Err, map, refl, sym, ap, ap₂, subst, ◌∙◌, true≢false, arith, is_none, is_ok}
+use Rattle.std.proofs.Common.{◌≡◌, ℕ, Bool, true, false, List, [], ◌∷◌, ◌++◌, append_assoc, append-nil, Option, None, Some, Result, Ok, Err, refl, sym, ap, subst, ◌∙◌, true≢false, arith, is_none, is_ok}
 use mathlib.Core.Logic.{inl, inr}
 use Rattle.std.proofs.lemmas.Option.{same_Some, none-some}
 use Rattle.wl_wire.specs.declared.error.IoFault.{IoFault}
@@ -13,17 +13,18 @@ use Rattle.wl_link.proofs.Streams.LengthLaws.{front_fits}
 use Rattle.wl_link.specs.Link.{incoming_limit, with_transport}
 use Rattle.wl_link.proofs.Calls.QueueLaws.{joined_nothing}
 use Rattle.wl_link.proofs.Stretches.RanLaws.{ran}
-use Rattle.wl_link.specs.Reader.{Ends, Gives, Given, IsFed, Reads, Turn, came_by, ReaderState}
+use Rattle.wl_link.proofs.Readings.ServedLaws.{served_one}
+use Rattle.wl_link.specs.Served.{state_as}
+use Rattle.wl_link.proofs.Calls.OneScript.{script_sends_function}
+use Rattle.wl_link.specs.Reader.{Ends, Gives, IsFed, Reads, Turn, came_by, ReaderState}
 use Rattle.wl_link.specs.Script.{Script, ScriptReceives, ScriptSends}
-use Rattle.wl_link.specs.Stretch.{Act, AllPieces, Arrived, DoesAll, EndsByPipe, EndsWaiting as ActsEndWaiting, HasEnded, HasRead, IsStretch as IsActStretch, NotFull, arrivals_of, arrived as act_arrived, ended as act_ended, given_in, with_arrival}
-use Rattle.wl_link.proofs.Stretches.StretchLaws.{acts_pieces, arrived-append, cut_otherwise as acts_cut_otherwise, does_joins, ended-append, ends_waiting-append, given_in-append, roomy_before, stretch_served as acts_served}
+use Rattle.wl_link.specs.Stretch.{Act, AllPieces, Arrived, DoesAll, EndsByPipe, EndsWaiting as ActsEndWaiting, HasEnded, HasRead, IsStretch as IsActStretch, NotFull, arrivals_of, arrived as act_arrived, ended as act_ended, given_in, with_arrival, sending_side}
+use Rattle.wl_link.proofs.Stretches.StretchLaws.{acts_pieces, arrived-append, does_joins, ended-append, ends_waiting-append, given_in-append, roomy_before, stretch_served as acts_served}
 use Rattle.wl_server.specs.declared.reading.action.Reading.{Reading}
 use Rattle.wl_server.specs.declared.error.ActionError.{ActionError}
 use Rattle.wl_server.specs.declared.error.ActionError.TheVariants.{ActionOpen, Io}
 use Rattle.wl_server.specs.declared.error.ScriptError.{ScriptError}
 use Rattle.wl_server.specs.declared.notes.DisconnectReason.{DisconnectReason}
-use Rattle.wl_server.specs.declared.runs.step.Reply.{Reply}
-use Rattle.wl_server.specs.declared.runs.step.Reply.TheVariants as reply
 use Rattle.wl_server.specs.declared.runs.step.Step.TheVariants as step
 use Rattle.wl_server.proofs.OverRuns.Cut.AnswerLaws.{IsSound, ReadsSo, action_first, answers_both, beside_both, beside_sends, beside_turns, ends_so, first_of, on_of, reads_so, killed_later}
 use Rattle.wl_server.proofs.OverRuns.Cut.CuttingLaws.{of_part}
@@ -47,25 +48,13 @@ use Rattle.wl_server.proofs.Readings.OneMessage.{deeds_append}
 
 -- ---- what a reading told
 
--- the fault of an answer
-abbrev fault_of : Result Handed ActionError → Option IoFault
-fault_of (Err (Io f)) = Some f
-fault_of _ = None
-
 module _ {U C : Type 0} (c e : Core U C) (out : Gives (Told U)) (on : reads_on c ≡ true) (so : ReadsSo c out e) (answer : Result Handed ActionError)
     (is : answer ≡ answered_so out.stopped out.gave) where
-  -- the answer of a reading that is over
-  over_is : out.stopped ≡ None → (x : Result Handed IoFault) → answers_in out.gave ≡ x ∷ [] → answer ≡ first_of (x ∷ [])
-  over_is stopped x one = is ∙ ap (λ (o : Option IoFault). answered_so o out.gave) stopped ∙ action_first out.gave ∙ ap first_of one
-
-  stopped_is : (f : IoFault) → out.stopped ≡ Some f → answer ≡ Err (Io f)
-  stopped_is f stopped = is ∙ ap (λ (o : Option IoFault). answered_so o out.gave) stopped
-
   told_so : (exchanges : List (Deed U)) → ((f : IoFault) → out.stopped ≡ Some f → f ≡ fault.WouldBlock) → told_by (Some answer) (deeds_of exchanges out.gave e) ≡ answers_in out.gave
-  told_so exchanges h1 = grind (arith, told_by, deeds_of, answers_in, stopped_is, true≢false, over_is, killed_later, deeds_in, end_deeds, was_killed, answered_so, action_first, first_of)
+  told_so exchanges h1 = grind (arith, told_by, deeds_of, true≢false, killed_later, deeds_in, end_deeds, was_killed, answered_so, action_first out.gave, first_of)
 
   blocks_so : answer ≡ Err (Io fault.WouldBlock) → out.stopped ≡ Some fault.WouldBlock
-  blocks_so h1 = grind (arith, fault_of, stopped_is, true≢false, none-some, over_is, same_Some, answered_so, action_first, first_of)
+  blocks_so h1 = grind (arith, true≢false, none-some, same_Some, answered_so, action_first out.gave, first_of)
 
 -- ---- finishes that are refused, or are not
 
@@ -93,8 +82,7 @@ module _ {G C : Type 0} (views : G → ClientParts → C → GlobalParts → Boo
     -- ---- what a run is as acts
 
     -- each entry is one act or none; where the last one finds that the transport would block, so does the last act
-    record Acts (s : Client U) (run : Run U) (after : Seen Script U C) (end : Client U)
-        (acts : ActList U) : Type 0 where
+    record Acts (s : Client U) (run : Run U) (after : Seen Script U C) (end : Client U) (acts : ActList U) : Type 0 where
       there : after.part ≡ Some (part_of end)
       does : DoesAll (server a) s acts end
       came_in : act_arrived acts ≡ arrived run
@@ -118,14 +106,12 @@ module _ {G C : Type 0} (views : G → ClientParts → C → GlobalParts → Boo
         (sound : IsSound s.core) where
       -- nothing changed
       acts_none : q ≡ part_of s → x.did ≡ [] → arrived_by x.call ≡ nothing → finished_by x.call ≡ [] → (r : Option (Result Handed ActionError))
-          → reading_by x.call ≡ r
-          → told_by {U = U} r [] ≡ [] → (r ≡ Some (Err (Io fault.WouldBlock)) → ⊥) → AsActs s (x ∷ []) after
+          → reading_by x.call ≡ r → told_by {U = U} r [] ≡ [] → (r ≡ Some (Err (Io fault.WouldBlock)) → ⊥) → AsActs s (x ∷ []) after
       acts_none same none came ended r is told not = (s, [], (grind (arith, append-nil)))
 
       -- something arrived
       acts_arrived : (r : Result Queue IoFault) → IsFed r → q ≡ part_of (with_arrival s r) → x.did ≡ [] → came_by r ≡ arrived_by x.call
-          → finished_by x.call ≡ []
-          → reading_by x.call ≡ None → AsActs s (x ∷ []) after
+          → finished_by x.call ≡ [] → reading_by x.call ≡ None → AsActs s (x ∷ []) after
       acts_arrived r fed same none came ended unread =
           let does : DoesAll (server a) s (Arrived r ∷ []) (with_arrival s r) = (with_arrival s r, (fed, refl), refl) in
           (with_arrival s r, Arrived r ∷ [], (grind (arith, does, append-nil, none-some)))
@@ -135,30 +121,18 @@ module _ {G C : Type 0} (views : G → ClientParts → C → GlobalParts → Boo
           → Reads ScriptSends (server a) ScriptReceives left s turns out end → out.refused ≡ false → answer ≡ answered_so out.stopped out.gave
           → reading_by x.call ≡ Some answer
           → x.did ≡ deeds_of (exchanges_in turns) out.gave end.core → q ≡ part_of end → s.core.ended ≡ None → arrived_by x.call ≡ nothing
-          → finished_by x.call ≡ []
-          → AsActs s (x ∷ []) after
+          → finished_by x.call ≡ [] → AsActs s (x ∷ []) after
       acts_read left turns out end answer on reads ample is told did_so same unended came ended =
-          let so = reads_so ScriptSends ScriptReceives a left s end turns out reads ample sound in (
-            end,
-            HasRead out ∷ [],
-            record {
-              there = there ∙ ap Some same;
-              does = (end, (ample, (left, turns, reads)), refl);
-              came_in = ap (λ (q : Queue). joined q nothing) (sym came);
-              ended_with = ap (λ (us : List (Finish U)). us ++ []) (sym ended);
-              deeds = grind (arith, end_deeds, beside_exchanges, beside_both, deeds_in, exchanges_in, beside_turns, append-nil, so.quiet);
-              sound = so.sound;
-              answers = λ all roomy.
-                  ap₂ (λ (o : Option (Result Handed ActionError)) (d : List (Deed U)). told_by o d ++ []) told did_so ∙ append-nil
-                  (told_by (Some answer) _)
-                  ∙ told_so s.core end.core out on so answer is (exchanges_in turns)
-                  (fed_blocks ScriptSends ScriptReceives (server a) (λ c. refl) end left s turns out reads
-                  (ran (server a) end roomy left s turns out ample reads all).fed ample)
-                  ∙ ap answers_in (sym (append-nil out.gave));
-              waits = λ w before. ends_waiting-append before (HasRead out)
-                  (blocks_so s.core end.core out on so answer is (same_Some answer (Err (Io fault.WouldBlock)) (sym told ∙ w)));
-            },
-          )
+          let so = reads_so ScriptSends ScriptReceives a left s end turns out reads ample sound in
+          let does : DoesAll (server a) s (HasRead out ∷ []) end = (end, (ample, (left, turns, reads)), refl) in
+          let answers : AllPieces (arrivals_of s) → NotFull (server a) end → told_by (Some answer)
+          (deeds_of (exchanges_in turns) out.gave end.core) ≡ answers_in out.gave
+          = λ all roomy. told_so s.core end.core out on so answer is (exchanges_in turns)
+          (fed_blocks ScriptSends ScriptReceives (server a) (λ c. refl) end left s turns out reads
+          (ran (server a) end roomy left s turns out ample reads all).fed ample) in
+          let waits : answer ≡ Err (Io fault.WouldBlock) → (before : ActList U) → ActsEndWaiting (before ++ HasRead out ∷ [])
+          = λ w before. ends_waiting-append before (HasRead out) (blocks_so s.core end.core out on so answer is w) in
+          (end, HasRead out ∷ [], (grind (arith, does, answers, waits, so.quiet, so.sound, beside_both, beside_turns, append-nil)))
 
       -- an accepted finish, of a client with an open action
       acts_ended : (u : Finish U) → (s.core.action ≡ None → ⊥) → (s.core.is_killed ≡ false → EndsAlike ScriptSends a (part_of s) u false x.did q)
@@ -167,24 +141,13 @@ module _ {G C : Type 0} (views : G → ClientParts → C → GlobalParts → Boo
           let standing : (s.core.is_killed ≡ false) × (s.core.ended ≡ None) = grind (arith, sound, opened) in
           let (es, gave, end, by, did_so, same) = by_ends standing.0 in
           let ends = subst (λ (p : Client U). Ends ScriptSends (server a) p u es gave false end) (begun_so s standing.1) by in
-          let so = ends_so a ScriptSends s end u es gave standing.1 ends in (
-            end,
-            HasEnded u gave ∷ [],
-            record {
-              there = there ∙ ap Some same;
-              does = (end, ((grind (arith, is_none, opened, reads_on, s.core.action)), (es, ends)), refl);
-              came_in = ap (λ (q : Queue). joined q nothing) (sym came);
-              ended_with = ap (λ (us : List (Finish U)). us ++ []) (sym ended);
-              deeds = grind (arith, end_deeds, beside_exchanges, beside_both, deeds_in, map, beside_sends, append-nil, so.quiet);
-              sound = so.sound;
-              answers = λ all roomy. grind (arith, unread, so.none, append-nil);
-              waits = λ is before. absurd (none-some _ (sym unread ∙ is));
-            },
-          )
+          let so = ends_so a ScriptSends s end u es gave standing.1 ends in
+          let off : reads_on s.core ≡ false = grind (arith, is_none, opened, reads_on, s.core.action) in
+          let does : DoesAll (server a) s (HasEnded u gave ∷ []) end = (end, (off, (es, ends)), refl) in
+          (end, HasEnded u gave ∷ [], (grind (arith, does, so.quiet, so.sound, so.none, beside_both, beside_sends, append-nil)))
 
       acts_next : (r r' : Reading) (answer : Result Handed ActionError) → reading_by x.call ≡ Some answer → arrived_by x.call ≡ nothing
-          → finished_by x.call ≡ []
-          → NextAction ScriptSends ScriptReceives a r (part_of s) answer r' false x.did q → AsActs s (x ∷ []) after
+          → finished_by x.call ≡ [] → NextAction ScriptSends ScriptReceives a r (part_of s) answer r' false x.did q → AsActs s (x ∷ []) after
       acts_next r r' answer told came ended h =
           elim (either_option s.core.action h) [
             | inr (action, is_open, (is, left, unasked, none, same)) ↦ acts_none same none came ended (Some (Err ActionOpen))
@@ -196,17 +159,12 @@ module _ {G C : Type 0} (views : G → ClientParts → C → GlobalParts → Boo
                   | inr (live, (turns, out, end, reads, is, left, lacks, did_so, same)) ↦
                       acts_read r.turns_left turns out end answer (on_of s.core live unopened)
                       (subst (λ (p : Client U). Reads ScriptSends (server a) ScriptReceives r.turns_left p turns out end)
-                      (begun_so s (unended live)) reads)
-                      (sym lacks) is told did_so same (unended live) came ended
+                      (begun_so s (unended live)) reads) (sym lacks) is told did_so same (unended live) came ended
                 ]
           ]
         where
           unended : s.core.is_killed ≡ false → s.core.ended ≡ None
           unended live = grind (arith, sound, true≢false)
-
-    abbrev arrive_answer : Reply Script U → Result (Unit {0}) ScriptError
-    arrive_answer (reply.Arrive r) = r
-    arrive_answer _ = Ok tt
 
     -- what a step that is about the client does to its part
     mine_is : (s : Client U) (before after : Seen Script U C) (did : List (Deed U)) (b : Bool) (R : Part Script U C → Part Script U C
@@ -218,13 +176,13 @@ module _ {G C : Type 0} (views : G → ClientParts → C → GlobalParts → Boo
         (q, by, ap (λ (x : Seen Script U C). x.part) same)
 
     step_acts : (s : Client U) (before after : Seen Script U C) (call : Call Script U G C) (lacked : Bool) (did : List (Deed U))
-        → before.part ≡ Some (part_of s)
-        → concerns id call ≡ true → IsHeard call → PartCall w id offer call before false did after → IsSound s.core
+        → before.part ≡ Some (part_of s) → concerns id call ≡ true → IsHeard call → PartCall w id offer call before false did after → IsSound s.core
         → AsActs s (record { call = call; lacked = lacked; did = did } ∷ []) after
     step_acts s before after (Asked (step.Arrive target bytes tokens) answer) lacked did there about (some, taken) (r, is, h) sound =
         let (q, (unasked, none, (t, moved, to)), at) = mine_is s before after did _ _ _ about there h in
         let chunk : Queue = record { bytes = bytes.items; tokens = tokens.items } in
-        let arrives = subst (λ (x : Result (Unit {0}) ScriptError). ArrivesWith s.link.transport chunk (nothing_taken x) t) (ap arrive_answer (sym is ∙ taken)) moved in
+        let same : r ≡ Ok tt = cc in
+        let arrives = subst (λ (x : Result (Unit {0}) ScriptError). ArrivesWith s.link.transport chunk (nothing_taken x) t) same moved in
         acts_arrived s _ after q at sound (Ok chunk) some
         (to ∙ ap (λ (x : Script). with_link (part_of s) (with_transport s.link x)) arrives.2) none refl refl refl
     step_acts s before after (Asked (step.ArriveFault target f) answer) lacked did there about blocked (r, is, h) sound =
@@ -289,12 +247,7 @@ module _ {G C : Type 0} (views : G → ClientParts → C → GlobalParts → Boo
     module _ (p : Part Script U C) (run : Run U) (after : Seen Script U C) (end : Client U) (acts : ActList U)
         (r : Acts (reader_part p) run after end acts) (stretch : IsStretch a p run (part_of end)) where
       act_stretch : IsActStretch (server a) (reader_part p) acts end
-      act_stretch = record { spans = record { does = r.does; pieces = stretch.spans.pieces; ends = ends stretch.spans.ends }; roomy = not_full p run end stretch }
-        where
-          ends : (reads_on end.core ≡ false) ⊎ (EndsWaiting run × (arrivals_of end ≡ []))
-              → (reads_on end.core ≡ false) ⊎ (ActsEndWaiting acts × (arrivals_of end ≡ []))
-          ends (inl off) = inl off
-          ends (inr (waiting, none)) = inr (r.waits waiting [], none)
+      act_stretch = let waits : EndsWaiting run → ActsEndWaiting acts = λ w. r.waits w [] in grind (arith, waits, r.does, not_full p run end stretch)
 
       served_at : StretchIsServed a p run (part_of end)
       served_at =
@@ -324,34 +277,21 @@ module _ {G C : Type 0} (views : G → ClientParts → C → GlobalParts → Boo
           → IsStretch a p run q
       within_stretch q run ends leads stretch = grind (arith, acts_of, same_Some, part_of, a, incoming_limit, joined, left_in, front_fits, server, reader_part)
 
+    module _ (before after : Seen Script U C) (p : Part Script U C) (begins : before.part ≡ Some p) where
       -- so two runs over which the same arrives and is finished give the same, and lead to the same, however it was cut
       abbrev SameCut : Run U → Run U → Part Script U C → Part Script U C → Type 0
       SameCut run others q r = (beside_exchanges (history run) ≡ beside_exchanges (history others)) × (handed_out run ≡ handed_out others) × SameLeft q r
-
-      same_at : (other : Seen Script U C) (run others : Run U) (end end' : Client U) (acts acts' : ActList U)
-          → Acts (reader_part p) run after end acts → Acts (reader_part p) others other end' acts' → IsStretch a p run (part_of end)
-          → IsStretch a p others (part_of end')
-          → arrived run ≡ arrived others → finished run ≡ finished others → SameCut run others (part_of end) (part_of end')
-      same_at other run others end end' acts acts' x y stretch stretch' came ended =
-          let same = acts_cut_otherwise (server a) ends_by_pipe (reader_part p) end end' acts acts' (act_stretch p run after end acts x stretch)
-          (act_stretch p others other end' acts' y stretch') (x.came_in ∙ came ∙ sym y.came_in) (x.ended_with ∙ ended ∙ sym y.ended_with) in
-          let over : end.core.ended ≡ end'.core.ended = ap (λ (z : Client U). z.core.ended) same.1 in (
-            x.deeds ∙ ap₂ (λ (g : List (Given (Told U))) (o : Option DisconnectReason). deeds_in g ++ end_deeds o) same.0 over ∙ sym y.deeds,
-            x.answers stretch.spans.pieces (not_full p run end stretch) ∙ ap answers_in same.0 ∙ sym
-                (y.answers stretch'.spans.pieces (not_full p others end' stretch')),
-            ap (λ (z : Client U). let f : Client U = record { core = record z.core { ended = None }; link = z.link } in f) same.1,
-          )
 
       pub cut_otherwise : (other : Seen Script U C) (q r : Part Script U C) (run others : Run U) → after.part ≡ Some q → other.part ≡ Some r
           → Alone w id offer before run after → Alone w id offer before others other → IsStretch a p run q → IsStretch a p others r
           → arrived run ≡ arrived others → finished run ≡ finished others → SameCut run others q r
       cut_otherwise other q r run others ends ends' leads leads' stretch stretch' came ended =
-          let (end, acts, x) = acts_of run after leads stretch.spans.heard stretch.spans.live in
-          let (end', acts', y) = acts_of others other leads' stretch'.spans.heard stretch'.spans.live in
-          let is = same_Some q (part_of end) (sym ends ∙ x.there) in
-          let is' = same_Some r (part_of end') (sym ends' ∙ y.there) in
-          rw (is, is') (same_at other run others end end' acts acts' x y (subst (IsStretch a p run) is stretch)
-          (subst (IsStretch a p others) is' stretch') came ended)
+          let x = stretch_served before after p begins q run ends leads stretch in
+          let y = stretch_served before other p begins r others ends' leads' stretch' in
+          let start = state_as (reader_part p) (joined (left_in p) (arrived run)) (sending_side p.link.transport) in
+          let (gave, end) = served_one ScriptSends script_sends_function (server a) start _ _ (finished run) x.gave y.gave x.served
+          (rw (← came, ← ended) at y.served) in
+          (grind (arith, x.deeds, y.deeds, gave, end), grind (arith, x.answers, y.answers, gave), grind (arith, x.leads, y.leads, end))
 
 -- ---- runs of a server
 

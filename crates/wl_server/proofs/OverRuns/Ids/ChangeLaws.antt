@@ -1,12 +1,12 @@
 -- The changes of a client's objects in each call: an induction over base moves, over which the laws of ids stand.
-use Rattle.std.proofs.Common.{arith, ◌≡◌, ◌≢◌, ◌⊎◌, ℕ, ◌+◌, Bool, true, List, [], ◌∷◌, ◌++◌, None, Some, is_some, IsSome, Result, refl, sym, ap, subst, ◌∙◌, append-nil, append_assoc}
+use Rattle.std.proofs.Common.{arith, ◌≡◌, ◌≢◌, ◌⊎◌, ℕ, ◌+◌, Bool, true, List, [], ◌∷◌, ◌++◌, None, Some, is_some, IsSome, Option, Result, refl, sym, ap, subst, ◌∙◌, append_assoc}
 use Rattle.std.proofs.lemmas.Option.{none-some}
 use mathlib.Core.Logic.{inl, inr}
 use Rattle.wl_wire.specs.declared.error.IoFault.{IoFault}
 use Rattle.wl_link.specs.declared.object.Object.{Object}
 use Rattle.wl_link.proofs.Ids.EndsLaw.{keeps_joins}
 use Rattle.wl_link.specs.Exchange.{Queue}
-use Rattle.wl_link.specs.Identity.{Born, Change, Ended, Gone, Made, Objects, StepEnds, Wrote, counted_id, ended_in, named_in, names, Found, HandedId, New}
+use Rattle.wl_link.specs.Identity.{Born, Change, Ended, Made, Objects, StepEnds, Wrote, counted_id, ended_in, named_in, names, Found, HandedId, New}
 use Rattle.wl_link.proofs.Ids.IdentityLaw.{born_first, born_later, made_first, made_later}
 use Rattle.wl_link.specs.Store.{Store, held, removed, rewritten, stored}
 use Rattle.wl_link.proofs.Ids.StoreLaws.{removed_other, rewritten_other, stored_here, stored_other}
@@ -25,11 +25,8 @@ use Rattle.wl_server.specs.Server.{Seen}
 module _ {U : Type 0} where
   ended_both : (changes others : List (Change (Kept U))) → ended_in serial_of has_data (changes ++ others) ≡ ended_in serial_of has_data changes ++ ended_in serial_of has_data others
   ended_both [] others = refl
-  ended_both (Born n x ∷ changes) others = ended_both changes others
-  ended_both (Gone n ∷ changes) others = ended_both changes others
-  ended_both (Wrote n x ∷ changes) others = ended_both changes others
-  ended_both (Made id ∷ changes) others = ended_both changes others
   ended_both (Ended n x left ∷ changes) others = grind (arith, counted_id, serial_of, has_data, append_assoc, ended_in, ended_both changes others)
+  ended_both (_ ∷ changes) others = ended_both changes others
 
   -- an object is named by its id
   id_names : (client : ClientParts) (store : Store (Kept U)) (n : ℕ) (x : Object (Kept U)) → n ≢ 0 → held store n ≡ Some x
@@ -152,8 +149,11 @@ module _ {T U C : Type 0} (sends : T → Queue → Result ℕ IoFault → T → 
     pub noted : (h : Happening U) → IsAmong (d.taken ++ (t.made ++ waiting_of t.part)) h → IsAmong (s.made ++ waiting_of s.part) h ⊎ IsNotedIn client changes h
     pub new : (h : Happening U) → IsAmong (d.notes ++ waiting_of t.part) h → IsAmong (waiting_of s.part) h ⊎ IsNotedIn client changes h
 
-  goes_unfelt : (s : Seen T U C) (o : Objects (Kept U)) → AreObjectsOf s o → held o.store 0 ≡ None → CallChanging s o nothing_done s
-  goes_unfelt s o are empty = record {
+  -- the objects stay, and the notes that were made are perhaps handed out
+  goes_still : (s : Seen T U C) (o : Objects (Kept U)) (taken made : List (Happening U)) → AreObjectsOf s o → held o.store 0 ≡ None
+      → taken ++ (made ++ waiting_of s.part) ≡ s.made ++ waiting_of s.part
+      → CallChanging s o (record nothing_done { taken = taken }) (record { part = s.part; made = made })
+  goes_still s o taken made are empty same = record {
     after = o;
     changes = [];
     ends = refl;
@@ -161,71 +161,38 @@ module _ {T U C : Type 0} (sends : T → Queue → Result ℕ IoFault → T → 
     empty = empty;
     handed = λ h among. absurd among;
     left = refl;
-    noted = λ h among. inl among;
+    noted = λ h among. inl (subst (λ (hs : List (Happening U)). IsAmong hs h) same among);
     new = λ h among. inl among;
   }
 
-  goes_taken : (s : Seen T U C) (o : Objects (Kept U)) → AreObjectsOf s o → held o.store 0 ≡ None
-      → CallChanging s o (record nothing_done { taken = s.made }) (record { part = s.part; made = [] })
-  goes_taken s o are empty = record {
-    after = o;
-    changes = [];
-    ends = refl;
-    are = are;
-    empty = empty;
-    handed = λ h among. absurd among;
-    left = refl;
-    noted = λ h among. inl among;
-    new = λ h among. inl among;
-  }
-
-  goes_within : (p q : Part T U C) (made : List (Happening U)) (d : Doings U) → d.taken ≡ [] → held p.store 0 ≡ None → Moves (any true) sends receives client p d q
-      → CallChanging (record { part = Some p; made = made }) (objects_of p) d (record { part = Some q; made = made ++ d.notes })
-  goes_within p q made d none_taken empty moves =
+  -- a part goes over moves: it is kept, or taken out with no object left and nothing that waits
+  goes_part : (p q : Part T U C) (made : List (Happening U)) (d : Doings U) (kept : Option (Part T U C)) → held p.store 0 ≡ None → Moves (any true) sends receives client p d q
+      → AreObjectsOf (record { part = kept; made = made ++ d.notes }) (objects_of q) → ((h : Happening U) → IsAmong (waiting_of kept) h → IsAmong q.waiting h)
+      → CallChanging (record { part = Some p; made = made }) (objects_of p) d (record { part = kept; made = made ++ d.notes })
+  goes_part p q made d kept empty moves are waits =
       let changing = moves_change p q d empty moves in
       record {
         after = objects_of q;
         changes = changing.changes;
         ends = changing.ends;
-        are = refl;
+        are = are;
         empty = changing.empty;
         handed = changing.handed;
         left = changing.left;
-        noted = grind (arith, in_three, among_both, among_first, among_later);
-        new = λ h among. elim (among_both d.notes q.waiting h among) [ inl made_now ↦ changing.noted h made_now | inr waits ↦ changing.waits h waits ];
+        noted = grind (arith, in_three, among_both, among_first, among_later, moves_take p q d moves);
+        new = λ h among. elim (among_both d.notes (waiting_of kept) h among) [ inl made_now ↦ changing.noted h made_now | inr more ↦ changing.waits h (waits h more) ];
       }
 
-  -- a client that is taken out leaves no objects
-  goes_out : (p q : Part T U C) (made : List (Happening U)) (d : Doings U) → d.taken ≡ [] → held p.store 0 ≡ None → Moves (any true) sends receives client p d q
-      → ((n : ℕ) → held q.store n ≡ None) → CallChanging (record { part = Some p; made = made }) (objects_of p) d (record { part = None; made = made ++ d.notes })
-  goes_out p q made d none_taken empty moves none =
-      let changing = goes_within p q made d none_taken empty moves in
-      record {
-        after = changing.after;
-        changes = changing.changes;
-        ends = changing.ends;
-        are = subst (λ (o : Objects (Kept U)). (n : ℕ) → held o.store n ≡ None) (sym changing.are) none;
-        empty = changing.empty;
-        handed = changing.handed;
-        left = changing.left;
-        noted = grind (arith, in_three, among_first, among_later);
-        new = λ h among. changing.new h (subst (λ (hs : List (Happening U)). IsAmong (hs ++ q.waiting) h) (append-nil d.notes) (among_first (d.notes ++ []) q.waiting h among));
-      }
-
-  moved_from : (s : Seen T U C) (p : Part T U C) (o : Objects (Kept U)) (d : Doings U) (t : Seen T U C) → s.part ≡ Some p → o ≡ objects_of p
-      → CallChanging (record { part = Some p; made = s.made }) (objects_of p) d t → CallChanging s o d t
-  moved_from s p o d t there at changing = grind (arith, objects_of)
+  goes_from : (s t : Seen T U C) (p q : Part T U C) (o : Objects (Kept U)) (d : Doings U) (kept : Option (Part T U C)) → AreObjectsOf s o → held o.store 0 ≡ None → s.part ≡ Some p
+      → Moves (any true) sends receives client p d q → t ≡ record { part = kept; made = s.made ++ d.notes }
+      → AreObjectsOf (record { part = kept; made = s.made ++ d.notes }) (objects_of q) → ((h : Happening U) → IsAmong (waiting_of kept) h → IsAmong q.waiting h) → CallChanging s o d t
+  goes_from s t p q o d kept are empty there moves same left waits =
+      let at : o ≡ objects_of p = grind (arith, held, objects_of) in
+      let changing = goes_part p q s.made d kept (subst (λ (x : Objects (Kept U)). held x.store 0 ≡ None) at empty) moves left waits in
+      grind (arith, objects_of)
 
   pub goes_change : (s t : Seen T U C) (o : Objects (Kept U)) (d : Doings U) → AreObjectsOf s o → held o.store 0 ≡ None → Goes (any true) sends receives client s d t → CallChanging s o d t
-  goes_change s t o d are empty (unfelt is same) = grind (arith, nothing_done, goes_unfelt)
-  goes_change s t o d are empty (notes_taken on is same) = grind (arith, nothing_done, goes_taken)
-  goes_change s t o d are empty (within p q there moves same) =
-      let at : o ≡ objects_of p = grind (arith, held, objects_of) in
-      let start : held p.store 0 ≡ None = subst (λ (x : Objects (Kept U)). held x.store 0 ≡ None) at empty in
-      subst (λ (x : Seen T U C). CallChanging s o d x) (sym same)
-      (moved_from s p o d (record { part = Some q; made = s.made ++ d.notes }) there at (goes_within p q s.made d (moves_take p q d moves) start moves))
-  goes_change s t o d are empty (taken_out p q on there killed moves none waiting same) =
-      let at : o ≡ objects_of p = grind (arith, held, objects_of) in
-      let start : held p.store 0 ≡ None = subst (λ (x : Objects (Kept U)). held x.store 0 ≡ None) at empty in
-      subst (λ (x : Seen T U C). CallChanging s o d x) (sym same)
-      (moved_from s p o d (record { part = None; made = s.made ++ d.notes }) there at (goes_out p q s.made d (moves_take p q d moves) start moves none))
+  goes_change s t o d are empty (unfelt is same) = grind (arith, nothing_done, goes_still s o [] s.made are empty refl)
+  goes_change s t o d are empty (notes_taken on is same) = grind (arith, nothing_done, goes_still s o s.made [] are empty refl)
+  goes_change s t o d are empty (within p q there moves same) = goes_from s t p q o d (Some q) are empty there moves same refl (λ h among. among)
+  goes_change s t o d are empty (taken_out p q on there killed moves none waiting same) = goes_from s t p q o d None are empty there moves same none (λ h among. absurd among)

@@ -123,56 +123,40 @@ module _ {T U G C : Type 0} where
               | inr other ↦ inl (subst IsSome (ap (named_at g) (stored_other offer.globals.store new.name (new_global i version new.serial handler) g.name other)) some)
             ]
       ]
-  named_before offer (Asked (step.DisableGlobal target) answer) g by some = grind (arith, some_none, option_map, as_disabled, same_global, global_of, disabled_changes)
-  named_before offer (Asked (step.RemoveGlobal target) answer) g by some = grind (arith, some_none, same_global, global_of, freed_changes)
-  named_before offer _ g by some = inl some
+  named_before offer _ g by some = grind (arith, some_none, option_map, as_disabled, same_global, global_of, disabled_changes, freed_changes)
 
   -- ---- a run of the shared calls
 
-  clients_above : (offer offer' : Offer G) (last last' : ℕ) (run : List (Entry T U G C)) → SharedAlone offer last run offer' last' → (new : ClientParts) → SomeCall (Inserts new) run
-      → last < new.serial
-  clients_above offer offer' last last' [] shared new some = absurd some
-  clients_above offer offer' last last' (e ∷ run) (by, next, rest) new (inl is) = (let number = (next new is).1 in omega (arith, number))
-  clients_above offer offer' last last' (e ∷ run) (by, next, rest) new (inr later) = grind (arith, offer_after, inserted_by, clients_above (offer_after offer e.call) offer' (last + inserted_by e.call) last' run rest new later)
+  -- each id that is given in a run comes behind those before it, and is not behind the last
+  clients_given : (offer offer' : Offer G) (last last' : ℕ) (run : List (Entry T U G C)) → SharedAlone offer last run offer' last'
+      → (last ≤ last') × ((new : ClientParts) → SomeCall (Inserts new) run → (last < new.serial) × (new.serial ≤ last'))
+  clients_given offer offer' last last' [] (same, is) = (omega (arith, is), λ new none. absurd none)
+  clients_given offer offer' last last' (e ∷ run) (by, next, rest) =
+      let (grown, more) = clients_given (offer_after offer e.call) offer' (last + inserted_by e.call) last' run rest in
+      (omega (arith, grown), λ new some. (grind (arith, next new, one_more e.call new, more new)))
+
+  globals_given : (offer offer' : Offer G) (last last' : ℕ) (run : List (Entry T U G C)) → SharedAlone offer last run offer' last'
+      → (offer.globals.last_serial ≤ offer'.globals.last_serial)
+      × ((new : GlobalParts) → SomeCall (Offers new) run → (offer.globals.last_serial < new.serial) × (new.serial ≤ offer'.globals.last_serial))
+  globals_given offer offer' last last' [] (same, is) = (let e = ap (λ (o : Offer G). o.globals.last_serial) same in omega (arith, e), λ new none. absurd none)
+  globals_given offer offer' last last' (e ∷ run) (by, next, rest) =
+      let (grown, more) = globals_given (offer_after offer e.call) offer' (last + inserted_by e.call) last' run rest in
+      let step = last_grows offer e.call by in
+      (omega (arith, grown, step), λ new some. (grind (arith, offered_next offer e.call new by, offered_last offer e.call new, more new)))
 
   clients_rise : (offer offer' : Offer G) (last last' : ℕ) (run : List (Entry T U G C)) → SharedAlone offer last run offer' last' → ClientsRise run
   clients_rise offer offer' last last' [] shared = tt
-  clients_rise offer offer' last last' (e ∷ run) (by, next, rest) = (
-    (λ old new is later.
-        (omega (arith, (next old is).1, one_more e.call old is, clients_above (offer_after offer e.call) offer' (last + inserted_by e.call) last' run rest new later))),
-    clients_rise (offer_after offer e.call) offer' (last + inserted_by e.call) last' run rest,
-  )
-
-  last_over : (offer offer' : Offer G) (last last' : ℕ) (run : List (Entry T U G C)) → SharedAlone offer last run offer' last' → last ≤ last'
-  last_over offer offer' last last' [] (same, is) = omega (arith, is)
-  last_over offer offer' last last' (e ∷ run) (by, next, rest) = (let more = last_over (offer_after offer e.call) offer' (last + inserted_by e.call) last' run rest in omega (arith, more))
-
-  client_given : (offer offer' : Offer G) (last last' : ℕ) (run : List (Entry T U G C)) → SharedAlone offer last run offer' last' → (id : ClientParts) → SomeCall (Inserts id) run
-      → id.serial ≤ last'
-  client_given offer offer' last last' [] shared id some = absurd some
-  client_given offer offer' last last' (e ∷ run) (by, next, rest) id (inl is) =
-      (omega (arith, (next id is).1, one_more e.call id is, last_over (offer_after offer e.call) offer' (last + inserted_by e.call) last' run rest))
-  client_given offer offer' last last' (e ∷ run) (by, next, rest) id (inr later) = grind (arith, offer_after, inserted_by, client_given (offer_after offer e.call) offer' (last + inserted_by e.call) last' run rest id later)
-
-  globals_above : (offer offer' : Offer G) (last last' : ℕ) (run : List (Entry T U G C)) → SharedAlone offer last run offer' last' → (new : GlobalParts) → SomeCall (Offers new) run
-      → offer.globals.last_serial < new.serial
-  globals_above offer offer' last last' [] shared new some = absurd some
-  globals_above offer offer' last last' (e ∷ run) (by, next, rest) new (inl is) = (let number = (offered_next offer e.call new by is).2 in omega (arith, number))
-  globals_above offer offer' last last' (e ∷ run) (by, next, rest) new (inr later) = grind (arith, last_grows, offer_after, inserted_by, globals_above (offer_after offer e.call) offer' (last + inserted_by e.call) last' run rest new later)
+  clients_rise offer offer' last last' (e ∷ run) (by, next, rest) =
+      let more = (clients_given (offer_after offer e.call) offer' (last + inserted_by e.call) last' run rest).1 in
+      let rise = clients_rise (offer_after offer e.call) offer' (last + inserted_by e.call) last' run rest in
+      (λ old new is later. (omega (arith, (next old is).1, one_more e.call old is, (more new later).0)), rise)
 
   globals_rise : (offer offer' : Offer G) (last last' : ℕ) (run : List (Entry T U G C)) → SharedAlone offer last run offer' last' → GlobalsRise run
   globals_rise offer offer' last last' [] shared = tt
-  globals_rise offer offer' last last' (e ∷ run) (by, next, rest) = grind (arith, offered_last, globals_above, offer_after, inserted_by, globals_rise (offer_after offer e.call) offer' (last + inserted_by e.call) last' run rest)
-
-  globals_grow : (offer offer' : Offer G) (last last' : ℕ) (run : List (Entry T U G C)) → SharedAlone offer last run offer' last' → offer.globals.last_serial ≤ offer'.globals.last_serial
-  globals_grow offer offer' last last' [] (same, is) = (let e = ap (λ (o : Offer G). o.globals.last_serial) same in omega (arith, e))
-  globals_grow offer offer' last last' (e ∷ run) (by, next, rest) = grind (arith, last_grows, offer_after, inserted_by, globals_grow (offer_after offer e.call) offer' (last + inserted_by e.call) last' run rest)
-
-  global_given : (offer offer' : Offer G) (last last' : ℕ) (run : List (Entry T U G C)) → SharedAlone offer last run offer' last' → (g : GlobalParts) → SomeCall (Offers g) run
-      → g.serial ≤ offer'.globals.last_serial
-  global_given offer offer' last last' [] shared g some = absurd some
-  global_given offer offer' last last' (e ∷ run) (by, next, rest) g (inl is) = grind (arith, offered_last, globals_grow, offer_after, inserted_by)
-  global_given offer offer' last last' (e ∷ run) (by, next, rest) g (inr later) = grind (arith, offer_after, inserted_by, global_given (offer_after offer e.call) offer' (last + inserted_by e.call) last' run rest g later)
+  globals_rise offer offer' last last' (e ∷ run) (by, next, rest) =
+      let more = (globals_given (offer_after offer e.call) offer' (last + inserted_by e.call) last' run rest).1 in
+      let rise = globals_rise (offer_after offer e.call) offer' (last + inserted_by e.call) last' run rest in
+      (λ old new is later. (omega (arith, offered_last offer e.call old is, (more new later).0)), rise)
 
   -- what the id of a global that was given before names after a run
   named_over : (offer offer' : Offer G) (last last' : ℕ) (run : List (Entry T U G C)) → SharedAlone offer last run offer' last' → (g : GlobalParts) → g.serial ≤ offer.globals.last_serial
@@ -191,23 +175,16 @@ module _ {T U G C : Type 0} where
 
   -- ---- the clients that a run inserts
 
-  -- the client that a call inserts
-  abbrev inserted_in : Call T U G C → Option ClientParts
-  inserted_in (Asked (step.InsertClient transport client_data) (reply.InsertClient (Ok id))) = Some id
-  inserted_in _ = None
-
-  inserts_in : (call : Call T U G C) (id : ClientParts) → inserted_in call ≡ Some id → Inserts id call
-  inserts_in call id h1 = grind (arith, same_Some, none-some)
-
   either_inserts : (id : ClientParts) (call : Call T U G C) → Inserts id call ⊎ IsNotInserted id call
-  either_inserts id call = go (inserted_in call) refl
+  either_inserts id (Asked (step.InsertClient transport client_data) (reply.InsertClient (Ok new))) =
+      elim (cases_parts id new) [
+        | inl same ↦ inl (transport, client_data, ap (λ (k : ClientParts). Asked (step.InsertClient transport client_data) (reply.InsertClient (Ok k))) same)
+        | inr other ↦ inr (λ k (t, c, is). (grind (arith)))
+      ]
     where
-      go : (o : Option ClientParts) → inserted_in call ≡ o → Inserts id call ⊎ IsNotInserted id call
-      go None none = inr (λ new (transport, client_data, is). absurd (none-some _ (sym none ∙ ap inserted_in is)))
-      go (Some k) one = at (same_client k id) refl
-        where
-          at : (b : Bool) → same_client k id ≡ b → Inserts id call ⊎ IsNotInserted id call
-          at h1 same = grind (arith, inserts_in, eqb, same_parts, eqb-true, true≢false, same_client, same_Some, inserted_in)
+      cases_parts : (a b : ClientParts) → (b ≡ a) ⊎ (same_client b a ≡ false)
+      cases_parts a b = grind (arith, same_parts, eqb, eqb-true, same_client)
+  either_inserts id call = inr (λ new (t, c, is). absurd cc)
 
   client_made_over : (w : World T G C) (before after : ServerState T U G C) (run : List (Entry T U G C)) (id : ClientParts) → Leads w before run after → IsSome (seen id after).part
       → IsSome (seen id before).part ⊎ SomeCall (Inserts id) run
@@ -258,10 +235,10 @@ module _ {T U G C : Type 0} where
             named_over next.offer after.offer next.last_client after.last_client later (shared_run w next after later rest) g (omega (arith, last))
             ∙ ap (global_over g later) (ap (λ (o : Offer G). global_of o.globals g) offered ∙ (grind (arith, new_global, stored_here, eqb, ne_eqb, eq-eqb, mid.offer.globals, g.serial)));
         no_client_again = λ id done later point split first others made none. (
-            (out_run w id point after later (client_given (new_offer table) point.offer 0 point.last_client done (shared_run w (new_server table) point done first) id made) none others).none
+            (out_run w id point after later ((clients_given (new_offer table) point.offer 0 point.last_client done (shared_run w (new_server table) point done first)).1 id made).1 none others).none
             );
         no_global_again = λ g done later point split first others made none. (
-            let given = global_given (new_offer table) point.offer 0 point.last_client done (shared_run w (new_server table) point done first) g made in
+            let given = ((globals_given (new_offer table) point.offer 0 point.last_client done (shared_run w (new_server table) point done first)).1 g made).1 in
             named_over point.offer after.offer point.last_client after.last_client later (shared_run w point after later others) g given
             ∙ ap (global_over g later) none ∙ none_over g later
             );

@@ -1,9 +1,9 @@
 -- What holds of the ids of every run.
-use Rattle.std.proofs.Common.{◌≡◌, ◌≢◌, ◌⊎◌, true, eqb, List, [], ◌∷◌, ◌++◌, None, is_some, IsSome, refl, sym, ap, subst, ◌∙◌, true≢false, append_assoc, arith}
+use Rattle.std.proofs.Common.{◌≡◌, ◌≢◌, ◌⊎◌, eqb, List, [], ◌∷◌, ◌++◌, None, is_some, IsSome, refl, sym, ap, subst, ◌∙◌, true≢false, append_assoc, arith}
 use mathlib.Core.Logic.{inl, inr}
 use Rattle.std.specs.Prelude.{AllPairs, ◌↔◌}
 use Rattle.wl_wire.specs.Table.{InterfaceRow}
-use Rattle.wl_link.proofs.Ids.EndsLaw.{ends_once_law, run_leads, run_owns}
+use Rattle.wl_link.proofs.Ids.EndsLaw.{ends_once_law, run_keeps_joins, run_leads, run_owns}
 use Rattle.wl_link.specs.Identity.{Change, Id, IsMadeIn, Objects, OwnsExactly, RunEnds, ended_in, ended_over, named_in, names}
 use Rattle.wl_link.specs.Identity as objects
 use Rattle.wl_link.proofs.Ids.IdentityLaw.{identity_law}
@@ -27,8 +27,8 @@ use Rattle.wl_server.proofs.OverRuns.Ids.AmongLaws.{all_among, among_contains, a
 use Rattle.wl_server.proofs.OverRuns.Alone.OwnRuns.{AreMine, are_mine}
 use Rattle.wl_server.specs.Named.{offer_through}
 use Rattle.wl_server.specs.Part.{display_object, id_of, named, objects_of, serial_of}
-use Rattle.wl_server.specs.PartStep.{PartCall, World}
-use Rattle.wl_server.specs.Runs.{Alone, Leads, Own, just_inserted, concerns, history, mine, offer_over}
+use Rattle.wl_server.specs.PartStep.{World}
+use Rattle.wl_server.specs.Runs.{Alone, Leads, Own, just_inserted, history, mine, offer_over}
 use Rattle.wl_server.specs.Server.{Seen, ServerState, new_server, seen}
 use Rattle.wl_server.specs.Steps.{Entry, offer_after}
 
@@ -59,37 +59,11 @@ module _ {T U G C : Type 0} (w : World T G C) (id : ClientParts) where
     pub left : left_in (history run) ≡ ended_over serial_of has_data changes
     pub noted : (h : Happening U) → IsAmong (taken_in (history run) ++ (t.made ++ waiting_of t.part)) h → IsAmong (s.made ++ waiting_of s.part) h ⊎ IsNotedOver id changes h
 
-  left_both : (a b : List (Deed U)) → left_in (a ++ b) ≡ left_in a ++ left_in b
+  pub left_both : (a b : List (Deed U)) → left_in (a ++ b) ≡ left_in a ++ left_in b
   left_both a b = ap (λ (d : Doings U). d.left) (doings_in_both a b)
 
-  taken_both : (a b : List (Deed U)) → taken_in (a ++ b) ≡ taken_in a ++ taken_in b
+  pub taken_both : (a b : List (Deed U)) → taken_in (a ++ b) ≡ taken_in a ++ taken_in b
   taken_both a b = ap (λ (d : Doings U). d.taken) (doings_in_both a b)
-
-  -- one more call
-  pub change_more : (offer : Offer G) (s : Seen T U C) (o : Objects (Kept U)) (e : Own T U G C) (run : List (Own T U G C)) (mid t : Seen T U C)
-      → concerns id e.call ≡ true → PartCall w id offer e.call s e.lacked e.did mid
-      → (first : CallChanging w.sends w.receives id s o (doings_of (handed_by id e.call e.did) e.did) mid)
-      → RunChanging (offer_after offer e.call) mid first.after run t → RunChanging offer s o (e ∷ run) t
-  change_more offer s o e run mid t own by first rest = record {
-    changes = first.changes ∷ rest.changes;
-    kept = rest.kept;
-    follows = (
-      mid,
-      first.after,
-      by,
-      first.ends,
-      first.are,
-      all_among (IsHandedIn id first.changes) (ids_in e.call) (λ i among. first.handed i (covers w id offer e.call s e.lacked e.did mid own by i among)),
-      first.left,
-      grind (arith, contains_among, waiting_of, among_contains, notes_in),
-      rest.follows,
-    );
-    ends = (first.after, first.ends, rest.ends);
-    are = rest.are;
-    empty = rest.empty;
-    left = grind (arith, left_both, history, left_in, ended_in, serial_of, has_data);
-    noted = grind (arith, in_three, taken_in, history, waiting_of, taken_both, append_assoc, among_first, among_later);
-  }
 
   pub run_change : (offer : Offer G) (s : Seen T U C) (o : Objects (Kept U)) (run : List (Own T U G C)) (t : Seen T U C) → AreMine id run → AreObjectsOf s o
       → held o.store 0 ≡ None → Alone w id offer s run t → RunChanging offer s o run t
@@ -104,9 +78,35 @@ module _ {T U G C : Type 0} (w : World T G C) (id : ClientParts) where
     noted = λ h among. inl (subst (λ (x : Seen T U C). IsAmong (x.made ++ waiting_of x.part) h) same among);
   }
   run_change offer s o (e ∷ run) t own are empty (mid, by, alone) =
-      let first : CallChanging w.sends w.receives id s o (doings_of
-      (handed_by id e.call e.did) e.did) mid = grind (arith, goes_change, doings_of, handed_by, call_goes, own.0) in
-      change_more offer s o e run mid t own.0 by first (run_change (offer_after offer e.call) mid first.after run t own.1 first.are first.empty alone)
+      let first : CallChanging w.sends w.receives id s o (doings_of (handed_by id e.call e.did) e.did) mid =
+      grind (arith, goes_change, doings_of, handed_by, call_goes, own.0) in
+      let rest = run_change (offer_after offer e.call) mid first.after run t own.1 first.are first.empty alone in
+      record {
+        changes = first.changes ∷ rest.changes;
+        kept = rest.kept;
+        follows = (
+          mid,
+          first.after,
+          by,
+          first.ends,
+          first.are,
+          all_among (IsHandedIn id first.changes) (ids_in e.call) (λ i among. first.handed i (covers w id offer e.call s e.lacked e.did mid own.0 by i among)),
+          first.left,
+          grind (arith, contains_among, waiting_of, among_contains, notes_in),
+          rest.follows,
+        );
+        ends = (first.after, first.ends, rest.ends);
+        are = rest.are;
+        empty = rest.empty;
+        left = grind (arith, left_both, history, left_in, ended_in, serial_of, has_data);
+        noted = grind (arith, in_three, taken_in, history, waiting_of, taken_both, append_assoc, among_first, among_later);
+      }
+
+  -- the run of a client from its insertion on
+  pub run_begins : (offer : Offer G) (link : LinkState T) (client_data : C) (run : List (Own T U G C)) (t : Seen T U C) → AreMine id run
+      → Alone w id offer (just_inserted link client_data) run t → RunChanging offer (just_inserted link client_data) (objects.first_objects display_object) run t
+  run_begins offer link client_data run t own alone = run_change offer (just_inserted link client_data) (objects.first_objects display_object) run t own refl
+      (stored_other empty_store 1 display_object 0 (λ is. (omega (arith, is))) ∙ held_empty 0) alone
 
   -- ---- what holds of it
 
@@ -143,61 +143,42 @@ module _ {T U G C : Type 0} (w : World T G C) (id : ClientParts) where
 
   pub own_ids : (offer : Offer G) (link : LinkState T) (client_data : C) (run : List (Own T U G C)) (t : Seen T U C) → AreMine id run → Alone w id offer (just_inserted link client_data) run t
       → HasOwnIds w id offer (just_inserted link client_data) run t
-  own_ids offer link client_data run t own alone = own_by offer link client_data run t (run_change offer (just_inserted link client_data) (objects.first_objects display_object) run t own refl
-      (stored_other empty_store 1 display_object 0 (λ is. (omega (arith, is))) ∙ held_empty 0) alone)
+  own_ids offer link client_data run t own alone = own_by offer link client_data run t (run_begins offer link client_data run t own alone)
 
-  -- ---- a run in two parts
+  -- ---- two runs, one behind the other
 
-  pub record InParts (offer : Offer G) (s : Seen T U C) (o : Objects (Kept U)) (done : List (Own T U G C)) (point : Seen T U C) (later : List (Own T U G C)) (t : Seen T U C) : Type 0 where
-    pub whole : RunChanging offer s o (done ++ later) t
-    pub first : List (List (Change (Kept U)))
-    pub rest : List (List (Change (Kept U)))
-    pub split : whole.changes ≡ first ++ rest
-    pub there : Objects (Kept U)
-    pub are : AreObjectsOf point there
-    pub empty : held there.store 0 ≡ None
-    pub before : Follows w id offer s o done first point there
-    pub after_point : Follows w id (offer_through offer done) point there later rest t whole.kept
-    pub ends_first : RunEnds serial_of is_over o first there
-    pub ends_rest : RunEnds serial_of is_over there rest whole.kept
+  pub history_both : (done later : List (Own T U G C)) → history (done ++ later) ≡ history done ++ history later
+  history_both [] later = refl
+  history_both (e ∷ done) later = ap (λ (did : List (Deed U)). e.did ++ did) (history_both done later) ∙ sym (append_assoc e.did (history done) (history later))
 
-  pub in_parts : (offer : Offer G) (s : Seen T U C) (o : Objects (Kept U)) (done : List (Own T U G C)) (point : Seen T U C) (later : List (Own T U G C)) (t : Seen T U C)
-      → AreMine id done → AreMine id later → AreObjectsOf s o → held o.store 0 ≡ None → Alone w id offer s done point
-      → Alone w id (offer_through offer done) point later t → InParts offer s o done point later t
-  unfolding change_more
-  in_parts offer s o [] point later t own more are empty same alone =
-      let rest = run_change offer s o later t more are empty (subst (λ (x : Seen T U C). Alone w id offer x later t) same alone) in
-      record {
-        whole = rest;
-        first = [];
-        rest = rest.changes;
-        split = refl;
-        there = o;
-        are = subst (λ (x : Seen T U C). AreObjectsOf x o) (sym same) are;
-        empty = empty;
-        before = (same, refl);
-        after_point = subst (λ (x : Seen T U C). Follows w id offer x o later rest.changes t rest.kept) (sym same) rest.follows;
-        ends_first = refl;
-        ends_rest = rest.ends;
-      }
-  in_parts offer s o (e ∷ done) point later t own more are empty (mid, by, led) alone =
-      let one : CallChanging w.sends w.receives id s o (doings_of
-      (handed_by id e.call e.did) e.did) mid = grind (arith, goes_change, doings_of, handed_by, call_goes, own.0) in
-      let parts = in_parts (offer_after offer e.call) mid one.after done point later t own.1 more one.are one.empty led alone in
-      let whole = change_more offer s o e (done ++ later) mid t own.0 by one parts.whole in
-      record {
-        whole = whole;
-        first = one.changes ∷ parts.first;
-        rest = parts.rest;
-        split = ap (λ (l : List (List (Change (Kept U)))). one.changes ∷ l) parts.split;
-        there = parts.there;
-        are = parts.are;
-        empty = parts.empty;
-        before = (mid, one.after, by, one.ends, one.are, whole.follows.5, whole.follows.6, whole.follows.7, parts.before);
-        after_point = parts.after_point;
-        ends_first = (one.after, one.ends, parts.ends_first);
-        ends_rest = parts.ends_rest;
-      }
+  pub ended_both : (a b : List (List (Change (Kept U)))) → ended_over serial_of has_data (a ++ b) ≡ ended_over serial_of has_data a ++ ended_over serial_of has_data b
+  ended_both [] b = refl
+  ended_both (step ∷ a) b = grind (arith, append_assoc, ended_both a b)
+
+  pub noted_both : (a b : List (List (Change (Kept U)))) (h : Happening U) → IsNotedOver id a h ⊎ IsNotedOver id b h → IsNotedOver id (a ++ b) h
+  noted_both [] b h over = elim over [ inl none ↦ absurd none | inr later ↦ later ]
+  noted_both (step ∷ a) b h over = grind (arith, noted_both a b h)
+
+  pub follows_both : (offer : Offer G) (s : Seen T U C) (o : Objects (Kept U)) (done : List (Own T U G C)) (a : List (List (Change (Kept U)))) (point : Seen T U C) (there : Objects (Kept U))
+      (later : List (Own T U G C)) (b : List (List (Change (Kept U)))) (t : Seen T U C) (kept : Objects (Kept U)) → Follows w id offer s o done a point there
+      → Follows w id (offer_through offer done) point there later b t kept → Follows w id offer s o (done ++ later) (a ++ b) t kept
+  follows_both offer s o [] [] point there later b t kept (same, is) more = grind (arith)
+  follows_both offer s o (e ∷ done) (step ∷ a) point there later b t kept (mid, between, by, ends, are, handed, left, noted, leads) more =
+      let whole = follows_both (offer_after offer e.call) mid between done a point there later b t kept leads more in (mid, between, by, ends, are, handed, left, noted, whole)
+  follows_both offer s o _ _ point there later b t kept none more = absurd none
+
+  unfoldable pub change_both : (offer : Offer G) (s : Seen T U C) (o : Objects (Kept U)) (done : List (Own T U G C)) (point : Seen T U C) (later : List (Own T U G C)) (t : Seen T U C)
+      (first : RunChanging offer s o done point) → RunChanging (offer_through offer done) point first.kept later t → RunChanging offer s o (done ++ later) t
+  change_both offer s o done point later t first rest = record {
+    changes = first.changes ++ rest.changes;
+    kept = rest.kept;
+    follows = follows_both offer s o done first.changes point first.kept later rest.changes t rest.kept first.follows rest.follows;
+    ends = run_keeps_joins serial_of (OwnsExactly is_over) o first.kept rest.kept first.changes rest.changes first.ends rest.ends;
+    are = rest.are;
+    empty = rest.empty;
+    left = grind (arith, history_both, left_both, ended_both, left_in, history);
+    noted = grind (arith, history_both, taken_both, append_assoc, in_three, among_first, among_later, noted_both, taken_in, history);
+  }
 
 -- ---- every client of a server
 

@@ -2,11 +2,11 @@
 use Rattle.std.proofs.Common.{◌≡◌, Bool, true, List, [], ◌∷◌, Result, Ok, sym, ap, true≢false, arith}
 use Rattle.std.specs.Prelude.{is_ok}
 use Rattle.wl_link.proofs.Calls.Branches.{either_bool, either_option}
-use Rattle.wl_link.specs.Reader.{Given, HandedOut, Queued}
+use Rattle.wl_link.specs.Reader.{Given, HandedOut}
 use Rattle.wl_server.specs.declared.reading.action.Reading.{Reading}
 use Rattle.wl_server.specs.declared.error.ActionError.{ActionError}
 use Rattle.wl_server.specs.HandedIds.{action_ids}
-use Rattle.wl_server.specs.Deeds.{IsAmong, Acted, Came, Deed, Handed, Left, Noted, NoteTaken, Put, Remembered, Sent}
+use Rattle.wl_server.specs.Deeds.{IsAmong, Acted, Deed, Handed}
 use Rattle.wl_server.proofs.OverRuns.Moves.BaseMoves.{acted_in, all_action_ids, handed_by}
 use Rattle.wl_server.proofs.OverRuns.Moves.DoingsLaws.{deeds_done}
 use Rattle.wl_server.specs.Globals.{Offer}
@@ -26,16 +26,9 @@ module _ {U : Type 0} where
   given_ids : (gave : List (Given (Told U))) (h : Handed) → action_in gave ≡ Ok h → (i : HandedId IdParts) → IsAmong (action_ids h) i
       → IsAmong (all_action_ids (acted_in (deeds_in gave))) i
   given_ids [] h is i among = absurd (true≢false (sym (ap is_ok is)))
-  given_ids (Queued m ∷ gave) h is i among = given_ids gave h is i among
   given_ids (HandedOut (Stops f) ∷ gave) h is i among = absurd (true≢false (sym (ap is_ok is)))
   given_ids (HandedOut (Did (Acted other)) ∷ gave) h is i among = grind (arith, among_first, action_ids, all_action_ids, acted_in, deeds_in)
-  given_ids (HandedOut (Did (Sent e)) ∷ gave) h is i among = given_ids gave h is i among
-  given_ids (HandedOut (Did (Came r)) ∷ gave) h is i among = given_ids gave h is i among
-  given_ids (HandedOut (Did (Put m)) ∷ gave) h is i among = given_ids gave h is i among
-  given_ids (HandedOut (Did (Remembered r)) ∷ gave) h is i among = given_ids gave h is i among
-  given_ids (HandedOut (Did (Left id)) ∷ gave) h is i among = given_ids gave h is i among
-  given_ids (HandedOut (Did (Noted n)) ∷ gave) h is i among = given_ids gave h is i among
-  given_ids (HandedOut (Did (NoteTaken n)) ∷ gave) h is i among = given_ids gave h is i among
+  given_ids (_ ∷ gave) h is i among = given_ids gave h is i among
 
   module _ {C : Type 0} where
     -- and so among all deeds

@@ -9,7 +9,7 @@ use Rattle.wl_server.specs.declared.error.ActionError.TheVariants.{ActionOpen, I
 use Rattle.wl_server.specs.declared.reading.action.OpenAction.{OpenAction}
 use Rattle.wl_server.specs.Bounded.{receives_in, receives_over}
 use Rattle.wl_server.specs.Ids.{ClientParts, same_client}
-use Rattle.wl_server.specs.Killed.{AllAnswer, EachStaysKilled, HasNoAction, IsKilled, ReadingAnswers, StaysOrIsTakenOut, TakesOut}
+use Rattle.wl_server.specs.Killed.{AllAnswer, EachStaysKilled, HasNoAction, ReadingAnswers, StaysOrIsTakenOut, TakesOut, StaysKilled}
 use Rattle.wl_server.specs.Part.{Part}
 use Rattle.wl_server.specs.PartStep.{World, Asked, Call, CleanedAs, PartCall, ReadsFor, around, share_of}
 use Rattle.wl_server.specs.Runs.{IsNotInserted, Leads, concerns}
@@ -185,50 +185,29 @@ module _ {T U G C : Type 0} (w : World T G C) (id : ClientParts) where
 
   -- ---- a killed client
 
-  -- the same as `StaysKilled`, from where its action stands so
-  record DeadOver (action : Option OpenAction) (run : List (Entry T U G C)) (after : Seen T U C) : Type 0 where
-    with_action : List (Entry T U G C)
-    without_action : List (Entry T U G C)
-    from_cleanup : List (Entry T U G C)
-    split : run ≡ with_action ++ (without_action ++ from_cleanup)
-    opened : action ≡ None → with_action ≡ []
-    says_open : AllAnswer id ActionOpen with_action
-    says_killed : AllAnswer id (Io fault.Pipe) without_action
-    ends : StaysOrIsTakenOut id from_cleanup after
-    receives : receives_over id run ≡ 0
+  -- a client whose action stands so was killed
+  abbrev DeadOver : Part T U C → Option OpenAction → List (Entry T U G C) → Seen T U C → Type 0
+  DeadOver p action run after = StaysKilled id (record { part = Some (record p { action = action }); made = [] }) run after
 
-  dead_end : (action : Option OpenAction) (after : Seen T U C) → IsKilled after → DeadOver action [] after
-  dead_end action after killed = record {
+  -- it is killed to the end, or the next call is the cleanup that takes it out
+  ends_here : (p : Part T U C) (action : Option OpenAction) (run : List (Entry T U G C)) (after : Seen T U C) → StaysOrIsTakenOut id run after → receives_over id run ≡ 0
+      → DeadOver p action run after
+  ends_here p action run after ends silent = record {
     with_action = [];
     without_action = [];
-    from_cleanup = [];
+    from_cleanup = run;
     split = refl;
     opened = λ none. refl;
     says_open = tt;
     says_killed = tt;
-    ends = killed;
-    receives = refl;
-  }
-
-  -- the call is the cleanup that takes the client out
-  takes_it_out : (action : Option OpenAction) (e : Entry T U G C) (run : List (Entry T U G C)) (after : Seen T U C) → TakesOut id e.call → receives_in (e.did id) ≡ 0
-      → OutOver run after → DeadOver action (e ∷ run) after
-  takes_it_out action e run after takes silent rest = record {
-    with_action = [];
-    without_action = [];
-    from_cleanup = e ∷ run;
-    split = refl;
-    opened = λ none. refl;
-    says_open = tt;
-    says_killed = tt;
-    ends = (takes, rest.says, rest.none);
-    receives = (let more = rest.receives in omega (arith, silent, more));
+    ends = ends;
+    receives = silent;
   }
 
   -- one more call: the action is open, or none is and none was opened by the call
-  one_more : (action action' : Option OpenAction) (e : Entry T U G C) (run : List (Entry T U G C)) (after : Seen T U C) → ReadingAnswers id (refusal_with action) e.call
-      → receives_in (e.did id) ≡ 0 → (action ≡ None → action' ≡ None) → DeadOver action' run after → DeadOver action (e ∷ run) after
-  one_more (Some a) action' e run after says silent closed rest = record {
+  one_more : (p q : Part T U C) (action : Option OpenAction) (e : Entry T U G C) (run : List (Entry T U G C)) (after : Seen T U C) → ReadingAnswers id (refusal_with action) e.call
+      → receives_in (e.did id) ≡ 0 → (action ≡ None → q.action ≡ None) → DeadOver q q.action run after → DeadOver p action (e ∷ run) after
+  one_more p q (Some a) e run after says silent closed rest = record {
     with_action = e ∷ rest.with_action;
     without_action = rest.without_action;
     from_cleanup = rest.from_cleanup;
@@ -239,7 +218,7 @@ module _ {T U G C : Type 0} (w : World T G C) (id : ClientParts) where
     ends = rest.ends;
     receives = (let more = rest.receives in omega (arith, silent, more));
   }
-  one_more None action' e run after says silent closed rest = record {
+  one_more p q None e run after says silent closed rest = record {
     with_action = [];
     without_action = e ∷ rest.without_action;
     from_cleanup = rest.from_cleanup;
@@ -251,28 +230,21 @@ module _ {T U G C : Type 0} (w : World T G C) (id : ClientParts) where
     receives = (let more = rest.receives in omega (arith, silent, more));
   }
 
-  is_killed : (s : Seen T U C) (p : Part T U C) → s.part ≡ Some p → p.is_killed ≡ true → IsKilled s
-  is_killed s p there killed = subst (λ (o : Option (Part T U C)). IsKilled (record { part = o; made = s.made })) (sym there) killed
-
   dead_run : (before after : ServerState T U G C) (run : List (Entry T U G C)) → id.serial ≤ before.last_client → (p : Part T U C) → (seen id before).part ≡ Some p
-      → p.is_killed ≡ true → Leads w before run after → DeadOver p.action run (seen id after)
-  dead_run before after [] born p there killed same = grind (arith, dead_end, seen, is_killed)
+      → p.is_killed ≡ true → Leads w before run after → DeadOver p p.action run (seen id after)
+  dead_run before after [] born p there killed same = ends_here p p.action [] (seen id after) (grind (arith, seen)) refl
   dead_run before after (e ∷ run) born p there killed (mid, by, leads) =
-      go (dead_or_out w id before.offer (seen id before) p there killed (e.lacks id) (e.did id) (seen id mid) e.call
-      (λ new inserts. later_differs new id (let next = (numbered before e.call new by.client inserts).2 in omega (arith, born, next)))
-      (by.each id))
-      (λ none. out_run mid after run (let grown = by.last in omega (arith, born, grown)) none leads)
-      (λ q is gone. dead_run mid after run (let grown = by.last in omega (arith, born, grown)) q is gone leads)
-    where
-      go : DeadOrOut w id before.offer (seen id before) p there killed (e.lacks id) (e.did id) (seen id mid) e.call
-          → ((seen id mid).part ≡ None → OutOver run (seen id after))
-          → ((q : Part T U C) → (seen id mid).part ≡ Some q → q.is_killed ≡ true → DeadOver q.action run (seen id after)) → DeadOver p.action (e ∷ run) (seen id after)
-      go (inl (q, is, remains)) out dead =
-          one_more p.action q.action e run (seen id after) (dead_says w id before.offer (seen id before) p there killed (e.lacks id) (e.did id)
-          (seen id mid) e.call (by.each id)) (ap length (dead_silent w id before.offer (seen id before) p there killed (e.lacks id) (e.did id)
-          (seen id mid) e.call (by.each id)))
-          remains.closed (dead q is remains.killed)
-      go (inr (takes, none)) out dead = grind (arith, takes_it_out, seen, length, dead_silent, came_in, around, either_option, when_killed, found_part, true≢false, new_reading, action_content, call_quiet)
+      let grown = by.last in
+      let silent = ap length (dead_silent w id before.offer (seen id before) p there killed (e.lacks id) (e.did id) (seen id mid) e.call (by.each id)) in
+      elim (dead_or_out w id before.offer (seen id before) p there killed (e.lacks id) (e.did id) (seen id mid) e.call
+      (λ new inserts. later_differs new id (let next = (numbered before e.call new by.client inserts).2 in omega (arith, born, next))) (by.each id)) [
+        | inl (q, is, remains) ↦
+            one_more p q p.action e run (seen id after) (dead_says w id before.offer (seen id before) p there killed (e.lacks id) (e.did id) (seen id mid) e.call (by.each id))
+            silent remains.closed (dead_run mid after run (omega (arith, born, grown)) q is remains.killed leads)
+        | inr (takes, none) ↦
+            let rest = out_run mid after run (omega (arith, born, grown)) none leads in
+            let more = rest.receives in ends_here p p.action (e ∷ run) (seen id after) (takes, rest.says, rest.none) (omega (arith, silent, more))
+      ]
 
   has_none : (s : Seen T U C) (p : Part T U C) → s.part ≡ Some p → HasNoAction s → p.action ≡ None
   has_none s p there none = subst (λ (o : Option (Part T U C)). HasNoAction (record { part = o; made = s.made })) there none

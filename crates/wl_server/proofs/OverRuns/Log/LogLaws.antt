@@ -3,7 +3,7 @@ use Rattle.std.proofs.Common.{◌≡◌, ℕ, true, List, [], ◌∷◌, ◌++�
 use Rattle.wl_wire.specs.declared.error.IoFault.{IoFault}
 use Rattle.wl_wire.specs.Message.{WireMessage}
 use Rattle.wl_wire.specs.Table.{InterfaceRow}
-use Rattle.wl_link.specs.Exchange.{Queue, Sending, nothing, IsWithinOffer}
+use Rattle.wl_link.specs.Exchange.{Queue, nothing, IsWithinOffer}
 use Rattle.wl_link.specs.NothingLost.{LosesNothing}
 use Rattle.wl_link.proofs.Calls.NothingLostLaws.{flush_kept, gone-taken}
 use Rattle.wl_link.specs.Link.{LinkState, IsFresh}
@@ -51,6 +51,20 @@ module _ {U : Type 0} where
   keeps_so : (x y y' : Queue) (d d' : Doings U) → d' ≡ d → y' ≡ y → Keeps x d y → Keeps x d' y'
   keeps_so x y y' d d' is same keeps = grind (arith)
 
+module _ {T U C : Type 0} where
+  -- what waits for a client then
+  record GoneOn (waits : Queue) (d : Doings U) (t : Seen T U C) : Type 0 where
+    after : Queue
+    waiting : WaitsFor t after
+    keeps : Keeps waits d after
+
+  still : (s t : Seen T U C) (d : Doings U) (waits : Queue) → WaitsFor s waits → t.part ≡ s.part → d.sends ≡ [] → d.put ≡ [] → GoneOn waits d t
+  still s t d waits is same no_sends no_puts = record {
+    after = waits;
+    waiting = subst (λ (o : Option (Part T U C)). WaitsFor (record { part = o; made = t.made }) waits) (sym same) is;
+    keeps = keeps_quiet waits waits d no_sends no_puts refl;
+  }
+
 module _ {T U C : Type 0} (sends : T → Queue → Result ℕ IoFault → T → Type 0) (receives : T → ℕ → Result Queue IoFault → T → Type 0)
     (client : ClientParts) (within' : IsWithinOffer sends) where
   abbrev out : Part T U C → Queue
@@ -84,50 +98,30 @@ module _ {T U C : Type 0} (sends : T → Queue → Result ℕ IoFault → T → 
 
   -- ---- what is held of a client
 
-  record GoneOn (waits : Queue) (d : Doings U) (t : Seen T U C) : Type 0 where
-    after : Queue
-    waiting : WaitsFor t after
-    keeps : Keeps waits d after
-
   goes_keep : (s t : Seen T U C) (d : Doings U) (waits : Queue) → WaitsFor s waits → Goes (any true) sends receives client s d t → GoneOn waits d t
-  goes_keep s t d waits is (unfelt none same) = record {
-    after = waits;
-    waiting = subst (λ (x : Seen T U C). WaitsFor x waits) (sym same) is;
-    keeps = keeps_quiet waits waits d (ap (λ (e : Doings U). e.sends) none) (ap (λ (e : Doings U). e.put) none) refl;
-  }
-  goes_keep s t d waits is (notes_taken on none same) = record {
-    after = waits;
-    waiting = subst (λ (x : Seen T U C). WaitsFor x waits) (sym same) is;
-    keeps = keeps_quiet waits waits d (ap (λ (e : Doings U). e.sends) none) (ap (λ (e : Doings U). e.put) none) refl;
-  }
+  goes_keep s t d waits is (unfelt none same) =
+      still s t d waits is (ap (λ (x : Seen T U C). x.part) same) (ap (λ (e : Doings U). e.sends) none) (ap (λ (e : Doings U). e.put) none)
+  goes_keep s t d waits is (notes_taken on none same) =
+      still s t d waits is (ap (λ (x : Seen T U C). x.part) same) (ap (λ (e : Doings U). e.sends) none) (ap (λ (e : Doings U). e.put) none)
   goes_keep s t d waits is (within p q there moves same) = grind (arith, out, moves_keep)
   goes_keep s t d waits is (taken_out p q on there killed moves none noted same) = grind (arith, out, moves_keep)
 
 -- ---- the run of a client
 
 module _ {T U G C : Type 0} (w : World T G C) (within' : IsWithinOffer w.sends) (id : ClientParts) where
-  record RunKeeps (waits : Queue) (run : List (Own T U G C)) (t : Seen T U C) : Type 0 where
-    after : Queue
-    waiting : WaitsFor t after
-    keeps : Keeps waits (doings_of [] (history run)) after
+  abbrev RunKeeps : Queue → List (Own T U G C) → Seen T U C → Type 0
+  RunKeeps waits run t = GoneOn waits (doings_of [] (history run)) t
 
   run_keeps : (offer : Offer G) (s : Seen T U C) (waits : Queue) (run : List (Own T U G C)) (t : Seen T U C) → AreMine id run → WaitsFor s waits
       → Alone w id offer s run t → RunKeeps waits run t
-  run_keeps offer s waits [] t own is same = record {
-    after = waits;
-    waiting = subst (λ (x : Seen T U C). WaitsFor x waits) (sym same) is;
-    keeps = keeps_quiet waits waits (doings_of {U = U} [] []) refl refl refl;
-  }
+  run_keeps offer s waits [] t own is same = still s t (doings_of [] []) waits is (ap (λ (x : Seen T U C). x.part) same) refl refl
   run_keeps offer s waits (e ∷ run) t own is (mid, by, alone) =
       let first = goes_keep w.sends w.receives id within' s mid (doings_of (handed_by id e.call e.did) e.did) waits is (call_goes true w id offer e.call s e.lacked e.did mid own.0 by (λ cleans. refl)) in
       let rest = run_keeps (offer_after offer e.call) mid first.after run t own.1 first.waiting alone in
-      record {
-        after = rest.after;
-        waiting = rest.waiting;
-        keeps = subst (λ (es : List Sending). LosesNothing es waits (spelled_log (log_of (e.did ++ history run))) rest.after) (sym (ap (λ (d : Doings U). d.sends) (doings_in_both e.did (history run))))
-            (subst (λ (ms : List Said). LosesNothing (sends_of e.did ++ sends_of (history run)) waits (spelled_log ms) rest.after) (sym (ap (λ (d : Doings U). d.put) (doings_in_both e.did (history run))))
-            (keeps_then waits first.after rest.after (doings_of (handed_by id e.call e.did) e.did) (doings_of [] (history run)) first.keeps rest.keeps));
-      }
+      let both = keeps_then waits first.after rest.after (doings_of (handed_by id e.call e.did) e.did) (doings_of [] (history run)) first.keeps rest.keeps in
+      let sent = ap (λ (d : Doings U). d.sends) (doings_in_both e.did (history run)) in
+      let put = ap (λ (d : Doings U). d.put) (doings_in_both e.did (history run)) in
+      record { after = rest.after; waiting = rest.waiting; keeps = grind (arith) }
 
   own_log : (offer : Offer G) (transport : T) (limit : Option ℕ) (link : LinkState T) (client_data : C) (run : List (Own T U G C)) (t : Seen T U C) → IsFresh transport limit link
       → AreMine id run → Alone w id offer (just_inserted link client_data) run t → (waits : Queue) × WaitsFor t waits × LogIsSpelled (history run) waits

@@ -82,7 +82,9 @@ module _ {T U C : Type 0} (kind : Kind) (sends : T → Queue → Result ℕ IoFa
     link : after.link ≡ p.link
 
   empties : (p : Part T U C) (entries : List (ℕ × Object (Kept U))) → IsWalk p.store entries → Emptied p entries
-  empties p [] is = record { after = p; moves = stayed refl refl; none = λ n. (let all : (x : Object (Kept U)) → held p.store n ≡ Some x → Contains [] (n, x) = λ x. (is.each n x).1 in grind (arith, held p.store n)); waiting = refl; link = refl }
+  empties p [] is =
+      let all : (n : ℕ) (x : Object (Kept U)) → held p.store n ≡ Some x → Contains [] (n, x) = λ n x. (is.each n x).1 in
+      record { after = p; moves = stayed refl refl; none = λ n. (grind (arith, held p.store n, all n)); waiting = refl; link = refl }
   empties p (e ∷ entries) is =
       let mid : Part T U C = left_by client false p e.0 e.1 in
       let rest = empties mid entries (record {

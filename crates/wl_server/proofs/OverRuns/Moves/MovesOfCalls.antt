@@ -1,5 +1,5 @@
 -- That what a program does with one client is a chain of base moves.
-use Rattle.std.proofs.Common.{◌≡◌, ◌≢◌, ◌⊎◌, ℕ, ◌+◌, ◌≤◌, Bool, true, false, cond, eqb, List, [], ◌∷◌, ◌++◌, map, Option, None, Some, is_some, Result, Ok, Err, refl, sym, ap, subst, ◌∙◌, append-nil, true≢false, arith}
+use Rattle.std.proofs.Common.{◌≡◌, ◌≢◌, ◌⊎◌, ℕ, ◌+◌, ◌≤◌, Bool, true, false, cond, eqb, List, [], ◌∷◌, ◌++◌, map, Option, None, Some, is_some, Result, Ok, Err, refl, sym, ap, ◌∙◌, append-nil, true≢false, arith}
 use mathlib.Core.Logic.{inl, inr}
 use Rattle.std.specs.Prelude.{slice_get, is_ok}
 use Rattle.std.proofs.lemmas.Option.{none-some}
@@ -111,8 +111,7 @@ module _ {T U C : Type 0} (kind : Kind) (sends : T → Queue → Result ℕ IoFa
     lands_at kind sends receives client c did e none_then
         (λ l. followed (moved (went id.number x waits (named_is_held c.store id x is) refl refl)) (moves l)
         (doings_left client waits id x (named_serial c.store id x is) ∙ sym (joined_none _))),
-    λ d store. ap (λ (b : Bool). told_deeds (cond b [] (map Did did))) (gone_named d.store id (ap (λ (s : Store (Kept U)). held s id.number) store ∙ gone))
-        ∙ ap told_deeds (sym (append-nil (map Did did))) ∙ told_did did [] refl,
+    λ d store. grind (arith, gone_named, told_did did [] refl, append-nil, gone, store),
     grind (arith, end_note, id_at, id_of, left_if),
     inl refl,
     elim back [ inl over ↦ inl over | inr back ↦ inr (back, (ap (λ (b : Bool). told_deeds (cond b [] (map Did did))) (ap is_some is))) ],
@@ -248,7 +247,5 @@ module _ {T U C : Type 0} (kind : Kind) (sends : T → Queue → Result ℕ IoFa
         | inl (none, refuses) ↦ stays p did q refuses.2 refuses.3
         | inr (opened.Request sender b created, is, refuses) ↦ stays p did q refuses.2 refuses.3
         | inr (opened.Bind object, is, (is', no_memory, none, same)) ↦
-            subst (λ (e : Part T U C). Move p (doings_in did) e) (sym same)
-            (same_doings kind sends receives client p (record p { action = None; store = store_with_data p.store (Some object) (Some u) }) nothing_done (doings_in did) (ap doings_in none)
-            (followed (data_moves p (Some object) (Some u)) (moved (finished may refl refl)) refl))
+            rw (same, none) (followed (data_moves p (Some object) (Some u)) (moved (finished may refl refl)) refl)
       ]

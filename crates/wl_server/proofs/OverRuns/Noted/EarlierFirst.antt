@@ -273,8 +273,7 @@ module _ {T U G C : Type 0} where
 
   -- what is left of the numbers of those that wait is all of them
   same_waiting : (s t : ServerState T U G C) → ((id : ClientParts) → (seen id t).part ≡ (seen id s).part) → AllNumbered s.clients
-      → AllNumbered t.clients
-      → AllTakeFirst (map times_of s.clients) (map times_of t.clients) → (k : ℕ) → numbers_of true t k ≡ numbers_of true s k
+      → AllNumbered t.clients → AllTakeFirst (map times_of s.clients) (map times_of t.clients) → (k : ℕ) → numbers_of true t k ≡ numbers_of true s k
   same_waiting s t parts one two first k =
       let same = same_part (stored_at k s.clients) (stored_at k t.clients) (λ serial. sym (parts (record { slot = k; serial = serial }))) in
       let taken = length-append (first k).waiting (numbers_of true t k) in

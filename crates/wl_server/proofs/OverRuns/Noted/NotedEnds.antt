@@ -113,7 +113,6 @@ module _ {T U C : Type 0} (sends : T → Queue → Result ℕ IoFault → T → 
 
 module _ {T U G C : Type 0} (w : World T G C) where
   pub end_same : (before after : ServerState T U G C) (e : Entry T U G C) (target : ClientParts) (u : Option U) (answer : Reply T U)
-      → OneStep w before e after
-      → e.call ≡ Asked (step.FinishRequest target u) answer → (id : ClientParts)
+      → OneStep w before e after → e.call ≡ Asked (step.FinishRequest target u) answer → (id : ClientParts)
       → (left_in (e.did id) ≡ destroyed_in (notes_in (e.did id))) × (waiting_of (seen id after).part ≡ waiting_of (seen id before).part)
   end_same before after e target u answer by call id = grind (arith, seen, either_option, same_client, finish_same)

@@ -1,5 +1,5 @@
 -- That each object that left is noted once, and each client that was killed: an induction over base moves.
-use Rattle.std.proofs.Common.{◌≡◌, ℕ, ◌+◌, Bool, true, false, List, [], ◌∷◌, ◌++◌, append-nil, append_assoc, Option, Result, refl, sym, ap, subst, ◌∙◌, arith}
+use Rattle.std.proofs.Common.{◌≡◌, ℕ, ◌+◌, Bool, true, List, [], ◌∷◌, ◌++◌, append-nil, append_assoc, Option, Result, refl, sym, ap, subst, arith}
 use Rattle.std.specs.Prelude.{IsPermutation, if◌then◌else◌}
 use Rattle.std.proofs.lemmas.List.Sorted.{IsPermutation-append_comm, IsPermutation-append_left, IsPermutation-append_right, IsPermutation-refl, IsPermutation-trans}
 use Rattle.wl_wire.specs.declared.error.IoFault.{IoFault}
@@ -14,7 +14,6 @@ use Rattle.wl_server.specs.declared.notes.Happening.TheVariants.{Destroyed, Disc
 use Rattle.wl_server.proofs.OverRuns.Moves.BaseMoves.{Doings, Goes, Moves, any, doings_of, followed, handed_by, handed_out, left_id, notes_taken, moved, stayed, taken_out, unfelt, within, Move}
 use Rattle.wl_server.proofs.OverRuns.Moves.BaseMovesLaw.{call_goes}
 use Rattle.wl_server.proofs.OverRuns.Ids.ChangeLaws.{moves_take}
-use Rattle.wl_server.specs.Deeds.{left_in, taken_in}
 use Rattle.wl_server.proofs.OverRuns.Moves.DoingsLaws.{doings_in_both}
 use Rattle.wl_server.specs.Globals.{Offer, new_offer}
 use Rattle.wl_server.specs.Identified.{HasOwnIds, waiting_of}
@@ -70,30 +69,19 @@ module _ {T U C : Type 0} (sends : T → Queue → Result ℕ IoFault → T → 
     ends : ends_in d.notes + one_if p.is_killed ≡ one_if q.is_killed
     none : ends_in q.waiting ≡ 0
 
-  quiet : (p q r : Part T U C) (d e : Doings U) → ends_in p.waiting ≡ 0 → d ≡ e → q ≡ r → e.left ≡ [] → e.notes ≡ [] → r.waiting ≡ p.waiting → r.is_killed ≡ p.is_killed
-      → Noting p d q
-  quiet p q r d e none is same no_left no_notes waits killed = grind (arith, same_permuted, destroyed_in, append-nil, ends_in, one_if)
-
   went_noting : (p q : Part T U C) (d : Doings U) (n : ℕ) (x : Object (Kept U)) (waits : Bool) → ends_in p.waiting ≡ 0
       → d.left ≡ left_id (id_of (id_at client n x)) x.value.user_data → d.notes ≡ (if waits then [] else note_of_end client n x)
       → q.waiting ≡ (if waits then p.waiting ++ note_of_end client n x else p.waiting) → q.is_killed ≡ p.is_killed → Noting p d q
-  went_noting p q d n x true none left notes waits killed = grind (arith, note_of_end, id_of, id_at, same_permuted, destroyed_in, destroyed_both, destroyed_note, ends_in, one_if, ends_both, ends_note)
-  went_noting p q d n x false none left notes waits killed =
-      let note : List (Happening U) = note_of_end client n x in record {
-        objects = subst (λ (l : List Id). IsPermutation (destroyed_in p.waiting ++ d.left) (l ++ destroyed_in q.waiting))
-            (left ∙ sym (destroyed_note (id_at client n x) x.value.user_data) ∙ ap destroyed_in (sym notes))
-            (subst (λ (l : List (Happening U)). IsPermutation (destroyed_in p.waiting ++ d.left) (d.left ++ destroyed_in l)) (sym waits)
-            (IsPermutation-append_comm (destroyed_in p.waiting) d.left));
-        ends = grind (arith, ends_in, ends_note, id_at, one_if);
-        none = ap ends_in waits ∙ none;
-      }
+  went_noting p q d n x waits none left notes waited killed =
+      let apart = IsPermutation-append_comm (destroyed_in p.waiting) d.left in
+      grind (arith, waits, apart, note_of_end, id_at, same_permuted, destroyed_both, destroyed_note, ends_both, ends_note)
 
   move_notes : (p q : Part T U C) (d : Doings U) → ends_in p.waiting ≡ 0 → Move (any true) sends receives client p d q → Noting p d q
   move_notes p q d none move = grind
-      (arith, quiet, went_noting, note_of_end, id_at, same_permuted, append-nil, destroyed_both, destroyed_note, ends_both, ends_note)
+      (arith, went_noting, note_of_end, id_at, same_permuted, append-nil, destroyed_both, destroyed_note, ends_both, ends_note)
 
   moves_note : (p q : Part T U C) (d : Doings U) → ends_in p.waiting ≡ 0 → Moves (any true) sends receives client p d q → Noting p d q
-  moves_note p q d none (stayed is same) = quiet p q p d _ none is same refl refl refl refl
+  moves_note p q d none (stayed is same) = grind (arith, same_permuted, append-nil)
   moves_note p q d none (followed {m = m} {a = a} {b = b} first second is) =
       let one = moves_note p m a none first in
       subst (λ (x : Doings U). Noting p x q) (sym is) (grind (arith, destroyed_in, destroyed_both, permuted_then, ends_both, moves_note m q b one.none second))
@@ -138,9 +126,7 @@ module _ {T U G C : Type 0} (w : World T G C) (id : ClientParts) where
       let first = goes_note w.sends w.receives id s mid (doings_of (handed_by id e.call e.did) e.did) none (call_goes true w id offer e.call s e.lacked e.did mid own.0 by (λ cleans. refl)) in
       let rest = run_notes (offer_after offer e.call) mid run t own.1 first.none alone in
       let all = doings_in_both e.did (history run) in
-      let left : left_in (e.did ++ history run) ≡ left_in e.did ++ left_in (history run) = ap (λ (d : Doings U). d.left) all in
-      let taken : taken_in (e.did ++ history run) ≡ taken_in e.did ++ taken_in (history run) = ap (λ (d : Doings U). d.taken) all in
-      grind (arith, held_notes, destroyed_in, taken_in, history, left_in, destroyed_both, permuted_then, ends_in, ends_both)
+      grind (arith, all, held_notes, destroyed_both, permuted_then, ends_both)
 
   own_notes : (offer : Offer G) (link : LinkState T) (client_data : C) (run : List (Own T U G C)) (t : Seen T U C) → AreMine id run → HasOwnIds w id offer (just_inserted link client_data) run t
       → Alone w id offer (just_inserted link client_data) run t → NotesEach (history run) t

@@ -123,8 +123,7 @@ module _ {T U G C : Type 0} (w : World T G C) where
 
   -- a cleanup notes what waits, and then the end of a client that it takes out
   cleaned_so : (id : ClientParts) (offer : Offer G) (out : Vec (ClientParts × T) Global) (s : Seen T U C) (lacked : Bool) (did : List (Deed U))
-      (t : Seen T U C)
-      → CleanedAs w id offer (Ok out) s lacked did t
+      (t : Seen T U C) → CleanedAs w id offer (Ok out) s lacked did t
       → (rest : List (Happening U)) × (t.made ≡ s.made ++ (waiting_of s.part ++ rest)) × (s.part ≡ None → rest ≡ [])
   cleaned_so id offer out s lacked did t h =
       elim (either_option s.part h) [
@@ -140,8 +139,7 @@ module _ {T U G C : Type 0} (w : World T G C) where
   -- What is told of a client that a cleanup gathers: its notes that were made, then those that waited. Who is not stored is not told of.
   pub told_so : (s : ServerState T U G C) (e : Entry T U G C) (after : ServerState T U G C) (out : Vec (ClientParts × T) Global)
       → e.call ≡ Asked step.Cleanup (reply.Cleanup (Ok out)) → OneStep w s e after → (l : List (Note U)) → after.notes ≡ s.notes ++ l
-      → (id : ClientParts)
-      → (rest : List (Happening U)) × (notes_of id l ≡ made_of id s.clients ++ (waiting_of (seen id s).part ++ rest))
+      → (id : ClientParts) → (rest : List (Happening U)) × (notes_of id l ≡ made_of id s.clients ++ (waiting_of (seen id s).part ++ rest))
       × (client_at id s.clients ≡ None → notes_of id l ≡ [])
   told_so s e after out is one l behind id =
       let h : GathersNotes s after = subst (λ (call : Call T U G C). NotesGoOn s call after) is one.notes in

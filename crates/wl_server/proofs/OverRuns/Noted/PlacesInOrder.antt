@@ -136,8 +136,7 @@ module _ (f : NotePlace → ℕ) (kinds : Bool → Bool) (slot : ℕ) (waits : B
   counted p = if kinds p.waits then in_slot slot f p else 0
 
   abbrev of_client : NoteTimes → ℕ
-  of_client t =
-      (if kinds false then sum_by (λ n. f (place_at false slot n)) t.made else 0)
+  of_client t = (if kinds false then sum_by (λ n. f (place_at false slot n)) t.made else 0)
       + (if waits then (if kinds true then sum_by (λ n. f (place_at true slot n)) t.waiting else 0) else 0)
 
   own : (k : ℕ) (t : NoteTimes) → sum_by counted (places_of waits k t) ≡ (if k == slot then of_client t else 0)

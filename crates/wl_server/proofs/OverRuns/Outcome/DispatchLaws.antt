@@ -1,7 +1,7 @@
 -- That a dispatch has one outcome, where memory is not refused and the handler is deterministic.
 --
 -- It is proved of a handler that is deterministic where memory is refused to none of its calls, and says so in its own value.
-use Rattle.std.proofs.Common.{◌≡◌, ℕ, length, Bool, true, false, List, [], ◌∷◌, Option, None, Some, Result, Ok, Err, refl, sym, ap, ap₂, subst, ◌∙◌, true≢false, arith}
+use Rattle.std.proofs.Common.{◌≡◌, ℕ, length, Bool, true, false, List, [], ◌∷◌, Option, None, Some, Result, Ok, Err, refl, sym, ap, ap₂, ◌∙◌, true≢false, arith}
 use Rattle.std.specs.Prelude.{◌||◌}
 use Rattle.std.proofs.lemmas.List.{length-append, same_from_push}
 use Rattle.std.proofs.lemmas.Option.{same_Some}
@@ -20,7 +20,8 @@ use Rattle.wl_server.specs.Deeds.{handed}
 use Rattle.wl_server.specs.Dispatch.{Answering, Answers, EachIsDispatched, EndsDispatch, Handles, IsDispatched, Last, Round, Rounds, cleaned, dispatched, fault_of_end, fault_of_reading, more, no_action, none, not_ended, refusal_in, total_with}
 use Rattle.wl_server.specs.Outcome.Dispatches.{DispatchesHaveOneOutcome, HandledSame, IsDeterministic, IsDeterministicIfSpared, ManyDispatchesHaveOneOutcome, ManySparedDispatchesHaveOneOutcome, SameBackend, SparedDispatchesHaveOneOutcome}
 use Rattle.wl_server.specs.Ids.{ClientParts}
-use Rattle.wl_server.specs.PartStep.{Asked, World}
+use Rattle.wl_server.specs.Outcome.{SameReply}
+use Rattle.wl_server.specs.PartStep.{share_of, Asked, World}
 use Rattle.wl_server.specs.Reading.{action_content, new_reading}
 use Rattle.wl_server.specs.Server.{ServerState}
 use Rattle.wl_server.specs.Steps.{Entry, OneStep}
@@ -38,22 +39,17 @@ both_calm h1 b calm = grind (arith, true≢false)
 abbrev any : ClientParts
 any = record { slot = 0; serial = 0 }
 
-module _ {T U : Type 0} (ordered : Bool) where
-  refusal_same : (p q : Reply T U) → WholeReply ordered p q → refusal_in p ≡ refusal_in q
-  refusal_same (reply.NextAction r) (reply.NextAction r') same = refl
-  refusal_same (reply.NextActionWithin r left) (reply.NextActionWithin r' left') same = refl
-  refusal_same (reply.Cleanup (Ok out)) (reply.Cleanup (Ok out')) same = refl
-  refusal_same (reply.TakeSent r) (reply.TakeSent r') same = refl
-  refusal_same (reply.TakeNotes (Ok out)) (reply.TakeNotes (Ok out')) same = refl
-  refusal_same p q same = ap refusal_in (same any)
+module _ {T U : Type 0} where
+  whole_any : (ordered : Bool) (p q : Reply T U) → WholeReply ordered p q → SameReply any p q
+  whole_any ordered (reply.Cleanup (Ok out)) (reply.Cleanup (Ok out')) same = ap (share_of any) same
+  whole_any ordered (reply.TakeNotes (Ok out)) (reply.TakeNotes (Ok out')) same = same.0 any
+  whole_any ordered p q same = same any
 
-  cleaned_same : (answer : Result ℕ IoFault) (p q : Reply T U) → WholeReply ordered p q → cleaned p answer ≡ cleaned q answer
-  cleaned_same answer (reply.NextAction r) (reply.NextAction r') same = refl
-  cleaned_same answer (reply.NextActionWithin r left) (reply.NextActionWithin r' left') same = refl
-  cleaned_same answer (reply.Cleanup (Ok out)) (reply.Cleanup (Ok out')) same = refl
-  cleaned_same answer (reply.TakeSent r) (reply.TakeSent r') same = refl
-  cleaned_same answer (reply.TakeNotes (Ok out)) (reply.TakeNotes (Ok out')) same = refl
-  cleaned_same answer p q same = ap (λ (z : Reply T U). cleaned z answer) (same any)
+  refusal_same : (p q : Reply T U) → SameReply any p q → refusal_in p ≡ refusal_in q
+  refusal_same p q same = grind (arith)
+
+  cleaned_same : (answer : Result ℕ IoFault) (p q : Reply T U) → SameReply any p q → cleaned p answer ≡ cleaned q answer
+  cleaned_same answer p q same = grind (arith)
 
 -- ---- a call of a dispatch
 
@@ -61,10 +57,10 @@ module _ {T U G C : Type 0} (w : World T G C) (known : IsDetermined w) (ordered 
   -- the same step was made twice
   step_one : {s t x y : ServerState T U G C} (e f : Entry T U G C) (k : Step T U G C) (p q : Reply T U) → SameServer ordered s t
       → e.call ≡ Asked k p → f.call ≡ Asked k q → e.refused ≡ false → f.refused ≡ false → OneStep w s e x → OneStep w t f y
-      → WholeReply ordered p q × SameServer ordered x y
+      → SameReply any p q × SameServer ordered x y
   step_one {s} {t} {x} {y} e f k p q same call call' calm calm' by by' =
       let one = entry_one w known s t x y e f ordered same (grind (arith, e.call, f.call)) calm calm' by by' in
-      ((grind (arith, e.call, f.call, one.0)), one.2)
+      (whole_any ordered p q (grind (arith, e.call, f.call, one.0)), one.2)
 
 module _ {H T U G C : Type 0} (w : World T G C) (known : IsDetermined w) (ordered : Bool) (answers : Answering H T U G C) (spared : H → Bool)
     (acts : IsDeterministicIfSpared ordered answers spared) where
@@ -93,7 +89,7 @@ module _ {H T U G C : Type 0} (w : World T G C) (known : IsDetermined w) (ordere
         let one = answered_one h h1 h2 b c p.left q.left a a' p.end q.end same actions is is' p.answers_so q.answers_so in
         let made = step_one w known ordered p.ended q.ended p.end p.answer q.answer one.2 p.ended_is (grind (arith, q.ended_is, one.0))
         (sym p.lacked_is ∙ calm) (sym q.lacked_is ∙ calm') p.ends q.ends in
-        (p.why_is ∙ refusal_same ordered p.answer q.answer made.0 ∙ sym q.why_is, one.1, made.1)
+        (p.why_is ∙ refusal_same p.answer q.answer made.0 ∙ sym q.why_is, one.1, made.1)
 
     -- ---- a turn: a reading, and what became of the action that it handed out, if it did
 
@@ -105,7 +101,7 @@ module _ {H T U G C : Type 0} (w : World T G C) (known : IsDetermined w) (ordere
     read_one {r} {r1} {r2} e f a a' same calm calm' by by' call call' =
         let made = step_one w known ordered e f (step.NextActionWithin id r) (reply.NextActionWithin a r1) (reply.NextActionWithin a' r2) same
         call call' calm calm' by by' in
-        let told = made.0 any in (told.0, told.1, made.1)
+        (made.0.0, made.0.1, made.1)
 
     abbrev Ending : Type 0
     Ending = Result (Option FinishError) ActionError
@@ -179,10 +175,8 @@ module _ {H T U G C : Type 0} (w : World T G C) (known : IsDetermined w) (ordere
         let none : None ≡ Some f = ap fault_in (sym (turn_one same turn turn').0) ∙ ends in absurd cc
     goes_one {g = g} same (goes turn rest) (stops turn' ends) =
         let none : None ≡ Some g = ap fault_in (turn_one same turn turn').0 ∙ ends in absurd cc
-    goes_one {h2 = h2} {r2 = r2} {y = y} {g = g} same (goes {r1 = q} turn rest) (goes {h1 = k'} {s1 = z'} turn' rest') =
-        let one = turn_one same turn turn' in
-        let rest_there = subst (λ (o : Reading). Goes k' o z' g h2 r2 y) (sym one.2) rest' in
-        goes_one one.3 rest (subst (λ (o : H). Goes o q z' g h2 r2 y) (sym one.1) rest_there)
+    goes_one same (goes turn rest) (goes turn' rest') =
+        let one = turn_one same turn turn' in goes_one one.3 rest (rw (← one.1, ← one.2) at rest')
 
     -- ---- a client
 
@@ -210,18 +204,14 @@ module _ {H T U G C : Type 0} (w : World T G C) (known : IsDetermined w) (ordere
       absurd (omega (arith, length-append front (id ∷ []), ap length (sym empty ∙ ids_are)))
   each_one same calm calm' is is' (more {earlier = front} id answer each serves ids_are _ _ _) (none empty run_is' lacked_is' none_read) =
       absurd (omega (arith, length-append front (id ∷ []), ap length (sym empty ∙ ids_are)))
-  each_one {h = h} {h2 = h2} {t = t} {y = y} {total = total} {total' = total'} same calm calm' is is'
-      (more {earlier = front} {h1 = k} {before = b} {now = n} id answer each serves ids_are run_is lacked_is total_is)
-      (more {earlier = front'} {h1 = k'} {s1 = z'} {first = first} {next = next} {before = b'} {now = n'} {count = count'}
-      id' answer' each' serves' ids_are' run_is' lacked_is' total_is') =
+  each_one same calm calm' is is' (more {earlier = front} {before = b} {now = n} id answer each serves ids_are run_is lacked_is total_is)
+      (more {earlier = front'} {before = b'} {now = n'} id' answer' each' serves' ids_are' run_is' lacked_is' total_is') =
       let ends = same_from_push front front' id id' (sym ids_are ∙ ids_are') in
       let c = both_calm b n (sym lacked_is ∙ calm) in
       let d = both_calm b' n' (sym lacked_is' ∙ calm') in
-      let each_there = subst (λ (i : List ClientParts). EachIsDispatched w answers i h t first b' count' k' z') (sym ends.0) each' in
-      let earlier = each_one same c.0 d.0 (starts id (client_goes id c.1 is serves)) (starts id' (client_goes id' d.1 is' serves')) each each_there in
-      let there = subst (λ (i : ClientParts). IsDispatched w answers i k z' next n' answer' h2 y) (sym ends.1)
-      (subst (λ (o : H). IsDispatched w answers id' o z' next n' answer' h2 y) (sym earlier.1) serves') in
-      let one = client_one id earlier.2 c.1 d.1 is is' serves there in
+      let earlier = each_one same c.0 d.0 (starts id (client_goes id c.1 is serves)) (starts id' (client_goes id' d.1 is' serves')) each
+      (rw (← ends.0) at each') in
+      let one = client_one id earlier.2 c.1 d.1 is is' serves (rw (← ends.1, ← earlier.1) at serves') in
       (total_is ∙ ap₂ total_with earlier.0 one.0 ∙ sym total_is', one.1, one.2)
 
   -- ---- the end of a dispatch
@@ -235,7 +225,7 @@ module _ {H T U G C : Type 0} (w : World T G C) (known : IsDetermined w) (ordere
       let d = both_calm m q.cleanup.refused (sym q.refused ∙ calm') in
       let (answered, kept, same) = before c.0 d.0 in
       let one = step_one w known ordered p.cleanup q.cleanup step.Cleanup p.out q.out same p.cleanup_is q.cleanup_is c.1 d.1 p.cleans q.cleans in
-      (p.result_is ∙ ap (cleaned p.out) answered ∙ cleaned_same ordered answer' p.out q.out one.0 ∙ sym q.result_is, kept, one.1)
+      (p.result_is ∙ ap (cleaned p.out) answered ∙ cleaned_same answer' p.out q.out one.0 ∙ sym q.result_is, kept, one.1)
 
   pub spared_dispatch_one : SparedDispatchesHaveOneOutcome ordered w answers spared
   spared_dispatch_one id h h1 h2 s t x y result result' same (_, _, _, _, serves, ends) (_, _, _, _, serves', ends') calm calm' is is' =

@@ -1,5 +1,5 @@
 -- That the offer after a run has one outcome: the shared calls determine it.
-use Rattle.std.proofs.Common.{◌≡◌, Bool, true, false, List, [], ◌∷◌, Result, refl, sym, ap, subst, ◌∙◌, true≢false, arith}
+use Rattle.std.proofs.Common.{◌≡◌, Bool, true, false, List, [], ◌∷◌, Result, refl, ap, ◌∙◌, true≢false, arith}
 use Rattle.std.specs.Prelude.{if◌then◌else◌, nat_le, slice_get}
 use Rattle.wl_wire.specs.declared.protocol.TableError.{TableError}
 use Rattle.wl_wire.specs.Table.{AnswersGrowth, InterfaceRow, grown}
@@ -75,8 +75,8 @@ module _ {T U G C : Type 0} where
   own_offer_one id offer [] [] own same ample ample' n n' h g = refl
   own_offer_one id offer (e ∷ run) (f ∷ run') (own, owns) (same, others) (ample, rest) (ample', rest') (n, more) (n', more') (h, answered) (g, answered') =
       let shared = shared_call id offer e.call f.call same own ample ample' n n' h g in
-      let numbers = subst (λ (o : Offer G). AreNumbered o run') (sym shared.1) more' in
-      own_offer_one id (offer_after offer e.call) run run' owns others rest rest' more numbers answered answered' ∙ ap (λ (o : Offer G). own_offer o run') shared.1
+      own_offer_one id (offer_after offer e.call) run run' owns others rest rest' more (rw (← shared.1) at more') answered answered'
+      ∙ ap (λ (o : Offer G). own_offer o run') shared.1
   own_offer_one id offer _ _ own same ample ample' n n' h g = absurd same
 
   pub mine_numbered : (w : World T G C) (id : ClientParts) (before after : ServerState T U G C) (run : List (Entry T U G C)) → Leads w before run after

@@ -1,5 +1,5 @@
 -- That each call on what is one client's has one outcome, where memory is not refused to it.
-use Rattle.std.proofs.Common.{◌≡◌, ℕ, Bool, false, List, [], map, Option, None, Some, Result, Ok, Err, sym, ap, subst, ◌∙◌, true≢false, arith, ◌≢◌, true, ◌∷◌, is_ok, refl}
+use Rattle.std.proofs.Common.{◌≡◌, ℕ, Bool, false, List, [], map, Option, None, Some, Result, Ok, Err, sym, ap, ◌∙◌, true≢false, arith, ◌≢◌, true, ◌∷◌, is_ok, refl}
 use Rattle.std.specs.Prelude.{◌==◌, MatchBool, MatchOption, slice_get}
 use mathlib.Core.Logic.{inl, inr}
 use Rattle.wl_wire.specs.declared.error.IoFault.{IoFault}
@@ -78,11 +78,10 @@ module _ {T : Type 0} (sends : T → Queue → Result ℕ IoFault → T → Type
         let one = finds_one sends function reader p v w link link' (finds v link found) (finds' w link' found') in
         let ok = both_false lacked rest.refused (sym ample ∙ ap refused_of split) in
         let ok' = both_false lacked' rest'.refused (sym ample' ∙ ap refused_of split') in
-        let a = subst (λ (z : Verdict Core Event). CarriesOut sends reader z link' fs first' lacked' mid') (sym one.0) carried' in
-        let known = subst (λ (l : Bool). CarriesOut sends reader v link es first l mid) ok.0 carried in
-        let known' = subst (λ (l : Bool). CarriesOut sends reader v link fs first' l mid') ok'.0 (subst (λ (z : LinkState T). CarriesOut sends reader v z fs first' lacked' mid') (sym one.1) a) in (
+        let known = rw ok.0 at carried in
+        let known' = rw (← one.0, ← one.1, ok'.0) at carried' in (
           carries_sends v link mid mid' es fs first first' known known',
-          goes mid rest rest' ok.1 ok'.1 more (subst (λ (z : ReaderState T Core). on' z rest') (sym (carries_one sends function reader v link mid mid' es fs first first' known known').after) more'),
+          goes mid rest rest' ok.1 ok'.1 more (rw (← (carries_one sends function reader v link mid mid' es fs first first' known known').after) at more'),
         )
 
     module _ (receives : T → ℕ → Result Queue IoFault → T → Type 0) (receives_function : IsReceiveFunction receives) where
@@ -217,9 +216,7 @@ module _ {T U C : Type 0} where
       sends_granted_one m sender ends a b d e x y (inr (es, rest, w, link, by, sent, did)) (inr (fs, rest', w', link', by', sent', did')) =
           let same = one_write_lem sends function (wire_message m) link link' es fs w w' (λ is. grind (arith, true≢false)) (λ is. grind (arith, true≢false))
           s.link by by' in
-          let answered = subst (λ z. SentAs sends client s m sender ends z link' b false rest' y) (sym same.answer) sent' in
-          let linked = subst (λ l. SentAs sends client s m sender ends w l b false rest' y) (sym same.after) answered in
-          let one = sent_as_one m sender ends w link a b rest rest' x y sent linked in grind (arith, map)
+          let one = sent_as_one m sender ends w link a b rest rest' x y sent (rw (← same.answer, ← same.after) at sent') in grind (arith, map)
 
       pub sends_event_one : (table : List InterfaceRow) (m : SessionMessage) → IsOne (SendsEvent sends client table s m)
       sends_event_one table m a b d e x y h g =

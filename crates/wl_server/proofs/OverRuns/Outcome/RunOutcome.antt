@@ -1,5 +1,5 @@
 -- That the runs of one client have one outcome, where they are of the same steps, and so it is whatever other clients do.
-use Rattle.std.proofs.Common.{◌≡◌, Bool, List, [], ◌∷◌, ◌++◌, Some, refl, sym, ap, subst, ◌∙◌, arith}
+use Rattle.std.proofs.Common.{◌≡◌, List, [], ◌∷◌, ◌++◌, Some, refl, sym, ap, subst, ◌∙◌, arith}
 use Rattle.wl_link.specs.Link.{LinkState, IsFresh}
 use Rattle.wl_server.specs.Globals.{Offer, new_offer}
 use Rattle.wl_server.specs.Ids.{ClientParts}
@@ -10,7 +10,7 @@ use Rattle.wl_server.proofs.OverRuns.Outcome.OfferLaws.{mine_numbered, shared_ca
 use Rattle.wl_server.proofs.OverRuns.Outcome.Determined.{IsDetermined}
 use Rattle.wl_server.specs.Outcome.{AreNumbered, AreOwn, ClientsHaveOneOutcome, HasMemory, InsertsAs, SameRun, SameSteps}
 use Rattle.wl_server.proofs.OverRuns.Outcome.OutcomeLaws.{call_one}
-use Rattle.wl_server.specs.PartStep.{PartCall, World}
+use Rattle.wl_server.specs.PartStep.{World}
 use Rattle.wl_server.specs.Runs.{Alone, Leads, Own, just_inserted, mine, offer_over}
 use Rattle.wl_server.specs.Server.{Seen, ServerState, new_server, seen}
 use Rattle.wl_server.specs.Steps.{Entry, offer_after}
@@ -24,12 +24,10 @@ module _ {T U G C : Type 0} where
       → Alone w id offer before run x → Alone w id offer before run' y → SameRun id run run' × (x ≡ y)
   alone_one w known id offer before x y [] [] own same ample ample' n n' h g = (tt, h ∙ sym g)
   alone_one w known id offer before x y (e ∷ run) (f ∷ run') (own, owns) (same, others) (unlacked, ample, rest) (unlacked', ample', rest') (n, more) (n', more') (mid, by, alone) (mid', by', alone') =
-      let first = subst (λ (b : Bool). PartCall w id offer e.call before b e.did mid) unlacked by in
-      let first' = subst (λ (b : Bool). PartCall w id offer f.call before b f.did mid') unlacked' by' in
       let shared = shared_call id offer e.call f.call same own ample ample' n n' (grind (arith, e.call)) (grind (arith, f.call)) in
-      let one = call_one w known id offer before e.did f.did mid mid' e.call f.call same ample ample' shared.0 first first' in
-      let joined = subst (λ (s : Seen T U C). Alone w id (offer_after offer e.call) s run' y) (sym one.held) (subst (λ (o : Offer G). Alone w id o mid' run' y) (sym shared.1) alone') in
-      let later = alone_one w known id (offer_after offer e.call) mid x y run run' owns others rest rest' more (subst (λ (o : Offer G). AreNumbered o run') (sym shared.1) more') alone joined in
+      let one = call_one w known id offer before e.did f.did mid mid' e.call f.call same ample ample' shared.0 (rw unlacked at by) (rw unlacked' at by') in
+      let later = alone_one w known id (offer_after offer e.call) mid x y run run' owns others rest rest' more (rw (← shared.1) at more') alone
+      (rw (← one.held, ← shared.1) at alone') in
       ((one.reply own, one.deeds, later.0), later.1)
   alone_one w known id offer before x y _ _ own same ample ample' n n' h g = absurd same
 
@@ -46,8 +44,8 @@ module _ {T U G C : Type 0} where
       let offered : offer_over (new_offer table) (earlier ++ e ∷ []) ≡ offer
       = offer_over_one (new_offer table) earlier e ∙ ap (offer_after (offer_over (new_offer table) earlier)) inserts ∙ is in (
         link,
-        subst (λ (o : Offer G). IsFresh transport (Some o.default_limit) link) is fresh,
-        subst (λ (o : Offer G). Alone w id o (just_inserted link client_data) (mine id later) (seen id after)) offered alone,
+        rw is at fresh,
+        rw offered at alone,
         subst (λ (o : Offer G). AreNumbered o (mine id later)) offered (grind (arith, split_run, mine, offer_run, offer_over_one, mine_numbered)),
       )
 

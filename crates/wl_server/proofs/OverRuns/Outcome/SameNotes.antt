@@ -18,7 +18,7 @@ use Rattle.wl_server.specs.declared.runs.step.Reply.TheVariants as reply
 use Rattle.wl_server.specs.declared.runs.step.Step.TheVariants as step
 use Rattle.wl_server.specs.Deeds.{Deed}
 use Rattle.wl_server.specs.Ids.{ClientParts}
-use Rattle.wl_server.specs.NoteOrder.{AllNumbered, AllTakeFirst, InTurn, IsNoLater, IsNumbered, Rise, RiseFromSlot, all_places, number_past, numbers_from, places_of, slot_of, times_at, times_of}
+use Rattle.wl_server.specs.NoteOrder.{AllNumbered, AllTakeFirst, InTurn, IsNoLater, Rise, RiseFromSlot, all_places, number_past, numbers_from, places_of, slot_of, times_at, times_of}
 use Rattle.wl_server.specs.Outcome.{SameCall}
 use Rattle.wl_server.specs.Outcome.Whole.{OrdersSame}
 use Rattle.wl_server.specs.PartStep.{Asked, Call, PartCall, World}
@@ -136,10 +136,6 @@ module _ {T U C : Type 0} where
   abbrev notes_at : Option (Stored T U C) → List (Happening U)
   notes_at c = option_map_or (λ z. z.made) c []
 
-  as_long : (a b : Option (Stored T U C)) → told_at a ≡ told_at b → notes_at a ≡ notes_at b → IsNumbered a → IsNumbered b
-      → (length (times_of a).made ≡ length (times_of b).made) × (length (times_of a).waiting ≡ length (times_of b).waiting)
-  as_long a b parts notes one two = grind (arith)
-
 module _ {T U G C : Type 0} (s t : ServerState T U G C) (each : (id : ClientParts) → seen id s ≡ seen id t) (notes : s.notes ≡ t.notes) where
   made_one : (id : ClientParts) → made_of id s.clients ≡ made_of id t.clients
   made_one id = grind (arith, append_cancel_left, notes_of, made_of)
@@ -156,8 +152,7 @@ module _ {T U G C : Type 0} (s t : ServerState T U G C) (each : (id : ClientPart
       × (length (times_at k (map times_of s.clients)).waiting ≡ length (times_at k (map times_of t.clients)).waiting)
   numbers_long one two k =
       let told = slot_same s t each k (stored_at k s.clients) (stored_at k t.clients) refl refl in
-      let long = as_long (stored_at k s.clients) (stored_at k t.clients) told (made_at k _ _ refl refl told) (one k) (two k) in
-      grind (arith, length, times_stored s.clients k, times_stored t.clients k)
+      grind (arith, length, times_stored s.clients k, times_stored t.clients k, told, made_at k _ _ refl refl told, one k, two k)
 
 -- ---- notes of ends, in the order of the slots
 
@@ -173,7 +168,9 @@ module _ {U : Type 0} where
     ends_one low low' [] (y ∷ b) up up' told is = absurd (omega (arith, ap length (told (id_of y) ∙ own_first y b)))
     ends_one low low' (x ∷ a) [] up up' told is = absurd (omega (arith, ap length (sym (own_first x a) ∙ told (id_of x))))
     ends_one low low' (x ∷ a) (y ∷ b) (first, up) (first', up') told is =
-        ap (λ (n : Note U). n ∷ a) same ∙ ap (λ (l : List (Note U)). y ∷ l) (ends_one (slot_of x) (slot_of y) a b up up' told_rest is_rest)
+        ap (λ (n : Note U). n ∷ a) same ∙ ap (λ (l : List (Note U)). y ∷ l) (ends_one (slot_of x) (slot_of y) a b up up'
+        (λ id. append_cancel_left (told_of id x) _ _ (told id ∙ ap (λ (n : Note U). told_of id n ++ notes_of id b) (sym same)))
+        is_rest)
       where
         x_told : notes_of (id_of x) (y ∷ b) ≡ happening_of x ∷ notes_of (id_of x) a
         x_told = sym (told (id_of x)) ∙ own_first x a
@@ -190,11 +187,8 @@ module _ {U : Type 0} where
         same : x ≡ y
         same = grind (arith, note_is, note_of, happening_of, ids, id_of, notes_of, own_first, x_told, told_of)
 
-        told_rest : (id : ClientParts) → notes_of id a ≡ notes_of id b
-        told_rest id = append_cancel_left (told_of id x) (notes_of id a) (notes_of id b) (told id ∙ ap (λ (n : Note U). told_of id n ++ notes_of id b) (sym same))
-
         is_rest : (id : ClientParts) (h : Happening U) (hs : List (Happening U)) → notes_of id b ≡ h ∷ hs → Is id
-        is_rest id h hs at = grind (arith, told_of, notes_of)
+        is_rest id h hs there = grind (arith, told_of, notes_of)
 
 -- ---- calls
 
@@ -203,10 +197,7 @@ module _ {T U G C : Type 0} where
       → AllTakeFirst (map times_of s.clients) (map times_of x.clients) → AllTakeFirst (map times_of t.clients) (map times_of y.clients)
       → (k : ℕ) → times_at k (map times_of x.clients) ≡ times_at k (map times_of y.clients)
   stay_one s t x y same each notes one two first first' k =
-      let long = numbers_long x y each notes one two k in
-      let here = first k in
-      let there = first' k in
-      grind (arith, times_at, map, times_of, ends_of_one)
+      grind (arith, times_at, map, times_of, ends_of_one, numbers_long x y each notes one two k, first k, first' k)
 
   makes_one : (s t x y : ServerState T U G C) → OrdersSame s t → ((id : ClientParts) → seen id x ≡ seen id y) → MakesNotes s x → MakesNotes t y → OrdersSame x y
   makes_one s t x y same each h g = record {

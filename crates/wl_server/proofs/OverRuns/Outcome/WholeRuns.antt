@@ -1,5 +1,5 @@
 -- That each call of a server has one outcome, where memory is not refused, and so each run of calls.
-use Rattle.std.proofs.Common.{◌≡◌, Bool, true, false, List, [], ◌∷◌, Ok, Vec, refl, sym, ap, subst, true≢false, arith}
+use Rattle.std.proofs.Common.{◌≡◌, Bool, true, false, List, [], ◌∷◌, Ok, Vec, sym, subst, true≢false, arith}
 use Rattle.std.specs.Global.{Global}
 use Rattle.std.specs.Prelude.{IsTrue}
 use Rattle.wl_server.specs.declared.notes.Note.{Note}
@@ -26,15 +26,9 @@ use Rattle.wl_server.proofs.OverRuns.Noted.NotesInOrder.{takes_of}
 use Rattle.wl_wire.specs.Table.{grown}
 
 module _ {T U G C : Type 0} where
-  -- ---- what a call counts and numbers, by its step and its answer
-
-  -- how many clients a step inserts
-  inserted_one : (s : Step T U G C) (p q : Reply T U) → SharedSame s p q → inserted_by (Asked s p) ≡ inserted_by (Asked s q)
-  inserted_one (step.InsertClient transport client_data) p q shared = ap (λ (z : Reply T U). inserted_by {G = G} (Asked (step.InsertClient transport client_data) z)) shared
-  inserted_one s p q shared = refl
-
+  -- how many clients a call inserts
   call_inserted : (call call' : Call T U G C) → SameCall call call' → SharedAnswer call call' → inserted_by call ≡ inserted_by call'
-  call_inserted call call' h1 h2 = grind (arith, inserted_one, inserted_by)
+  call_inserted call call' h1 h2 = grind (arith, inserted_by)
 
   -- ---- a call
 

@@ -9,7 +9,7 @@ use Rattle.wl_server.specs.Reading.{server}
 use Rattle.std.proofs.Common.{arith}
 use Rattle.wl_server.proofs.OverRuns.Alone.IsolationLaw.{is_isolated}
 use Rattle.wl_server.proofs.OverRuns.Alone.OwnRuns.{are_mine}
-use Rattle.wl_server.proofs.OverRuns.Cut.BufferLaws.{fresh_holds, holds_at, run_holds}
+use Rattle.wl_server.proofs.OverRuns.Cut.BufferLaws.{holds_at, run_holds}
 use Rattle.wl_server.specs.Globals.{new_offer}
 use Rattle.wl_server.specs.Runs.{just_inserted, mine, offer_over}
 use Rattle.wl_server.specs.Server.{seen}
@@ -27,5 +27,5 @@ returns g c = record {
       let w = over g.T.Transport.sends g.T.Transport.receives views in
       let (link, fresh, alone) = (is_isolated w table run after leads).each id transport client_data earlier later e split inserts in
       some_answered (server (around w id after.offer)) (grind (arith)) (reader_part p) more finishes
-      (grind (arith, holds_at, seen, run_holds, offer_over, new_offer, just_inserted, mine, are_mine, fresh_holds));
+      (grind (arith, holds_at, seen, run_holds, offer_over, new_offer, just_inserted, mine, are_mine));
 }

@@ -1,8 +1,9 @@
-use Rattle.std.proofs.Common.{arith, refl}
+use Rattle.std.proofs.Common.{◌∙◌, ap, arith, length, refl, sym}
+use Rattle.std.proofs.lemmas.List.{length-map}
 use Rattle.wl_server.proofs.CallSteps.Kept.{with_plain}
 use Rattle.wl_server.proofs.CallSteps.Numbering.{numbers_left, waiting_anew}
 use Rattle.wl_server.proofs.CleanupSteps.CleaningUp.{cleaned_up, cleanup_starved}
-use Rattle.wl_server.proofs.CleanupSteps.Taken.{none_taken, slots_cleaned}
+use Rattle.wl_server.proofs.CleanupSteps.Taken.{none_taken}
 use Rattle.wl_server.proofs.Plain.Cleanup.{cleans_up}
 use Rattle.wl_server.proofs.Touched.Gathered.{quiet_cleaned, sent_cleaned}
 use Rattle.wl_server.proofs.backend.Backend.cleanup.Goals as goal
@@ -27,14 +28,15 @@ returns-in-Err g c = with_plain (cleans_up _) (rw (← c.self.view_is)
 pub invariant_of-self : goal.invariant_of-self
 invariant_of-self g c =
     let all = c.clean_up-self-inside.ensures in
-    let same = slots_cleaned _ _ _ _ _ _ _ all.cleaned in
+    let by = all.cleaned in
+    let same = ap length by.stay ∙ (length-map by.left _ ∙ (sym (length-map by.left _) ∙ (ap length by.gathers.rest ∙ (length-map by.flushed _ ∙ by.flushes.len)))) in
     let within = c.self.invariant.0.within in (
       record { within = omega (arith, same, c.self.inside.clients.ok.0, c.clean_up-self-inside.new.clients.ok.0, within); taken = none_taken _ },
       rw all.numbers (waiting_anew _ _ all.none_waits (numbers_left _ _ _ all.first c.self.invariant.1)),
       all.numbered c.self.invariant.2,
       record {
-        sent = sent_cleaned g.T.Transport.sends _ _ _ _ _ _ _ all.cleaned c.self.invariant.3.sent;
-        quiet = quiet_cleaned g.T.Transport.sends _ _ _ _ _ _ _ all.cleaned all.none_waits (all.numbered c.self.invariant.2);
+        sent = sent_cleaned g.T.Transport.sends _ _ _ _ _ _ _ by c.self.invariant.3.sent;
+        quiet = quiet_cleaned g.T.Transport.sends _ _ _ _ _ _ _ by all.none_waits (all.numbered c.self.invariant.2);
       },
     )
 

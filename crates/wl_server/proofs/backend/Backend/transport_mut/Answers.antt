@@ -1,4 +1,4 @@
-use Rattle.std.proofs.Common.{◌≡◌, ◌∙◌, List, Option, Some, option_map, sym, ap, inl, refl, arith}
+use Rattle.std.proofs.Common.{◌≡◌, ◌∙◌, Option, Some, option_map, sym, ap, inl, refl, arith}
 use Rattle.std.proofs.Math.Path.{fun_ext}
 use Rattle.std.specs.Prelude.{slice_set}
 use Rattle.std.specs.Option.{option_map_or}
@@ -14,20 +14,18 @@ use Rattle.wl_server.proofs.CallSteps.OneClient.{changed}
 use Rattle.wl_server.proofs.CallSteps.Slots.{slot_of_client}
 use Rattle.wl_server.proofs.CleanupSteps.Taken.{slots_set}
 use Rattle.wl_server.proofs.Plain.Transport.{leaves_transport}
-use Rattle.wl_server.proofs.Touched.Moved.{moved_touched}
+use Rattle.wl_server.specs.Inside.Touched.{HasSent, IsQuiet}
+use Rattle.wl_server.proofs.Touched.Kept.{out_set}
 use Rattle.wl_server.proofs.backend.Backend.transport_mut.Goals as goal
 
 -- the transport of a stored client, if there is one
 abbrev transport_in : {T U C : Type 0} → Option (Stored T U C) → Option T
 transport_in o = option_map (λ p. p.link.transport) (option_map (λ s. s.part) o)
 
-abbrev with_clients : {T U G C : Type 0} → BackendState T U G C → List (Option (Stored T U C)) → BackendState T U G C
-with_clients b clients = record b { server = record b.server { clients = clients } }
-
 -- what is left in the transport is the server over it
 lent_over : {T U G C : Type 0} (b : BackendState T U G C) (id : ClientParts) (s : Stored T U C) (t : T) → Some s ≡ client_at id b.server.clients
-    → with_clients b (slice_set b.server.clients id.slot (Some (over_transport s t))) ≡ state_over b id t
-lent_over {T} {U} {G} {C} b id s t is = grind (arith, with_clients, slice_set, option_map, over_transport, option_map_or, slot_of_client)
+    → record b { server = record b.server { clients = slice_set b.server.clients id.slot (Some (over_transport s t)) } } ≡ state_over b id t
+lent_over b id s t is = grind (arith, slice_set, option_map, over_transport, option_map_or, slot_of_client)
 
 lent_step : {T U G C : Type 0} (w : World T G C) (before : ServerState T U G C) (id : ClientParts) (s : Stored T U C) (t : T) → Some s ≡ client_at id before.clients
     → AllNumbered before.clients → IsChange w before id t (server_over before id t)
@@ -43,9 +41,7 @@ returns g c = (
   ap (λ f. inl (c.transport_mut.result.ghost_name, f)) (fun_ext (λ w. rw (← c.self.view_is) (lent_over _ c.args.id.now c.in-Some.client.now w c.in-Some.ensures.value))),
   record {
     call = λ t. rw (← c.self.view_is) (lent_step _ _ c.args.id.now c.in-Some.client.now t c.in-Some.ensures.value c.self.invariant.2);
-    plain = λ t.
-        rw (← c.self.view_is)
-        (leaves_transport (over g.T.Transport.sends g.T.Transport.receives g.G.GlobalHandler.views) _ c.args.id.now t
+    plain = λ t. rw (← c.self.view_is) (leaves_transport (over g.T.Transport.sends g.T.Transport.receives g.G.GlobalHandler.views) _ c.args.id.now t
         (lent_step _ _ c.args.id.now c.in-Some.client.now t c.in-Some.ensures.value c.self.invariant.2)
         c.in-Some.client.now c.in-Some.ensures.value);
     lends = tt;
@@ -54,4 +50,13 @@ returns g c = (
 )
 
 pub invariant_of-self-lent : goal.invariant_of-self-lent
-invariant_of-self-lent g c = λ w. (slots_set _ _ _ _ _ c.self.invariant.0, numbers_stay _ _ _ _ _ c.in-Some.ensures.value refl c.self.invariant.1, numbered_at _ _ _ _ c.in-Some.ensures.value (λ is. is) c.self.invariant.2, moved_touched _ _ c.args.id.now c.in-Some.client.now w c.in-Some.ensures.value c.self.invariant.3)
+invariant_of-self-lent g c = λ w.
+    let here = (slot_of_client c.self.inside.clients.items c.args.id.now c.in-Some.client.now c.in-Some.ensures.value).0 in (
+      slots_set _ _ _ _ _ c.self.invariant.0,
+      numbers_stay _ _ _ _ _ c.in-Some.ensures.value refl c.self.invariant.1,
+      numbered_at _ _ _ _ c.in-Some.ensures.value (λ is. is) c.self.invariant.2,
+      record {
+        sent = out_set HasSent _ _ _ _ _ here (λ sent. sent) c.self.invariant.3.sent;
+        quiet = out_set IsQuiet _ _ _ _ _ here (λ calm. record { live = calm.live; made = calm.made; waiting = calm.waiting; times = calm.times }) c.self.invariant.3.quiet;
+      },
+    )

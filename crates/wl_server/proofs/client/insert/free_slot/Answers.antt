@@ -1,8 +1,8 @@
-use Rattle.std.proofs.Common.{◌∙◌, arith, refl}
+use Rattle.std.proofs.Common.{arith, refl, true≢false}
 use Rattle.std.proofs.lemmas.Grind.{common_steps}
 use Rattle.std.proofs.lemmas.Option.{slice_get_read}
 use Rattle.wl_server.proofs.CallSteps.Slots.{stored_is, stored_past}
-use Rattle.wl_server.proofs.ObjectCalls.Inserting.{none_of, slot_of}
+use Rattle.wl_server.proofs.ObjectCalls.Inserting.{slot_of}
 use Rattle.wl_server.proofs.CleanupSteps.Taken.{one_more_taken, taken_less}
 use Rattle.wl_server.proofs.client.insert.free_slot.Goals as goal
 
@@ -13,7 +13,7 @@ pub returns-then-is_none : goal.returns-then-is_none
 returns-then-is_none g c =
     let here = slice_get_read c.args.clients.now _ c.loop-slot.slot c.index-clients-slot.result refl c.loop-slot-test.true c.index-clients-slot.is in
     slot_of c.args.clients.now c.loop-slot.slot c.try_from.result c.ok.result
-    (stored_is c.args.clients.now c.loop-slot.slot c.index-clients-slot.result here ∙ none_of c.index-clients-slot.result c.if-is_none.ensures)
+    (grind (arith, stored_is, here, true≢false))
     c.loop-slot.invariant.taken c.try_from.ensures c.ok.ensures.value
 
 pub returns : goal.returns

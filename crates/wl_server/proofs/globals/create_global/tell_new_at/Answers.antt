@@ -3,7 +3,7 @@ use Rattle.wl_server.specs.Globals.{Shown}
 use Rattle.wl_server.specs.Inside.News.{HearsNew}
 use Rattle.wl_server.specs.Server.{Stored, no_times}
 use Rattle.wl_server.proofs.CallSteps.Feeling.{place_felt}
-use Rattle.wl_server.proofs.Readings.Hearing.{killed_hears, seen_hears, unseen_hears}
+use Rattle.wl_server.proofs.Readings.Notes.{killed_hears, seen_hears, unseen_hears}
 use Rattle.wl_server.proofs.globals.create_global.tell_new_at.Goals as goal
 
 pub returns-then-not-can_view-clause-felt : goal.returns-then-not-can_view-clause-felt

@@ -1,8 +1,7 @@
-use Rattle.std.proofs.Common.{◌∙◌, [], arith, drop, sym, append-nil, refl, ap, length, map}
+use Rattle.std.proofs.Common.{◌∙◌, [], arith, sym, append-nil, refl, ap, length, map}
 use Rattle.std.proofs.lemmas.Option.{slice_get_read}
-use Rattle.std.proofs.lemmas.Grind.{common_steps}
 use Rattle.wl_server.proofs.CallSteps.Numbering.{each_stays, take_set, takes_both, takes_none, times_stored}
-use Rattle.wl_server.proofs.CleanupSteps.Gathering.{gathers_at, gathers_more, gathers_none, count_at}
+use Rattle.wl_server.proofs.CleanupSteps.Gathering.{gathers_at, count_at}
 use Rattle.wl_server.proofs.CleanupSteps.Ordering.{along_more, none_numbered, place_left, place_some, place_within, places_among, places_moved}
 use Rattle.wl_server.proofs.notes.gather.gather.Goals as goal
 use Rattle.std.proofs.lemmas.List.{drop_all}
@@ -12,37 +11,34 @@ use Rattle.wl_server.specs.Server.{NoteTimes, note_of}
 
 pub index_mut-requires : goal.index_mut-requires
 index_mut-requires g c =
-    let within = place_within c.args.waits c.loop-place.clients.items c.args.order.now c.loop-place.place-index c.slot-slot.result _ c.loop-place-test.true c.slot-slot.ensures c.loop-place.invariant.left in
+    let within = place_within c.args.waits _ _ _ _ _ c.loop-place-test.true c.slot-slot.ensures c.loop-place.invariant.left in
     omega (arith, within, c.loop-place.clients.ok.0)
 
 pub move_note-requires-clause-some : goal.move_note-requires-clause-some
 move_note-requires-clause-some g c =
-    let within = place_within c.args.waits c.loop-place.clients.items c.args.order.now c.loop-place.place-index c.slot-slot.result _ c.loop-place-test.true c.slot-slot.ensures c.loop-place.invariant.left in
+    let within = place_within c.args.waits _ _ _ _ _ c.loop-place-test.true c.slot-slot.ensures c.loop-place.invariant.left in
     let here = slice_get_read c.loop-place.clients.items _ _ c.index_mut.result.now c.loop-place.clients.ok.0 (omega (arith, within, c.loop-place.clients.ok.0)) c.index_mut.ensures.value in
-    place_some c.args.waits c.loop-place.clients.items c.args.order.now c.loop-place.place-index c.slot-slot.result _ c.index_mut.result.now c.loop-place-test.true c.slot-slot.ensures here
-    c.loop-place.invariant.left
+    place_some c.args.waits _ _ _ _ _ _ c.loop-place-test.true c.slot-slot.ensures here c.loop-place.invariant.left
 
 pub move_note-requires-clause-room : goal.move_note-requires-clause-room
 move_note-requires-clause-room g c =
-    let within = place_within c.args.waits c.loop-place.clients.items c.args.order.now c.loop-place.place-index c.slot-slot.result _ c.loop-place-test.true c.slot-slot.ensures c.loop-place.invariant.left in
+    let within = place_within c.args.waits _ _ _ _ _ c.loop-place-test.true c.slot-slot.ensures c.loop-place.invariant.left in
     let here = slice_get_read c.loop-place.clients.items _ _ c.index_mut.result.now c.loop-place.clients.ok.0 (omega (arith, within, c.loop-place.clients.ok.0)) c.index_mut.ensures.value in
-    let some = place_some c.args.waits c.loop-place.clients.items c.args.order.now c.loop-place.place-index c.slot-slot.result _ c.index_mut.result.now c.loop-place-test.true c.slot-slot.ensures here
-    c.loop-place.invariant.left in
+    let some = place_some c.args.waits _ _ _ _ _ _ c.loop-place-test.true c.slot-slot.ensures here c.loop-place.invariant.left in
     grind (arith, some, count_at, c.args.waits, c.loop-place.invariant.gathered, c.args.notes.now.ok.0, c.loop-place.notes.ok.0, c.requires.room, c.loop-place.invariant.capacity)
 
 pub loop-place-preserved : goal.loop-place-preserved
 loop-place-preserved g c =
-    let within = place_within c.args.waits c.loop-place.clients.items c.args.order.now c.loop-place.place-index c.slot-slot.result _ c.loop-place-test.true c.slot-slot.ensures c.loop-place.invariant.left in
+    let within = place_within c.args.waits _ _ _ _ _ c.loop-place-test.true c.slot-slot.ensures c.loop-place.invariant.left in
     let here = slice_get_read c.loop-place.clients.items _ _ c.index_mut.result.now c.loop-place.clients.ok.0 (omega (arith, within, c.loop-place.clients.ok.0)) c.index_mut.ensures.value in
     record {
-      gathered = gathers_more c.args.waits _ _ _ _ _ _ c.loop-place.invariant.gathered
-          (gathers_at c.args.waits c.loop-place.clients.items c.loop-place.notes.items c.move_note.new.notes.items c.slot-slot.result _ c.move_note.new.client here c.move_note.ensures.moved);
-      left = place_left c.args.waits c.loop-place.clients.items c.loop-place.notes.items c.move_note.new.notes.items c.args.order.now c.loop-place.place-index c.slot-slot.result _
-          c.index_mut.result.now c.move_note.new.client c.loop-place-test.true c.slot-slot.ensures here c.move_note.ensures.moved c.loop-place.invariant.left;
-      along = along_more _ _ _ c.args.order.now c.loop-place.place-index c.slot-slot.result _ c.loop-place-test.true c.slot-slot.ensures c.loop-place.invariant.along
+      gathered =
+          let more = gathers_at c.args.waits c.loop-place.clients.items c.loop-place.notes.items c.move_note.new.notes.items c.slot-slot.result _ c.move_note.new.client here c.move_note.ensures.moved in
+          grind (arith, c.loop-place.invariant.gathered, more);
+      left = place_left _ _ _ _ _ _ _ _ _ _ c.loop-place-test.true c.slot-slot.ensures here c.move_note.ensures.moved c.loop-place.invariant.left;
+      along = along_more _ _ _ _ _ _ _ c.loop-place-test.true c.slot-slot.ensures c.loop-place.invariant.along
           (grind (arith, to_gather, note_of, c.args.waits, c.loop-place.notes.items, c.move_note.new.notes.items, c.slot-slot.result, c.move_note.ensures.moved));
-      first = λ k. takes_both (times_at k _) (times_at k _) (times_at k _) (c.loop-place.invariant.first k)
-          ((take_set _ _ _ _ here c.move_note.ensures.first) k);
+      first = λ k. takes_both (times_at k _) (times_at k _) (times_at k _) (c.loop-place.invariant.first k) (take_set _ _ _ _ here c.move_note.ensures.first k);
       numbered = each_stays (AreNumbered c.args.waits) c.loop-place.clients.items _ _ _ here (λ was. c.move_note.ensures.numbered) c.loop-place.invariant.numbered;
       all_numbered = λ all. each_stays IsNumbered _ _ _ _ here c.move_note.ensures.all_numbered (c.loop-place.invariant.all_numbered all);
       capacity = c.move_note.ensures.capacity ∙ c.loop-place.invariant.capacity;
@@ -50,7 +46,7 @@ loop-place-preserved g c =
 
 pub loop-place-init : goal.loop-place-init
 loop-place-init g c = record {
-  gathered = gathers_none _ _ _;
+  gathered = record { rest = refl; told = λ id. refl; count = refl };
   left = c.requires.order.each;
   along = ([], sym (append-nil _), refl);
   first = λ k. takes_none (times_at k _);
@@ -62,9 +58,5 @@ loop-place-init g c = record {
 }
 
 pub returns-clause-no_numbers : goal.returns-clause-no_numbers
-returns-clause-no_numbers g c =
-    none_numbered c.args.waits c.loop-place.clients.items (drop c.loop-place.place-index c.args.order.now)
+returns-clause-no_numbers g c = none_numbered _ _ _
     (drop_all c.loop-place.place-index c.args.order.now (omega (arith, c.loop-place-test.false))) c.loop-place.invariant.left c.loop-place.invariant.numbered
-
-pub returns-clause-ended : goal.returns-clause-ended
-returns-clause-ended g c = grind (arith, common_steps)

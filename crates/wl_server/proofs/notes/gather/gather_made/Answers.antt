@@ -9,9 +9,6 @@ use Rattle.wl_server.proofs.CleanupSteps.Asking.{none_leaving, none_of, on_err, 
 use Rattle.wl_server.proofs.CleanupSteps.Ordering.{none_order}
 use Rattle.wl_server.proofs.notes.gather.gather_made.Goals as goal
 
-pub count_notes-count-requires : goal.count_notes-count-requires
-count_notes-count-requires g c = grind (arith, common_steps)
-
 pub order_of-requires-clause-quiet : goal.order_of-requires-clause-quiet
 order_of-requires-clause-quiet g c = rw c.deref-2.ensures.value (rw c.deref.ensures.value at c.count_notes-count.ensures.quiet)
 
@@ -29,9 +26,6 @@ returns-then-count-eq0-clause-in_order g c =
 
 pub returns-then-count-eq0-clause-first : goal.returns-then-count-eq0-clause-first
 returns-then-count-eq0-clause-first g c = λ k. takes_none (times_at k _)
-
-pub returns-then-count-eq0-clause-quiet : goal.returns-then-count-eq0-clause-quiet
-returns-then-count-eq0-clause-quiet g c = grind (arith, common_steps)
 
 pub returns-in_err-order : goal.returns-in_err-order
 returns-in_err-order g c = record {

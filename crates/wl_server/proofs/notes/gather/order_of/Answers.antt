@@ -9,9 +9,9 @@ pub loop-slot-init : goal.loop-slot-init
 loop-slot-init g c =
     let next = c.next_from-slot.ensures in
     record {
-      placed = pass_placed c.args.to_note.now.words.items c.args.clients.now 0 c.next_from-slot.result next.from next.within next.skipped c.requires.quiet c.args.waits c.in_ok-order.order.items
+      placed = pass_placed _ _ 0 _ next.from next.within next.skipped c.requires.quiet c.args.waits _
           (record { below = λ k below. absurd (omega (arith, below)); past = λ k past. ap (places_at k) c.in_ok-order.ensures.items });
-      numbers = pass_numbers c.args.to_note.now.words.items c.args.clients.now 0 c.next_from-slot.result next.from next.within next.skipped c.requires.quiet c.args.waits c.in_ok-order.order.items
+      numbers = pass_numbers _ _ 0 _ next.from next.within next.skipped c.requires.quiet c.args.waits _
           (ap (λ l. l ++ all_places c.args.waits 0 (map times_of c.args.clients.now)) c.in_ok-order.ensures.items);
       within = next.within;
       ends = refl;
@@ -22,14 +22,10 @@ loop-slot-preserved g c =
     let next = c.next_from-slot-in-loop-slot.ensures in
     let here = slice_get_read c.args.clients.now _ c.loop-slot.slot c.index-clients-slot.result refl c.loop-slot-test.true c.index-clients-slot.is in
     record {
-      placed = pass_placed c.args.to_note.now.words.items c.args.clients.now _ c.next_from-slot-in-loop-slot.result next.from next.within next.skipped c.requires.quiet c.args.waits
-          c.put_places_at.new.order.items
-          (placed_more c.args.waits c.args.clients.now c.loop-slot.slot c.index-clients-slot.result c.loop-slot.order.items c.put_places_at.new.order.items here
-          c.loop-slot.invariant.placed c.in_ok-put_places_at.ensures.counted);
-      numbers = pass_numbers c.args.to_note.now.words.items c.args.clients.now _ c.next_from-slot-in-loop-slot.result next.from next.within next.skipped c.requires.quiet c.args.waits
-          c.put_places_at.new.order.items
-          (placed_so_far c.args.waits c.args.clients.now c.loop-slot.slot c.index-clients-slot.result c.loop-slot.order.items c.put_places_at.new.order.items here
-          c.loop-slot.invariant.numbers c.in_ok-put_places_at.ensures.placed);
+      placed = pass_placed _ _ _ _ next.from next.within next.skipped c.requires.quiet c.args.waits _
+          (placed_more _ _ _ _ _ _ here c.loop-slot.invariant.placed c.in_ok-put_places_at.ensures.counted);
+      numbers = pass_numbers _ _ _ _ next.from next.within next.skipped c.requires.quiet c.args.waits _
+          (placed_so_far _ _ _ _ _ _ here c.loop-slot.invariant.numbers c.in_ok-put_places_at.ensures.placed);
       within = next.within;
       ends = refl;
     }
@@ -37,8 +33,6 @@ loop-slot-preserved g c =
 pub returns : goal.returns
 returns g c = record {
   rise = c.put_in_order.ensures.rise;
-  each = λ k. places_moved k c.loop-slot.order.items c.put_in_order.new.order.items c.put_in_order.ensures.moved
-      ∙ placed_all c.args.waits c.args.clients.now c.loop-slot.slot c.loop-slot.order.items (omega (arith, c.loop-slot-test.false)) c.loop-slot.invariant.placed k;
-  numbers = placed_whole c.args.waits c.args.clients.now c.loop-slot.slot c.loop-slot.order.items c.put_in_order.new.order.items (omega (arith, c.loop-slot-test.false)) c.loop-slot.invariant.numbers
-      c.put_in_order.ensures.moved;
+  each = λ k. places_moved k _ _ c.put_in_order.ensures.moved ∙ placed_all _ _ c.loop-slot.slot _ (omega (arith, c.loop-slot-test.false)) c.loop-slot.invariant.placed k;
+  numbers = placed_whole _ _ c.loop-slot.slot _ _ (omega (arith, c.loop-slot-test.false)) c.loop-slot.invariant.numbers c.put_in_order.ensures.moved;
 }

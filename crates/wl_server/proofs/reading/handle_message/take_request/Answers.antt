@@ -1,7 +1,7 @@
-use Rattle.std.proofs.Common.{arith, ap, length, subst}
+use Rattle.std.proofs.Common.{arith, ap, length}
 use Rattle.std.proofs.lemmas.Grind.{common_steps}
 use Rattle.wl_wire.specs.Message.{content}
-use Rattle.wl_wire.specs.Parse.{IsThere, opcode_of, sender_of}
+use Rattle.wl_wire.specs.Parse.{opcode_of, sender_of}
 use Rattle.wl_wire.specs.Table.{message_row}
 use Rattle.wl_link.specs.Store.{held}
 use Rattle.wl_link.proofs.Calls.TakenLaws.{as_many, read_there}
@@ -12,20 +12,18 @@ use Rattle.wl_server.proofs.reading.handle_message.take_request.Goals as goal
 -- what was read was there whole
 pub request-requires-clause-room : goal.request-requires-clause-room
 request-requires-clause-room g c =
-    let many = as_many _ _ (content c.read_with_signature.new.message) _ c.in_ok-read_with_signature.ensures.read in
-    let there = read_there _ _ (content c.read_with_signature.new.message) _ c.in_ok-read_with_signature.ensures.read in
-    let room = c.in-Ok.ensures.room (subst (λ s. IsThere c.args.socket.now.incoming.bytes s c.args.socket.now.incoming.tokens) c.as_slice-signature.ensures.value there) in
-    omega (arith, many, room, ap length c.make_room.ensures.empty, ap length c.as_slice-signature.ensures.value)
+    let read = rw c.as_slice-signature.ensures.value at c.in_ok-read_with_signature.ensures.read in
+    omega (arith, as_many _ _ (content c.read_with_signature.new.message) _ read, c.in-Ok.ensures.room (read_there _ _ (content c.read_with_signature.new.message) _ read), ap length c.make_room.ensures.empty)
 
 pub request-requires-clause-can_make : goal.request-requires-clause-can_make
 request-requires-clause-can_make g c =
-    let there = read_there _ _ (content c.read_with_signature.new.message) _ c.in_ok-read_with_signature.ensures.read in
-    c.in-Ok.ensures.can_make (subst (λ s. IsThere c.args.socket.now.incoming.bytes s c.args.socket.now.incoming.tokens) c.as_slice-signature.ensures.value there)
+    c.in-Ok.ensures.can_make
+    (read_there _ _ (content c.read_with_signature.new.message) _ (rw c.as_slice-signature.ensures.value at c.in_ok-read_with_signature.ensures.read))
 
 pub request-requires-clause-can_register : goal.request-requires-clause-can_register
 request-requires-clause-can_register g c =
-    let there = read_there _ _ (content c.read_with_signature.new.message) _ c.in_ok-read_with_signature.ensures.read in
-    c.in-Ok.ensures.can_register (subst (λ s. IsThere c.args.socket.now.incoming.bytes s c.args.socket.now.incoming.tokens) c.as_slice-signature.ensures.value there)
+    c.in-Ok.ensures.can_register
+    (read_there _ _ (content c.read_with_signature.new.message) _ (rw c.as_slice-signature.ensures.value at c.in_ok-read_with_signature.ensures.read))
 
 -- the table is an accepted one
 pub request-requires-clause-name : goal.request-requires-clause-name
