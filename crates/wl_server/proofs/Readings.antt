@@ -5,5 +5,4 @@ pub mod Finishing
 pub mod Handling
 pub mod Requesting
 pub mod OneMessage
-pub mod Syncing
 pub mod Words

@@ -52,9 +52,11 @@ module _ {T U C : Type 0} where
       at false other =
           grind (arith, s.part.is_killed, notes_other (id_in id.slot s) id (ends_of (id_in id.slot s) (entries s.part.store.objects)) (same_serials (id_in id.slot s) id refl other))
 
-  pub ends_for : (id : ClientParts) (clients : List (Option (Stored T U C))) → notes_of id (collected ends_at 0 clients) ≡ ends_in id (client_at id clients)
+  pub ends_for : (id : ClientParts) (clients : List (Option (Stored T U C))) → notes_of id (collected ends_at 0 clients) ≡ ends_in id
+      (client_at id clients)
   ends_for id clients =
-      collected_at (notes_of id) ends_at id.slot refl (notes_append id) (other_ends id) 0 id.slot clients (omega arith) ∙ (grind (arith, own_ends, slice_get clients id.slot))
+      collected_at (notes_of id) ends_at id.slot refl (notes_append id) (other_ends id) 0 id.slot clients (omega arith)
+      ∙ (grind (arith, own_ends, slice_get clients id.slot))
 
   -- ---- transports
 
@@ -78,10 +80,12 @@ module _ {T U C : Type 0} where
   given_from m n [] le = λ k d below. absurd (omega (arith, below))
   given_from m n (x ∷ clients) le = grind (arith, All-append, given_at, collected, id_in, x, given_from m (n + 1) clients)
 
-  rises_more : (n : ℕ) (x : Option (Stored T U C)) (rest : List (ClientParts × T)) → All (λ d. n < d.0.slot) rest → Rises rest → Rises (given_at n x ++ rest)
+  rises_more : (n : ℕ) (x : Option (Stored T U C)) (rest : List (ClientParts × T)) → All (λ d. n < d.0.slot) rest → Rises rest → Rises
+      (given_at n x ++ rest)
   rises_more n x rest from rises = grind (arith, AllPairs-cons, id_in, x)
 
   -- the clients that leave stand by slot
   pub given_rises : (n : ℕ) (clients : List (Option (Stored T U C))) → Rises (collected given_at n clients)
   given_rises n [] = λ i j d less below. absurd (omega (arith, below))
-  given_rises n (x ∷ clients) = rises_more n x (collected given_at (n + 1) clients) (given_from (suc n) (n + 1) clients (omega arith)) (given_rises (n + 1) clients)
+  given_rises n (x ∷ clients) = rises_more n x (collected given_at (n + 1) clients) (given_from (suc n) (n + 1) clients (omega arith))
+      (given_rises (n + 1) clients)

@@ -21,6 +21,8 @@ module _ {T U C : Type 0} where
       → Does s R (record { serial = s.serial; part = q; made = s.made; times = no_times })
   does_quietly s R q does = ([], q, does, grind (arith, append-nil))
 
-  pub live_flushed : (sends : T → Queue → Result ℕ IoFault → T → Type 0) (s s' : Stored T U C) (answer : Result (Unit {0}) IoFault) (lacked : Bool) → s.part.is_killed ≡ false
-      → lacked ≡ lacks_memory answer → Does s (λ p did q. FlushedTo sends p answer (lacks_memory answer) did q) s' → Does s (λ p did q. FlushesLive sends p lacked did q) s'
+  pub live_flushed : (sends : T → Queue → Result ℕ IoFault → T → Type 0) (s s' : Stored T U C) (answer : Result (Unit {0}) IoFault) (lacked : Bool)
+      → s.part.is_killed ≡ false
+      → lacked ≡ lacks_memory answer → Does s (λ p did q. FlushedTo sends p answer (lacks_memory answer) did q) s'
+      → Does s (λ p did q. FlushesLive sends p lacked did q) s'
   live_flushed sends s s' answer lacked live is (did, q, flushed, made) = rw is (did, q, at_false _ s.part.is_killed live (answer, flushed), made)

@@ -1,5 +1,5 @@
 -- A step that each client feels by itself, one slot after another.
-use Rattle.std.proofs.Common.{◌≡◌, ◌∙◌, ℕ, ◌+◌, Bool, true, false, ◌||◌, List, [], length, map, Option, None, Some, is_some, refl, ap, subst, arith, true≢false, ◌<◌}
+use Rattle.std.proofs.Common.{◌≡◌, ◌∙◌, ℕ, ◌+◌, Bool, true, false, ◌||◌, List, [], length, map, Option, None, Some, is_some, refl, ap, arith, true≢false, ◌<◌}
 use Rattle.std.specs.Option.{option_map_or}
 use Rattle.std.specs.Prelude.{◌==◌, if◌then◌else◌, slice_get, slice_set}
 use Rattle.std.proofs.lemmas.Bool.{eqb-true, false≢true, cases_lt}
@@ -27,18 +27,23 @@ use Rattle.wl_server.proofs.CallSteps.Numbering.{all_same}
 -- ---- a step from its parts
 
 module _ {T U G C : Type 0} (w : World T G C) (before : ServerState T U G C) (call : Call T U G C) (refused : Bool) where
-  pub step_by : (lacks : ClientParts → Bool) (did : ClientParts → List (Deed U)) (after : ServerState T U G C) → after.offer ≡ offer_after before.offer call
-      → after.last_client ≡ before.last_client + inserted_by call → NumbersClient before call → AnswersShared before.offer call → RisesBySlot call → AsksForRoom before call
+  pub step_by : (lacks : ClientParts → Bool) (did : ClientParts → List (Deed U)) (after : ServerState T U G C)
+      → after.offer ≡ offer_after before.offer call
+      → after.last_client ≡ before.last_client + inserted_by call → NumbersClient before call → AnswersShared before.offer call → RisesBySlot call
+      → AsksForRoom before call
       → IsRefused (record { call = call; refused = refused; lacks = lacks; did = did }) → NotesGoOn before call after
-      → ((id : ClientParts) → PartCall w id before.offer call (seen id before) (lacks id) (did id) (seen id after)) → Makes w before call refused after
+      → ((id : ClientParts) → PartCall w id before.offer call (seen id before) (lacks id) (did id) (seen id after))
+      → Makes w before call refused after
   step_by lacks did after offer last client global order room is notes each = (record { call = call; refused = refused; lacks = lacks; did = did }, refl, refl, grind (arith))
 
   -- memory was refused to no client
   pub step_of : (did : ClientParts → List (Deed U)) (after : ServerState T U G C) → after.offer ≡ offer_after before.offer call
-      → after.last_client ≡ before.last_client + inserted_by call → NumbersClient before call → AnswersShared before.offer call → RisesBySlot call → AsksForRoom before call
+      → after.last_client ≡ before.last_client + inserted_by call → NumbersClient before call → AnswersShared before.offer call → RisesBySlot call
+      → AsksForRoom before call
       → lacks_growth call ≡ refused → NotesGoOn before call after
       → ((id : ClientParts) → PartCall w id before.offer call (seen id before) false (did id) (seen id after)) → Makes w before call refused after
-  step_of did after offer last client global order room growth = step_by (λ id. false) did after offer last client global order room (grind (arith, false≢true))
+  step_of did after offer last client global order room growth = step_by (λ id. false) did after offer last client global order room
+      (grind (arith, false≢true))
 
 module _ {T U C : Type 0} (R : Kind T U C) where
   -- ---- the loop over the slots
@@ -46,12 +51,11 @@ module _ {T U C : Type 0} (R : Kind T U C) where
   -- the client of a slot felt it by its id
   pub place_felt : (slot serial : ℕ) (id : ClientParts) (s s' : Stored T U C) (place : Option (Stored T U C)) (lacked : Bool) → place ≡ Some s
       → id ≡ record { slot = slot; serial = serial } → serial ≡ s.serial → Does s (λ p did q. R id p lacked did q) s' → PlaceFeels R slot place lacked (Some s')
-  place_felt slot serial id s s' place lacked is known same does =
-      let named : id ≡ record { slot = slot; serial = s.serial } = known ∙ ap (λ (n : ℕ). let i : ClientParts = record { slot = slot; serial = n } in i) same in
-      rw is (s', subst (λ (i : ClientParts). Does s (λ p did q. R i p lacked did q) s') named does, refl)
+  place_felt slot serial id s s' place lacked is known same does = rw is (s', (rw (known, same) at does), refl)
 
   -- the clients of these slots are as they were after it
-  pub none_feels : (n : ℕ) (start : List (Option (Stored T U C))) → ((k : ℕ) (x : Option (Stored T U C)) → k < n → slice_get start k ≡ Some x → PlaceFeels R k x false x)
+  pub none_feels : (n : ℕ) (start : List (Option (Stored T U C)))
+      → ((k : ℕ) (x : Option (Stored T U C)) → k < n → slice_get start k ≡ Some x → PlaceFeels R k x false x)
       → AllFeel R false n start start
   none_feels n start each = record {
     lacks = λ k. false;
@@ -149,7 +153,8 @@ module _ {T U G C : Type 0} (w : World T G C) (before : ServerState T U G C) (ca
       → ((id : ClientParts) (b : Seen T U C) → PartCall w id before.offer call b false [] b) → AllNumbered before.clients
       → Makes w before call refused (record before { offer = offer })
   makes_unfelt refused offer becomes numbers growth to all =
-      step_of w before call refused (λ id. []) (record before { offer = offer }) becomes (grind (arith, felt.last)) (felt.client before) numbers felt.order (felt.room before) growth
+      step_of w before call refused (λ id. []) (record before { offer = offer }) becomes (grind (arith, felt.last))
+      (felt.client before) numbers felt.order (felt.room before) growth
       (felt.notes before _ (record { gathered = refl; times = all_same _ _ _ refl; numbered = all })) (λ id. to id (seen id before))
 
 module _ {T U G C : Type 0} (w : World T G C) (before : ServerState T U G C) (s : Step T U G C) (answer : Reply T U) (felt : IsFelt (Asked s answer)) where

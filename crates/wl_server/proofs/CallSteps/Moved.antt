@@ -15,6 +15,8 @@ module _ {U C : Type 0} (m : Move) (answer : Moved) where
   abbrev pub moves : Kind Script U C
   moves id p lacked did q = (lacked ≡ lacks_move answer) × (did ≡ []) × WithTransport (λ t t'. ScriptMoves t m answer t') p q
 
-  pub moved : (id : ClientParts) (s : Stored Script U C) (lacked : Bool) (t : Script) → lacked ≡ lacks_move answer → ScriptMoves s.part.link.transport m answer t
+  pub moved : (id : ClientParts) (s : Stored Script U C) (lacked : Bool) (t : Script) → lacked ≡ lacks_move answer
+      → ScriptMoves s.part.link.transport m answer t
       → Does s (λ p did q. moves id p lacked did q) (record s { part = with_link s.part (with_transport s.part.link t) })
-  moved id s lacked t lacks is = does_quietly s (λ p did q. moves id p lacked did q) (with_link s.part (with_transport s.part.link t)) (lacks, refl, (t, is, refl))
+  moved id s lacked t lacks is =
+      does_quietly s (λ p did q. moves id p lacked did q) (with_link s.part (with_transport s.part.link t)) (lacks, refl, (t, is, refl))

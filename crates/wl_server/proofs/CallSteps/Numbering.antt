@@ -114,7 +114,8 @@ module _ {T U C : Type 0} where
 module _ (of : NoteTimes → List ℕ) where
   -- one client got numbers, and the others have theirs
   changed : (ts ts' : List NoteTimes) (i next next' : ℕ) → ((k : ℕ) → k ≢ i → times_at k ts' ≡ times_at k ts)
-      → GivesNumbers (of (times_at i ts)) next (of (times_at i ts')) next' → (next < last_number → AreInTime of next ts) → next' < last_number → AreInTime of next' ts'
+      → GivesNumbers (of (times_at i ts)) next (of (times_at i ts')) next' → (next < last_number → AreInTime of next ts) → next' < last_number
+      → AreInTime of next' ts'
   changed ts ts' i next next' others given has below = record {
     rise = λ k. (grind (arith, times_at, rise_append, other_of, rise_higher, rise_up, next, more, k == i));
     apart = λ j k n a b. (grind (arith, is.apart j k n, old_or_new j n (j == i) refl a, old_or_new k n (k == i) refl b));
@@ -130,7 +131,8 @@ module _ (of : NoteTimes → List ℕ) where
       is = has (let up = rise_up next gives.more next' more in omega (arith, up, below))
 
       -- a number that is there was there, or is new
-      old_or_new : (k n : ℕ) (b : Bool) → (k == i) ≡ b → Contains (of (times_at k ts')) n → (Contains (of (times_at k ts)) n × (n < next)) ⊎ ((k ≡ i) × (next ≤ n))
+      old_or_new : (k n : ℕ) (b : Bool) → (k == i) ≡ b → Contains (of (times_at k ts')) n
+          → (Contains (of (times_at k ts)) n × (n < next)) ⊎ ((k ≡ i) × (next ≤ n))
       old_or_new k n true same has =
           let at = eqb-true k i same in
           elim (Contains-append_cases (of (times_at i ts)) gives.more n (rw (at, gives.behind) at has)) [
@@ -138,7 +140,8 @@ module _ (of : NoteTimes → List ℕ) where
             | inr new ↦ inr (at, (among next gives.more next' n more new).0)
           ]
       old_or_new k n false other has =
-          let old : Contains (of (times_at k ts)) n = rw (others k (other_of k i other)) at has in inl (old, (among 0 (of (times_at k ts)) next n (is.rise k) old).1)
+          let old : Contains (of (times_at k ts)) n = rw (others k (other_of k i other)) at has in inl
+          (old, (among 0 (of (times_at k ts)) next n (is.rise k) old).1)
 
   -- the first numbers of clients are gone
   fewer : (ts ts' : List NoteTimes) (next : ℕ) → ((k : ℕ) → (gone : List ℕ) × (of (times_at k ts) ≡ gone ++ of (times_at k ts'))) → AreInTime of next ts → AreInTime of next ts'
@@ -166,7 +169,9 @@ module _ (of : NoteTimes → List ℕ) where
 
   turn_up : (n : ℕ) (ts : List NoteTimes) (next : ℕ) (ts' : List NoteTimes) (next' : ℕ) → InTurn of n ts next ts' next' → next' < last_number → next ≤ next'
   turn_up zero ts next ts' next' is below = omega (arith, is)
-  turn_up (suc n) ts next ts' next' (mid, turn, gives) below = grind (arith, rise_up, within (of (times_at n ts)) mid (of (times_at n ts')) next' gives, turn_up n ts next ts' mid turn)
+  turn_up (suc n) ts next ts' next' (mid, turn, gives) below =
+      let more = within (of (times_at n ts)) mid (of (times_at n ts')) next' gives in
+      grind (arith, rise_up, more, turn_up n ts next ts' mid turn)
 
   -- the notes of a client, whether or not others got numbers meanwhile
   pub each_turn : (n k : ℕ) (ts : List NoteTimes) (next : ℕ) (ts' : List NoteTimes) (next' : ℕ) → InTurn of n ts next ts' next'
@@ -179,7 +184,8 @@ module _ (of : NoteTimes → List ℕ) where
 
       at : ((n ≤ k → times_at k ts' ≡ times_at k ts) → GivesWithin (of (times_at k ts)) next (of (times_at k ts')) mid) → (b : Bool) → (k == n) ≡ b
           → GivesWithin (of (times_at k ts)) next (of (times_at k ts')) next'
-      at earlier true same = rw (eqb-true k n same) (within_both _ _ _ next mid next' (within_none (of (times_at n ts)) next mid (turn_up n ts next ts' mid turn)) more)
+      at earlier true same = rw (eqb-true k n same) (within_both _ _ _ next mid next'
+          (within_none (of (times_at n ts)) next mid (turn_up n ts next ts' mid turn)) more)
       at earlier false other =
           within_both _ _ _ next mid next' (earlier (λ up. past (let e = other_of k n other in omega (arith, e, up))))
           (within_none (of (times_at k ts')) mid next' (λ below. rise_up mid more.more next' (more.rise below)))
@@ -238,7 +244,8 @@ module _ {T U C : Type 0} where
   -- the numbers that a server has, after its client of an id was written
   pub numbers_set : (clients : List (Option (Stored T U C))) (id : ClientParts) (s s' : Stored T U C) (a b : NoteNumbers) → Some s ≡ client_at id clients
       → NotesInTime s.times a s'.times b → HasNumbers a (map times_of clients) → HasNumbers b (map times_of (slice_set clients id.slot (Some s')))
-  numbers_set clients id s s' a b is gives has = (set_in_time clients id.slot (Some s) (Some s') a b (slot_of_client clients id s is).0 gives).1.keeps has
+  numbers_set clients id s s' a b is gives has = (set_in_time clients id.slot (Some s) (Some s') a b
+      (slot_of_client clients id s is).0 gives).1.keeps has
 
   -- the same where no note was made
   pub numbers_stay : (clients : List (Option (Stored T U C))) (id : ClientParts) (s s' : Stored T U C) (a : NoteNumbers) → Some s ≡ client_at id clients
@@ -249,7 +256,8 @@ module _ {T U C : Type 0} where
 
 module _ {T U C : Type 0} where
   -- what is so of the client of each slot stays so where one client was written
-  pub each_stays : (P : Option (Stored T U C) → Type 0) (clients : List (Option (Stored T U C))) (i : ℕ) (x x' : Option (Stored T U C)) → slice_get clients i ≡ Some x
+  pub each_stays : (P : Option (Stored T U C) → Type 0) (clients : List (Option (Stored T U C))) (i : ℕ) (x x' : Option (Stored T U C))
+      → slice_get clients i ≡ Some x
       → (P x → P x') → ((k : ℕ) → P (stored_at k clients)) → (k : ℕ) → P (stored_at k (slice_set clients i x'))
   each_stays P clients i x x' here stays all k = grind (arith, all k, slice_set, eqb-true, stored_is, get_set_same, get_set_other, other_of)
 
@@ -300,7 +308,8 @@ numbers_left ts ts' a first has = record {
 pub none_waits : (ts ts' : List NoteTimes) → NoneNumbered true ts → AllTakeFirst ts ts' → NoneWaits ts'
 none_waits ts ts' none first k =
     let (made, waiting) = both_none (map (place_at false 0) (times_at k ts).made) (map (place_at true 0) (times_at k ts).waiting) (none k) in
-    let nil : (times_at k ts).waiting ≡ [] = nil_from_length (times_at k ts).waiting (omega (arith, length-map (times_at k ts).waiting (place_at true 0), ap length waiting)) in
+    let nil : (times_at k ts).waiting ≡ [] = nil_from_length _
+    (omega (arith, length-map (times_at k ts).waiting (place_at true 0), ap length waiting)) in
     (both_none (first k).waiting (times_at k ts').waiting (sym (first k).of_waiting ∙ nil)).1
 
 module _ {T U C : Type 0} where
@@ -310,8 +319,9 @@ module _ {T U C : Type 0} where
     where
       at : (b : Bool) → (k == i) ≡ b → TakesFirst (times_at k (map times_of clients)) (times_at k (map times_of (slice_set clients i x')))
       at true same = rw (eqb-true k i same, times_there clients i x here, times_there (slice_set clients i x') i x' (get_set_same clients i x x' here)) first
-      at false other = rw (times_same clients (slice_set clients i x') k (get_set_other clients i k x' (λ e. other_of k i other (sym e)))) (takes_none _)
+      at false other = rw (times_same clients (slice_set clients i x') k (get_set_other clients i k x' (λ e. other_of k i other (sym e))))
+          (takes_none _)
 
   -- killed clients are gone with what is left of their notes
   pub all_take_leave : (clients : List (Option (Stored T U C))) → AllTakeFirst (map times_of clients) (map times_of (all_staying clients))
-  all_take_leave clients k = grind (arith, times_at, times_of, all_staying, times_stored, slice_get, slice_get-map, staying, takes_all, takes_none, option_map, no_times)
+  all_take_leave clients k = grind (arith, times_of, all_staying, times_stored, slice_get-map, staying, takes_all, takes_none, option_map)

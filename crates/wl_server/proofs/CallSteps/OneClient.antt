@@ -55,8 +55,10 @@ held_by table globals last_global default_limit last_client clients notes number
   numbers = numbers;
 }
 
-module _ {T U G C : Type 0} (w : World T G C) (before : ServerState T U G C) (call : Call T U G C) (own : IsOwn call) (target : ClientParts) (R : Kind T U C) (missing : Type 0)
-    (to : (id : ClientParts) (lacked : Bool) (did : List (Deed U)) (b a : Seen T U C) → OfClient (same_client target id) b (λ p q. R id p lacked did q) missing lacked did a
+module _ {T U G C : Type 0} (w : World T G C) (before : ServerState T U G C) (call : Call T U G C) (own : IsOwn call) (target : ClientParts)
+    (R : Kind T U C) (missing : Type 0)
+    (to : (id : ClientParts) (lacked : Bool) (did : List (Deed U)) (b a : Seen T U C) → OfClient (same_client target id) b
+    (λ p q. R id p lacked did q) missing lacked did a
     → PartCall w id before.offer call b lacked did a) where
   -- it was done to the client of that slot
   own_call : (c c' : Stored T U C) (lacked : Bool) → slice_get before.clients target.slot ≡ Some (Some c) → c.serial ≡ target.serial
@@ -64,7 +66,8 @@ module _ {T U G C : Type 0} (w : World T G C) (before : ServerState T U G C) (ca
       → (IsNumbered (Some c) → IsNumbered (Some c')) → AllNumbered before.clients
       → Makes w before call lacked (record before { clients = slice_set before.clients target.slot (Some c'); numbers = numbers' })
   own_call c c' lacked here known (did, q, does, is) numbers' times numbered all =
-      step_by w before call lacked (λ id. lacks_at (same_client target id) lacked) (λ id. did_at (same_client target id) did) _ (sym (own.offer before.offer)) (grind (arith, own.felt.last))
+      step_by w before call lacked (λ id. lacks_at (same_client target id) lacked) (λ id. did_at (same_client target id) did) _
+      (sym (own.offer before.offer)) (grind (arith, own.felt.last))
       (own.felt.client before) (own.global before.offer) own.felt.order (own.felt.room before)
       (λ is. inr (target, rw (same_self target) is), λ h. (grind (arith, false≢true, lacks_at, own.growth)))
       (own.felt.notes before _ (record {
@@ -77,13 +80,16 @@ module _ {T U G C : Type 0} (w : World T G C) (before : ServerState T U G C) (ca
   -- there is no such client
   no_such_client : client_at target before.clients ≡ None → missing → AllNumbered before.clients → Makes w before call false before
   no_such_client none is all =
-      step_of w before call false (λ id. []) before (sym (own.offer before.offer)) (grind (arith, own.felt.last)) (own.felt.client before) (own.global before.offer) own.felt.order (own.felt.room before) own.growth
+      step_of w before call false (λ id. []) before (sym (own.offer before.offer)) (grind (arith, own.felt.last)) (own.felt.client before)
+      (own.global before.offer) own.felt.order (own.felt.room before) own.growth
       (own.felt.notes before before (record { gathered = refl; times = all_same _ _ _ refl; numbered = all }))
       (λ id. to id _ _ _ _ (grind (arith, same_is target id, none, seen_as, notes_of, same_client target id)))
 
-module _ {T U G C : Type 0} (w : World T G C) (before : ServerState T U G C) (s : Step T U G C) (answer : Reply T U) (is_one : is_own s answer ≡ true) (target : ClientParts)
+module _ {T U G C : Type 0} (w : World T G C) (before : ServerState T U G C) (s : Step T U G C) (answer : Reply T U) (is_one : is_own s answer ≡ true)
+    (target : ClientParts)
     (R : Kind T U C) (missing : Type 0)
-    (to : (id : ClientParts) (lacked : Bool) (did : List (Deed U)) (b a : Seen T U C) → OfClient (same_client target id) b (λ p q. R id p lacked did q) missing lacked did a
+    (to : (id : ClientParts) (lacked : Bool) (did : List (Deed U)) (b a : Seen T U C) → OfClient (same_client target id) b
+    (λ p q. R id p lacked did q) missing lacked did a
     → PartStep w id before.offer s answer b lacked did a) where
   own_step : IsOwn (Asked s answer)
   own_step = grind (arith, false≢true, lacks_growth)
@@ -100,12 +106,15 @@ module _ {T U G C : Type 0} (w : World T G C) (before : ServerState T U G C) (s 
 
   pub none_stored : {was : Bool} (read : ClientParts) → read ≡ target → None ≡ client_at read before.clients → missing → AllNumbered before.clients
       → Calls w (record { server = before; refused = was }) s answer (record { server = before; refused = false })
-  none_stored read same none is all = calls _ _ _ _ _ (no_such_client w before (Asked s answer) own_step target R missing to (sym (rw same at none)) is all)
+  none_stored read same none is all = calls _ _ _ _ _ (no_such_client w before (Asked s answer) own_step target R missing to
+      (sym (rw same at none)) is all)
 
 -- the program changed the transport of a stored client
-pub changed : {T U G C : Type 0} (w : World T G C) (before : ServerState T U G C) (target : ClientParts) (t : T) (c : Stored T U C) → slice_get before.clients target.slot ≡ Some (Some c)
+pub changed : {T U G C : Type 0} (w : World T G C) (before : ServerState T U G C) (target : ClientParts) (t : T) (c : Stored T U C)
+    → slice_get before.clients target.slot ≡ Some (Some c)
     → c.serial ≡ target.serial → AllNumbered before.clients → Makes w before (Changed target t) false (server_over before target t)
 changed {T} {U} {G} {C} w before target t c here known all =
     let R : Kind T U C = λ id p lacked did q. Quietly lacked did (WithTransport (λ _ t'. t' ≡ t) p q) in
     rw here (own_call w before (Changed target t) (grind (arith)) target R (Unit {0}) (λ i l d b a h. h) c (over_transport c t) false here known
-    (does_quietly c (λ p did q. R target p false did q) _ (refl, refl, (t, refl, refl))) before.numbers (in_time_none c.times before.numbers) (λ is. is) all)
+    (does_quietly c (λ p did q. R target p false did q) _ (refl, refl, (t, refl, refl))) before.numbers (in_time_none c.times before.numbers)
+    (λ is. is) all)

@@ -1,5 +1,5 @@
 -- A call over a transport whose sends and receives are those of a script, as one over the transport by script; and the other way.
-use Rattle.std.proofs.Common.{◌≡◌, ◌+◌, Bool, true, false, List, [], ◌∷◌, ◌++◌, Option, None, Some, Err, refl, ap, ◌∙◌, arith}
+use Rattle.std.proofs.Common.{◌≡◌, ◌+◌, Bool, true, false, List, [], ◌∷◌, ◌++◌, Option, None, Some, Err, refl, arith}
 use mathlib.Core.Logic.{inl, inr}
 use Rattle.std.specs.Prelude.{MatchOption}
 use Rattle.std.proofs.lemmas.Bool.{false≢true}
@@ -89,9 +89,10 @@ module _ {U G C : Type 0} (views : G → ClientParts → C → GlobalParts → B
     becomes : (t : Script) × IsSet target t true target (e.did target)
     becomes = of (seen target before).part refl (rw (same_self target) at (moves target).1)
       where
-        of : (o : Option (Part Script U C)) → (seen target before).part ≡ o → OnMoved (over_scripts views) o (moves target).0 m (seen target before) (e.lacks target) (e.did target) (seen target after)
+        of : (o : Option (Part Script U C)) → (seen target before).part ≡ o → OnMoved (over_scripts views) o (moves target).0 m (seen target before)
+            (e.lacks target) (e.did target) (seen target after)
             → (t : Script) × IsSet target t true target (e.did target)
-        of None is (missing, (lacked, none, same)) = (blank, rw is (tt, (refl, none, same ∙ ap (λ (x : Option (Part Script U C)). let r : Seen Script U C = record { part = x; made = (seen target before).made } in r) is)))
+        of None is (missing, (lacked, none, same)) = (blank, (grind (arith, is, lacked, none, same)))
         of (Some p) is (q, (lacked, none, (t, by, set)), same) = (t, rw is (q, (refl, none, (t, refl, set)), same))
 
     each_set : (id : ClientParts) → IsSet target becomes.0 (same_client target id) id (e.did id)

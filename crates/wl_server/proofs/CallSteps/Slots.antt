@@ -1,5 +1,5 @@
 -- What is held of each client id after one slot was written.
-use Rattle.std.proofs.Common.{◌≡◌, ℕ, Bool, true, false, ◌<◌, ◌≤◌, List, [], ◌++◌, length, Option, None, Some, is_some, refl, ap, subst, ◌∙◌, append_assoc, arith}
+use Rattle.std.proofs.Common.{◌≡◌, ℕ, Bool, true, false, ◌<◌, ◌≤◌, List, [], ◌++◌, length, Option, None, Some, is_some, refl, ap, ◌∙◌, append_assoc, arith}
 use Rattle.std.specs.Option.{option_map_or}
 use Rattle.std.specs.Prelude.{if◌then◌else◌, ◌==◌, slice_get, slice_index_or, slice_set}
 use Rattle.std.proofs.lemmas.Bool.{eqb-true, eq-eqb, false≢true}
@@ -46,7 +46,8 @@ Kind T U C = ClientParts → Part T U C → Bool → List (Deed U) → Part T U 
 module _ {T U C : Type 0} where
   -- ---- look-ups
 
-  pub stored_is : (clients : List (Option (Stored T U C))) (k : ℕ) (x : Option (Stored T U C)) → slice_get clients k ≡ Some x → stored_at k clients ≡ x
+  pub stored_is : (clients : List (Option (Stored T U C))) (k : ℕ) (x : Option (Stored T U C)) → slice_get clients k ≡ Some x
+      → stored_at k clients ≡ x
   stored_is clients k x here = rw here refl
 
   pub stored_past : (clients : List (Option (Stored T U C))) (k : ℕ) → length clients ≤ k → stored_at k clients ≡ None
@@ -76,8 +77,10 @@ module _ {T U C : Type 0} where
   slot_of_client clients id s is = grind (arith, slice_get, eqb-true, option_map_or, is_some, stored_at, if_serial, slice_get clients id.slot)
 
   -- where the client of a slot became another of its serial, every other id names the client that it named
-  pub client_other : (clients : List (Option (Stored T U C))) (target id : ClientParts) (s s' : Stored T U C) → slice_get clients target.slot ≡ Some (Some s)
-      → s'.serial ≡ s.serial → s.serial ≡ target.serial → same_client target id ≡ false → client_at id (slice_set clients target.slot (Some s')) ≡ client_at id clients
+  pub client_other : (clients : List (Option (Stored T U C))) (target id : ClientParts) (s s' : Stored T U C) → slice_get clients target.slot ≡ Some
+      (Some s)
+      → s'.serial ≡ s.serial → s.serial ≡ target.serial → same_client target id ≡ false → client_at id
+      (slice_set clients target.slot (Some s')) ≡ client_at id clients
   client_other clients target id s s' here same known other =
       grind (arith, eq-eqb, eqb-true, get_set_same, get_set_other, other_of, if_serial, target.slot == id.slot, target.serial == id.serial)
 
@@ -119,7 +122,7 @@ module _ {T U C : Type 0} where
       )
           (on_part (notes_of target notes) s s' (λ p d r. R target p lacked d r) missing lacked did q does is)
 
-      at : (b : Bool) → same_client target id ≡ b → DoneFor target R missing lacked did id (held_of notes clients id) (held_of notes (slice_set clients target.slot (Some s')) id)
-      at true same =
-          subst (λ (i : ClientParts). DoneFor target R missing lacked did i (held_of notes clients i) (held_of notes (slice_set clients target.slot (Some s')) i)) (same_is target id same) meant
+      at : (b : Bool) → same_client target id ≡ b → DoneFor target R missing lacked did id (held_of notes clients id)
+          (held_of notes (slice_set clients target.slot (Some s')) id)
+      at true same = rw (← same_is target id same) meant
       at false other = grind (arith, seen_as, notes_of, client_other clients target id s s' here (ap (λ (x : Stored T U C). x.serial) is) known other)

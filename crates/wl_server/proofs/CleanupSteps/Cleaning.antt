@@ -1,5 +1,5 @@
 -- A cleanup, as a step of the server.
-use Rattle.std.proofs.Common.{arith, ◌≡◌, ℕ, Bool, true, false, List, [], ◌∷◌, ◌++◌, map, Option, None, Some, Result, Ok, Vec, refl, sym, ap, subst, ◌∙◌, append_assoc, append-nil}
+use Rattle.std.proofs.Common.{arith, ◌≡◌, ℕ, Bool, true, false, List, [], ◌∷◌, ◌++◌, map, Option, None, Some, Result, Ok, Vec, refl, ap, ◌∙◌, append_assoc, append-nil}
 use Rattle.std.specs.FinMap.{entries}
 use Rattle.std.specs.Global.{Global}
 use Rattle.std.specs.Option.{option_map}
@@ -17,7 +17,7 @@ use Rattle.wl_server.specs.NoteOrder.{to_gather}
 use Rattle.wl_server.specs.Globals.{Offer}
 use Rattle.wl_server.specs.Ids.{ClientParts}
 use Rattle.wl_server.specs.Inside.Leaving.{FlushesKilled, ends_in, ends_of, given_in, staying}
-use Rattle.wl_server.specs.Part.{Part, id_at, id_of, note_of_end, with_link}
+use Rattle.wl_server.specs.Part.{id_at, id_of, note_of_end, with_link}
 use Rattle.wl_server.specs.PartStep.{CleanedAs, Feels, World, share_of}
 use Rattle.wl_server.specs.Server.{Seen, Stored, seen_as, untimed}
 use Rattle.wl_server.proofs.Readings.Notes.{notes_append, notes_of_sends}
@@ -96,6 +96,6 @@ module _ {T U G C : Type 0} (w : World T G C) (id : ClientParts) (offer : Offer 
           → CleanedBy x0 n lacked (staying (option_map (emptied true) x1)) n3
       at (Some s) (Some s1) (q, flushes, now) told noted given =
           cleaned_from s s1 lacked sent n n2 n3
-          (subst (λ (p : Part T U C). FlushesKilled w.sends s.part lacked sent p) (sym (same_Some s1.part q (ap (λ (x : Seen T U C). x.part) now))) flushes)
+          (rw (same_Some s1.part q (ap (λ (x : Seen T U C). x.part) now)) flushes)
           (ap (λ (x : Seen T U C). x.made) now) told noted given
       at _ _ felt told noted given = grind (arith, append-nil, none-some)

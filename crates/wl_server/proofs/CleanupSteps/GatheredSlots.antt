@@ -14,13 +14,15 @@ use Rattle.wl_server.proofs.CleanupSteps.Taken.{taken_gathered}
 use Rattle.wl_server.proofs.Touched.Gathered.{quiet_gathered, sent_emptied}
 
 module _ {T U C : Type 0} where
-  pub kept_gathered : (count count' free_from : ℕ) (a : NoteNumbers) (touched : Touched) (to_note : SlotSet) (clients clients' : List (Option (Stored T U C)))
+  pub kept_gathered : (count count' free_from : ℕ) (a : NoteNumbers) (touched : Touched) (to_note : SlotSet)
+      (clients clients' : List (Option (Stored T U C)))
       → all_emptied false clients' ≡ all_emptied false clients → count ≡ length clients → count' ≡ length clients'
-      → AllTakeFirst (map times_of clients) (map times_of clients') → (AllNumbered clients → AllNumbered clients') → AllQuiet to_note.words.items clients
+      → AllTakeFirst (map times_of clients) (map times_of clients') → (AllNumbered clients → AllNumbered clients')
+      → AllQuiet to_note.words.items clients
       → AreKept count free_from a touched clients → AreKept count' free_from a (record touched { to_note = to_note }) clients'
   kept_gathered count count' free_from a touched to_note clients clients' same len len' first numbered quiet (slots, has, all, was) = (
-    record { within = grind (arith, slots.within, ap length same, length-map); taken = taken_gathered false free_from clients clients' same slots.taken },
+    record { within = grind (arith, slots.within, ap length same, length-map); taken = taken_gathered false _ _ _ same slots.taken },
     numbers_left _ _ _ first has,
     numbered all,
-    record { sent = sent_emptied false _ clients clients' same was.sent; quiet = quiet_gathered _ clients clients' same first (numbered all) quiet },
+    record { sent = sent_emptied false _ _ _ same was.sent; quiet = quiet_gathered _ _ _ same first (numbered all) quiet },
   )

@@ -49,7 +49,8 @@ pub rest_at : {A : Type 0} (xs : List A) (k : ℕ) (x : A) → slice_get xs k �
 rest_at xs k x here = rw (get_or_from_slice_get xs k x x here) at (drop_more xs k x (slice_get_within xs k x here))
 
 -- what is at a slot once each client became another, and may be gone
-pub stored_map : {T U C : Type 0} (f : Option (Stored T U C) → Option (Stored T U C)) → f None ≡ None → (clients : List (Option (Stored T U C))) (k : ℕ)
+pub stored_map : {T U C : Type 0} (f : Option (Stored T U C) → Option (Stored T U C)) → f None ≡ None → (clients : List (Option (Stored T U C)))
+    (k : ℕ)
     → stored_at k (map f clients) ≡ f (stored_at k clients)
 stored_map f none [] k = sym none
 stored_map f none (x ∷ clients) zero = refl
@@ -95,7 +96,7 @@ module _ {T U C : Type 0} (waits : Bool) where
       now = grind (arith, notes_append id notes (map (note_of target) (h ∷ [])))
 
       at : (b : Bool) → same_client target id ≡ b → ToldOf clients notes clients' notes' id
-      at true same = grind (arith, now, notes_same target id (h ∷ []) same, append_assoc, to_gather, client_present, same_is target id same, get_set_same, here, serial)
+      at true same = grind (arith, now, notes_same target id (h ∷ []) same, append_assoc, client_present, same_is target id same, get_set_same, here, serial)
       at false other = grind (arith, now, notes_other target id (h ∷ []) other, append-nil, client_other clients target id s s' here serial refl other)
 
   -- a note of the client of one slot was moved

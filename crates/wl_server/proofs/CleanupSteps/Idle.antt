@@ -4,7 +4,7 @@ use Rattle.std.specs.Prelude.{Result, slice_get}
 use Rattle.std.proofs.lemmas.List.{length-append, nil_from_length}
 use Rattle.wl_wire.specs.declared.error.IoFault.{IoFault}
 use Rattle.wl_link.specs.Exchange.{Queue}
-use Rattle.wl_server.specs.Inside.Leaving.{FlushesKilled, all_staying, collected, ends_at, given_at, id_in}
+use Rattle.wl_server.specs.Inside.Leaving.{FlushesKilled, all_staying, collected, ends_at, given_at}
 use Rattle.wl_server.specs.Inside.Places.{AllFeel, PlaceFeels}
 use Rattle.wl_server.specs.Server.{Stored}
 use Rattle.wl_server.proofs.CleanupSteps.Asking.{none_ends}
@@ -22,7 +22,8 @@ module _ {T U C : Type 0} where
       → AllFeel (λ id p lacked did q. FlushesKilled sends p lacked did q) false (length clients) clients clients
   none_flushed sends clients none = none_feels (λ id p lacked did q. FlushesKilled sends p lacked did q) (length clients) clients each
     where
-      each : (k : ℕ) (x : Option (Stored T U C)) → k < length clients → slice_get clients k ≡ Some x → PlaceFeels (λ id p lacked did q. FlushesKilled sends p lacked did q) k x false x
+      each : (k : ℕ) (x : Option (Stored T U C)) → k < length clients → slice_get clients k ≡ Some x → PlaceFeels
+          (λ id p lacked did q. FlushesKilled sends p lacked did q) k x false x
       each k None below here = (refl, refl)
       each k (Some s) below here = (s, not_killed sends s (live_at clients k s none here), refl)
 
@@ -30,7 +31,7 @@ module _ {T U C : Type 0} where
   pub none_leaves : (n : ℕ) (clients : List (Option (Stored T U C))) → length (collected given_at n clients) ≤ 0 → clients ≡ all_staying clients
   none_leaves n [] none = refl
   none_leaves n (None ∷ clients) none = grind (arith, none_leaves (n + 1) clients none)
-  none_leaves n (Some s ∷ clients) none = grind (arith, length-append, given_at, collected, id_in, all_staying, s.part.is_killed, none_leaves (n + 1) clients)
+  none_leaves n (Some s ∷ clients) none = grind (arith, length-append, given_at, collected, s.part.is_killed, none_leaves (n + 1) clients)
 
   pub none_noted : (clients : List (Option (Stored T U C))) → length (collected given_at 0 clients) ≤ 0 → collected ends_at 0 clients ≡ []
   none_noted clients none = nil_from_length (collected ends_at 0 clients) (omega (arith, none_ends 0 clients none))

@@ -1,6 +1,5 @@
 -- The places of the notes that are gathered: how many there are of each slot, and how many are left.
 use Rattle.std.proofs.Common.{◌≡◌, ℕ, get_or, zero, suc, ◌+◌, ◌<◌, ◌≤◌, Bool, true, false, List, [], ◌∷◌, ◌++◌, length, map, drop, take, Option, Some, refl, sym, ap, ◌∙◌, append_assoc, append-nil, arith}
-use Rattle.std.specs.Option.{option_map_or}
 use Rattle.std.specs.Prelude.{◌==◌, if◌then◌else◌, slice_get, slice_set}
 use Rattle.std.specs.List.Sorted.{IsPermutation}
 use Rattle.std.proofs.lemmas.Bool.{eqb-true, eq-eqb, ne_eqb, cases_lt}
@@ -82,12 +81,14 @@ module _ {T U C : Type 0} (waits : Bool) where
   abbrev pub Left : List (Option (Stored T U C)) → List NotePlace → Type 0
   Left clients order = (k : ℕ) → places_at k order ≡ length (to_gather waits (stored_at k clients))
 
-  pub placed_all : (clients : List (Option (Stored T U C))) (slot : ℕ) (order : List NotePlace) → length clients ≤ slot → Placed clients slot order → Left clients order
+  pub placed_all : (clients : List (Option (Stored T U C))) (slot : ℕ) (order : List NotePlace) → length clients ≤ slot → Placed clients slot order
+      → Left clients order
   placed_all clients slot order ends placed k = grind (arith, cases_lt, places_at, to_gather, stored_at, stored_past)
 
   -- ---- places that are left
 
-  next_count : (clients : List (Option (Stored T U C))) (order : List NotePlace) (i : ℕ) (d : NotePlace) → i < length order → Left clients (drop i order) → (k : ℕ)
+  next_count : (clients : List (Option (Stored T U C))) (order : List NotePlace) (i : ℕ) (d : NotePlace) → i < length order → Left clients
+      (drop i order) → (k : ℕ)
       → length (to_gather waits (stored_at k clients)) ≡ (if (get_or order i d).slot == k then 1 else 0) + places_at k (drop (i + 1) order)
   next_count clients order i d within left k =
       sym (left k) ∙ (ap (places_at k) (drop_more order i d within) ∙ places_cons k (get_or order i d) (drop (i + 1) order))
@@ -102,7 +103,7 @@ module _ {T U C : Type 0} (waits : Bool) where
 
   pub place_within : (clients : List (Option (Stored T U C))) (order : List NotePlace) (i n : ℕ) (d : NotePlace) → i < length order → n ≡ (get_or order i d).slot
       → Left clients (drop i order) → n < length clients
-  place_within clients order i n d within is left = grind (arith, next_count clients order i d within left n, eq-eqb, stored_past, cases_lt n (length clients))
+  place_within clients order i n d within is left = grind (arith, next_count clients order i d within left n, eq-eqb, stored_past)
 
   pub place_some : (clients : List (Option (Stored T U C))) (order : List NotePlace) (i n : ℕ) (d : NotePlace) (x : Option (Stored T U C)) → i < length order
       → n ≡ (get_or order i d).slot → slice_get clients n ≡ Some x → Left clients (drop i order) → 0 < length (to_gather waits x)
@@ -114,7 +115,7 @@ module _ {T U C : Type 0} (waits : Bool) where
   place_left clients notes notes' order i n d x x' within is there (h, one, rest, is') left k = at (n == k) refl
     where
       at : (b : Bool) → (n == k) ≡ b → places_at k (drop (i + 1) order) ≡ length (to_gather waits (stored_at k (slice_set clients n x')))
-      at b same = grind (arith, eqb-true, next_count clients order i d within left k, length, to_gather, stored_at, stored_is, slice_set, get_set_same, option_map_or, get_set_other, other_of)
+      at b same = grind (arith, eqb-true, next_count clients order i d within left k, to_gather, stored_is, get_set_same, get_set_other, other_of)
 
   -- there is no place where there is no note
   pub none_order : (clients : List (Option (Stored T U C))) (order : List NotePlace) → order ≡ [] → AllLeft waits clients → count_places waits (map times_of clients) ≤ 0

@@ -68,9 +68,11 @@ module _ {T U C : Type 0} where
 
   -- ---- slot by slot
 
-  collected_long : {A : Type 0} (give : ℕ → Option (Stored T U C) → List A) (k : ℕ) (clients : List (Option (Stored T U C))) (x : Option (Stored T U C)) → slice_get clients k ≡ Some x
+  collected_long : {A : Type 0} (give : ℕ → Option (Stored T U C) → List A) (k : ℕ) (clients : List (Option (Stored T U C)))
+      (x : Option (Stored T U C)) → slice_get clients k ≡ Some x
       → length (collected give k (drop k clients)) ≡ length (give k x) + length (collected give (k + 1) (drop (k + 1) clients))
-  collected_long give k clients x here = ap (λ l. length (collected give k l)) (rest_at clients k x here) ∙ length-append (give k x) (collected give (k + 1) (drop (k + 1) clients))
+  collected_long give k clients x here = ap (λ l. length (collected give k l)) (rest_at clients k x here) ∙ length-append (give k x)
+      (collected give (k + 1) (drop (k + 1) clients))
 
   pub part_length : {A : Type 0} (give : ℕ → Option (Stored T U C) → List A) (n slot k : ℕ) (clients : List (Option (Stored T U C))) (x : Option (Stored T U C)) → slot ≡ n + k
       → slice_get clients k ≡ Some x → length (give slot x) ≤ length (collected give n clients)
@@ -101,7 +103,8 @@ module _ {T U C : Type 0} where
   pub leave_room : {A : Type 0} (give : ℕ → Option (Stored T U C) → List A) (slot : ℕ) (start : List (Option (Stored T U C))) (has has' : List A) (x : Option (Stored T U C)) (n n' room room' : ℕ)
       → has' ++ collected give slot (drop slot start) ≡ has ++ collected give 0 start → slice_get start slot ≡ Some x → n ≡ length has → n' ≡ length has'
       → n + length (collected give 0 start) ≤ room → room' ≡ room → n' + length (give slot x) ≤ room'
-  leave_room give slot start has has' x n n' room room' are here is is' fits same = grind (arith, length-append, ap length are, collected_long give slot start x here)
+  leave_room give slot start has has' x n n' room room' are here is is' fits same = grind
+      (arith, length-append, ap length are, collected_long give slot start x here)
 
   pub leave_ends : (slot : ℕ) (start now : List (Option (Stored T U C))) (notes notes' : List (Note U)) (given given' : List (ClientParts × T)) → Leave slot start now notes notes' given given'
       → length start ≤ slot → length now ≡ length start

@@ -37,7 +37,7 @@ module _ {T U C : Type 0} where
 
   pub taken_set : (n i : ℕ) (clients : List (Option (Stored T U C))) (s : Stored T U C) → AreTaken n clients → AreTaken n (slice_set clients i (Some s))
   unfolding AreTaken
-  taken_set n i clients s taken k below = grind (arith, taken k below, stored_at, slice_get, slice_set, get_set_same, get_set_other, other_of, k == i, slice_get clients i)
+  taken_set n i clients s taken k below = grind (arith, taken k below, get_set_same, get_set_other, other_of, k == i, slice_get clients i)
 
   pub slots_set : (count n i : ℕ) (clients : List (Option (Stored T U C))) (s : Stored T U C) → HasSlots count n clients → HasSlots count n (slice_set clients i (Some s))
   slots_set count n i clients s has = record { within = has.within; taken = taken_set n i clients s has.taken }
@@ -65,11 +65,14 @@ module _ {T U C : Type 0} where
 
   -- ---- how many slots there are
 
-  pub slots_emptied : (waits : Bool) (before after : List (Option (Stored T U C))) → all_emptied waits after ≡ all_emptied waits before → length after ≡ length before
+  pub slots_emptied : (waits : Bool) (before after : List (Option (Stored T U C))) → all_emptied waits after ≡ all_emptied waits before
+      → length after ≡ length before
   slots_emptied waits before after same = grind (arith, ap length same, length-map)
 
   -- a cleanup leaves as many as there were
-  pub slots_cleaned : (sends : T → Queue → Result ℕ IoFault → T → Type 0) (before : List (Option (Stored T U C))) (notes : List (Note U)) (refused : Bool)
+  pub slots_cleaned : (sends : T → Queue → Result ℕ IoFault → T → Type 0) (before : List (Option (Stored T U C))) (notes : List (Note U))
+      (refused : Bool)
       (after : List (Option (Stored T U C))) (notes' : List (Note U)) (given : List (ClientParts × T))
       → CleansUp sends before notes refused after notes' given → length after ≡ length before
-  slots_cleaned sends before notes refused after notes' given by = ap length by.stay ∙ (length-map by.left staying ∙ (slots_emptied true by.flushed by.left by.gathers.rest ∙ by.flushes.len))
+  slots_cleaned sends before notes refused after notes' given by = ap length by.stay ∙ (length-map by.left staying
+      ∙ (slots_emptied true by.flushed by.left by.gathers.rest ∙ by.flushes.len))

@@ -57,7 +57,8 @@ module _ {T U G C : Type 0} (w : World T G C) (before : ServerState T U G C) whe
       → IsInOrder false before.clients before.notes out.items → AllTakeFirst (map times_of before.clients) (map times_of clients') → AllNumbered clients'
       → StepOf w before step.TakeNotes (reply.TakeNotes (Ok out)) false (record before { clients = clients'; notes = [] })
   taken_so clients' out by left in_order first numbered =
-      step_of w before _ false (λ id. map NoteTaken (notes_of id before.notes ++ option_map_or (λ s. s.made) (client_at id before.clients) [])) _ refl (omega arith) tt tt tt tt refl
+      step_of w before _ false (λ id. map NoteTaken (notes_of id before.notes ++ option_map_or (λ s. s.made) (client_at id before.clients) [])) _ refl
+      (omega arith) tt tt tt tt refl
       (record { in_order = in_order; none = refl; numbered = numbered; first = first; numbers = refl })
       (λ id. (Ok out, refl, each_taken w before.offer before.clients before.notes clients' out by left id))
 
@@ -70,7 +71,8 @@ module _ {T U G C : Type 0} (w : World T G C) (before : ServerState T U G C) whe
   -- there is no memory for it
   not_taken : (e : OutOfMemory) → SomeClient before.clients (λ s. s.made ≢ []) → AllNumbered before.clients → StepOf w before step.TakeNotes (reply.TakeNotes (Err e)) true before
   not_taken e some all =
-      step_of w before _ true (λ id. []) before refl (omega arith) tt tt tt some refl (record { gathered = refl; times = all_same _ _ _ refl; numbered = all }) (λ id. (Err e, refl, (refl, refl, refl)))
+      step_of w before _ true (λ id. []) before refl (omega arith) tt tt tt some refl
+      (record { gathered = refl; times = all_same _ _ _ refl; numbered = all }) (λ id. (Err e, refl, (refl, refl, refl)))
 
   pub notes_starved : {was : Bool} (e : OutOfMemory) (clients' : List (Option (Stored T U C))) (notes' : List (Note U)) → clients' ≡ before.clients → notes' ≡ before.notes
       → 0 < count_leaving false before.clients → AllNumbered before.clients

@@ -19,7 +19,8 @@ module _ {T U G C : Type 0} where
 pub reached_none : {T U G C : Type 0} {w : World T G C} {id : ClientParts} {s : ServerState T U G C} → Reached w id s s
 reached_none = record { run = []; leads = refl; spared = tt }
 
-reached_one : {T U G C : Type 0} {w : World T G C} {id : ClientParts} {before after : ServerState T U G C} {e : Entry T U G C} → OneStep w before e after → spares id e.call ≡ true
+reached_one : {T U G C : Type 0} {w : World T G C} {id : ClientParts} {before after : ServerState T U G C} {e : Entry T U G C}
+    → OneStep w before e after → spares id e.call ≡ true
     → Reached w id before after
 reached_one {after = after} {e = e} one spared = record { run = e ∷ []; leads = (after, one, refl); spared = (spared, tt) }
 

@@ -100,7 +100,7 @@ module _ {T U G C : Type 0} (w : World T G C) (id : ClientParts) where
 module _ {H T U G C : Type 0} (w : World T G C) (answers : Answering H T U G C) (id : ClientParts) where
   handles_quiet : (h h' : H) (before : BackendState T U G C) (after : ServerState T U G C) (a : Action) (run : List (Entry T U G C)) (lacked : Bool) (why : Option FinishError)
       → Handles w answers id h before a run lacked why h' after → receives_over id run ≡ 0
-  handles_quiet h h' before after a run lacked why h1 = grind (arith, calls_quiet, one_quiet, over_both, reads_of, true≢false, nothing, seen, receives_over, over_both)
+  handles_quiet h h' before after a run lacked why h1 = grind (arith, calls_quiet, one_quiet, over_both, reads_of, true≢false, nothing, seen)
 
   -- so many receives were made, and so many are left
   abbrev Spends : Reading → List (Entry T U G C) → Reading → Type 0
@@ -129,14 +129,16 @@ module _ {H T U G C : Type 0} (w : World T G C) (answers : Answering H T U G C) 
   run_bounded h h' before after run lacked answer serves =
       let s = serves.rounds_end in
       let first = rounds_spend h s.handler new_reading s.reading before s.mid s.first s.first_lacked s.rounds in
-      omega (arith, first, last_spends s.handler h' s.reading serves.left s.mid after s.last s.last_lacked serves.fault s.end, ap (receives_over id) s.run_is, over_both id s.first s.last)
+      let last = last_spends s.handler h' s.reading serves.left s.mid after s.last s.last_lacked serves.fault s.end in
+      omega (arith, first, last, ap (receives_over id) s.run_is, over_both id s.first s.last)
 
   -- the cleanup at the end of a dispatch receives nothing
   pub dispatch_bounded : (h h' : H) (before mid : ServerState T U G C) (after : BackendState T U G C) (calls : List (Entry T U G C)) (lacked : Bool) (answer result : Result ℕ IoFault)
       → IsDispatched w answers id h before calls lacked answer h' mid → (ends : EndsDispatch w before calls lacked mid answer result after)
       → receives_over id (calls ++ ends.cleanup ∷ []) ≤ 64
   dispatch_bounded h h' before mid after calls lacked answer result serves ends =
-      omega (arith, run_bounded h h' before mid calls lacked answer serves, one_quiet w id mid after.server ends.cleanup (ap (λ (c : Call T U G C). reads_of id c) ends.cleanup_is) ends.cleans, over_both id calls (ends.cleanup ∷ []))
+      let quiet = one_quiet w id mid after.server ends.cleanup (ap (λ (c : Call T U G C). reads_of id c) ends.cleanup_is) ends.cleans in
+      omega (arith, run_bounded h h' before mid calls lacked answer serves, quiet, over_both id calls (ends.cleanup ∷ []))
 
 -- ---- clients one after another
 

@@ -93,9 +93,12 @@ module _ {H T U G C : Type 0} (w : World T G C) (answers : Answering H T U G C) 
         fewer = λ none. absurd (true≢false (ap is_some none));
       })
 
-  pub serves_handled : (h h' : H) (r r' : Reading) (before found left : BackendState T U G C) (a : Action) (why : Option FinishError) (end : Option IoFault) (after : BackendState T U G C)
-      (was read : Bool) → was ≡ before.refused → read ≡ found.refused → Calls w before (step.NextActionWithin id r) (reply.NextActionWithin (Ok a) r') found
-      → (run : List (Entry T U G C)) × Handles w answers id h found a run left.refused why h' left.server → end ≡ option_map fault_of_end why → after ≡ keeping (was || read) left
+  pub serves_handled : (h h' : H) (r r' : Reading) (before found left : BackendState T U G C) (a : Action) (why : Option FinishError)
+      (end : Option IoFault) (after : BackendState T U G C)
+      (was read : Bool) → was ≡ before.refused → read ≡ found.refused → Calls w before (step.NextActionWithin id r)
+      (reply.NextActionWithin (Ok a) r') found
+      → (run : List (Entry T U G C)) × Handles w answers id h found a run left.refused why h' left.server → end ≡ option_map fault_of_end why
+      → after ≡ keeping (was || read) left
       → MakesRound w answers id h r before end h' r' after
   serves_handled h h' r r' before found left a why end after was read was_is read_is calls handles is kept =
       let (run, round) = round_by h h' r r' before found left.server a left.refused why calls handles in rw (kept, is) (record {
@@ -106,8 +109,10 @@ module _ {H T U G C : Type 0} (w : World T G C) (answers : Answering H T U G C) 
         fewer = λ none. round_fewer w id answers h h' r r' before found left.server a handles.0 left.refused why calls handles.1;
       })
     where
-      at : (why : Option FinishError) (run : List (Entry T U G C)) → Round w answers id h r before.server run (found.refused || left.refused) why h' r' left.server
-          → MatchOption (option_map fault_of_end why) (Round w answers id h r before.server run (found.refused || left.refused) None h' r' left.server)
+      at : (why : Option FinishError) (run : List (Entry T U G C)) → Round w answers id h r before.server run
+          (found.refused || left.refused) why h' r' left.server
+          → MatchOption (option_map fault_of_end why) (Round w answers id h r before.server run
+          (found.refused || left.refused) None h' r' left.server)
           (λ f. Last w answers id h r before.server run (found.refused || left.refused) f h' r' left.server)
       at None run round = round
       at (Some error) run round = not_ended error round refl
@@ -213,7 +218,8 @@ module _ {H T U G C : Type 0} (w : World T G C) (answers : Answering H T U G C) 
   rounds_lead : {h h' : H} {r r' : Reading} {before : ServerState T U G C} {run : List (Entry T U G C)} {lacked : Bool} {after : ServerState T U G C}
       → Rounds w answers id h r before run lacked h' r' after → Leads w before run after
   rounds_lead (none no_run unlacked) = rw no_run refl
-  rounds_lead (more {s1 = mid} {first = first} {next = next} rounds round run_is lacked_is) = rw run_is (join_runs w _ mid _ first next (rounds_lead rounds) (round_leads round))
+  rounds_lead (more {s1 = mid} {first = first} {next = next} rounds round run_is lacked_is) = rw run_is
+      (join_runs w _ mid _ first next (rounds_lead rounds) (round_leads round))
 
   last_leads : {h h' : H} {r r' : Reading} {before : ServerState T U G C} {run : List (Entry T U G C)} {lacked : Bool} {f : IoFault} {after : ServerState T U G C}
       → Last w answers id h r before run lacked f h' r' after → Leads w before run after

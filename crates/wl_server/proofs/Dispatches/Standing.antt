@@ -1,6 +1,6 @@
 -- That an open action of a client stays open over calls that neither read the client nor end its action, as long as the client is
 -- stored.
-use Rattle.std.proofs.Common.{◌≡◌, ◌⊎◌, ℕ, ◌≤◌, Bool, true, false, List, [], ◌∷◌, Option, None, Some, IsSome, is_some, Result, refl, sym, ap, subst, ◌∙◌, true≢false, arith}
+use Rattle.std.proofs.Common.{◌≡◌, ◌⊎◌, ℕ, ◌≤◌, Bool, true, false, List, [], ◌∷◌, Option, None, Some, IsSome, Result, refl, ap, ◌∙◌, true≢false, arith}
 use mathlib.Core.Logic.{inl, inr}
 use Rattle.wl_wire.specs.declared.error.IoFault.{IoFault}
 use Rattle.wl_link.specs.Exchange.{Queue}
@@ -35,16 +35,12 @@ module _ {T U C : Type 0} (sends : T → Queue → Result ℕ IoFault → T → 
   moves_stand p q d (moved move) = grind (arith, true≢false)
 
   goes_stand : (s t : Seen T U C) (d : Doings U) → Goes standing sends receives client s d t → Stands s.part → Stands t.part
-  goes_stand s t d (unfelt none same) h = subst Stands (sym (ap (λ (x : Seen T U C). x.part) same)) h
+  goes_stand s t d (unfelt none same) h = rw same h
   goes_stand s t d (within p q there moves same) (inl none) = absurd (none_and_some s.part none there)
   goes_stand s t d (within p q there moves same) (inr (o, was, some)) =
-      inr (
-        q,
-        ap (λ (x : Seen T U C). x.part) same,
-        ap is_some (moves_stand p q d moves) ∙ ap (λ (x : Part T U C). is_some x.action) (one_value s.part there was) ∙ some,
-      )
+      inr (q, ap (λ (x : Seen T U C). x.part) same, (grind (arith, moves_stand p q d moves, one_value s.part there was, some)))
   goes_stand s t d (taken_out p q on there killed moves none noted same) h = inl (ap (λ (x : Seen T U C). x.part) same)
-  goes_stand s t d (notes_taken on is same) h = subst Stands (sym (ap (λ (x : Seen T U C). x.part) same)) h
+  goes_stand s t d (notes_taken on is same) h = rw same h
 
 module _ {T U G C : Type 0} (w : World T G C) (id : ClientParts) where
   call_stands : (offer : Offer G) (call : Call T U G C) (s : Seen T U C) (lacked : Bool) (did : List (Deed U)) (t : Seen T U C) → spares id call ≡ true → IsNotInserted id call
@@ -52,7 +48,8 @@ module _ {T U G C : Type 0} (w : World T G C) (id : ClientParts) where
   call_stands offer call s lacked did t spared other h stands = go (concerns id call) refl
     where
       go : (b : Bool) → concerns id call ≡ b → Stands t.part
-      go true about = goes_stand w.sends w.receives id s t _ (call_moves standing w id offer call s lacked did t about (grind (arith, true≢false)) h) stands
+      go true about = goes_stand w.sends w.receives id s t _
+          (call_moves standing w id offer call s lacked did t about (grind (arith, true≢false)) h) stands
       go false far = rw (other_call w id offer call s lacked did t other far h).2 stands
 
   -- so it is over all calls of a handler, if the id was given before

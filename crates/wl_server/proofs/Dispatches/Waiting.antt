@@ -175,7 +175,8 @@ module _ {T U G C : Type 0} (w : World T G C) (id : ClientParts) where
       let left_is : left ≡ r' = cc in
       at (e.lacks id) (e.did id) (rw (answer_is, left_is) at reads)
     where
-      at : (lacked : Bool) (did : List (Deed U)) → ReadsFor w id before.server.offer id r (Ok (handed a)) r' (seen id before.server) lacked did (seen id found.server)
+      at : (lacked : Bool) (did : List (Deed U)) → ReadsFor w id before.server.offer id r (Ok (handed a)) r' (seen id before.server) lacked did
+          (seen id found.server)
           → Fewer id r before.server r' found.server
       at lacked did reads = grind (arith, either_option, seen, own_step, same_client, same_self, waits, part_less, handed, waiting_of, length, waits_in)
 
@@ -186,7 +187,8 @@ module _ {T U G C : Type 0} (w : World T G C) (id : ClientParts) where
   round_fewer answers h h' r r' before found after a run lacked why calls handles =
       let first = reads_fewer r r' before a found calls in
       let called = calls_add_nothing w id found.server handles.left.server handles.calls handles.leads handles.spared in
-      let ended = one_adds_nothing w id handles.left.server after handles.ended (ap (λ (c : Call T U G C). reads_of id c) handles.ended_is ∙ unread a handles.end handles.answer handles.answers_so) handles.ends in
+      let quiet = ap (λ (c : Call T U G C). reads_of id c) handles.ended_is ∙ unread a handles.end handles.answer handles.answers_so in
+      let ended = one_adds_nothing w id handles.left.server after handles.ended quiet handles.ends in
       grind (arith, first, called, ended)
     where
       unread : (a : Action) (end : Step T U G C) (answer : Reply T U) → Answers w answers id h found a end h' handles.left → reads_of id (Asked end answer) ≡ false

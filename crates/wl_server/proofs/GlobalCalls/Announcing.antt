@@ -1,5 +1,5 @@
 -- How a registry is told of globals, one after another.
-use Rattle.std.proofs.Common.{arith, ◌≡◌, ℕ, true, List, [], ◌∷◌, ◌++◌, append_assoc, length, map, Result, Ok, Err, refl, sym, ap, subst}
+use Rattle.std.proofs.Common.{arith, ◌≡◌, ℕ, true, List, [], ◌∷◌, ◌++◌, append_assoc, length, map, Result, Ok, Err, refl, sym, ap}
 use Rattle.std.specs.List.{filter}
 use Rattle.std.specs.Prelude.{nat_lt}
 use Rattle.wl_wire.specs.declared.error.IoFault.{IoFault}
@@ -56,5 +56,6 @@ module _ {T G C : Type 0} (sends : T → Queue → Result ℕ IoFault → T → 
       → is_shown a.views a.client client_data e ≡ true → Puts sends now (told_of room e ∷ []) (Err f) after → ToldTo start all now room old → Puts sends start all (Err f) after
   told_failed start now after all room e old left f step shown one (first, puts, is) =
       let m = told_of room e ∷ [] in
-      subst (λ (l : List Said). Puts sends start l (Err f) after) (sym (grind (arith, shows, append_assoc)))
-      (puts_failed sends start after (first ++ m) (told_of_all a client_data id (long e) left) f (puts_more sends start now after first m (Err f) puts one))
+      let split : all ≡ (first ++ m) ++ told_of_all a client_data id (long e) left = grind (arith, shows, append_assoc) in
+      rw split (puts_failed sends start after (first ++ m) (told_of_all a client_data id (long e) left) f
+      (puts_more sends start now after first m (Err f) puts one))

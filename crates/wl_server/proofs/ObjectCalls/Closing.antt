@@ -38,10 +38,7 @@ module _ {T U C : Type 0} where
   told_by sends c puts events before after told silent put =
       let v = telling c puts events in
       let t = tells_put sends v before after after told [] false put (refl, refl, refl) in
-      subst (λ (d : Core U C). (did : List (Deed U)) × Tells sends v before (lacks_memory told) did (part_of (record { core = d; link = after }))
-      × (notes_in did ≡ notes_in (end_deeds d.ended)))
-      (grind (arith)) (
-        t.0,
-        subst (λ (b : Bool). Tells sends v before b t.0 (part_of (record { core = came_to speaker v told; link = after }))) (or-false (lacks_memory told)) t.1,
-        t.2 ∙ ap (λ (l : List (Happening U)). l ++ notes_in (end_deeds (came_to speaker v told).ended)) (silent (came_to speaker v told)),
-      )
+      let came : came_to speaker v told ≡ closing c told = grind (arith) in
+      let lacks = subst (λ (b : Bool). Tells sends v before b t.0 (part_of (record { core = came_to speaker v told; link = after })))
+      (or-false (lacks_memory told)) t.1 in
+      rw (← came) (t.0, lacks, t.2 ∙ ap (λ (l : List (Happening U)). l ++ notes_in (end_deeds (came_to speaker v told).ended)) (silent (came_to speaker v told)))

@@ -58,7 +58,7 @@ module _ {T U C : Type 0} (table : List InterfaceRow) (client : ClientParts) (s 
         (record { serial = s.serial; part = with_both store serial; made = s.made; times = no_times })
     created n serial x store next is (least, put) =
         let id : IdParts = record { number = n; serial = serial; client = client; interface = i } in
-        does_quietly s (Created (Ok id)) (with_both store serial) (refl, grind (arith, known, slice_get, at_false, last_possible_serial, eqb-true, stored, is, next))
+        does_quietly s (Created (Ok id)) (with_both store serial) (refl, grind (arith, known, at_false, eqb-true, stored, is, next))
 
     pub exhausted : (e : NewError) (x : Object (Kept U)) (store : Store (Kept U)) → e ≡ new.IdsExhausted → InsertsNew server_range s.part.store x (Err e) store
         → Refused create.IdsExhausted store
@@ -67,4 +67,4 @@ module _ {T U C : Type 0} (table : List InterfaceRow) (client : ClientParts) (s 
     pub no_memory : (e : NewError) (x : Object (Kept U)) (store : Store (Kept U)) → e ≡ new.OutOfMemory → InsertsNew server_range s.part.store x (Err e) store
         → Refused create.OutOfMemory store
     no_memory e x store is inserts =
-        does_quietly s (Created (Err create.OutOfMemory)) (over store) (refl, grind (arith, known, slice_get, at_false, last_possible_serial, eqb-true, over))
+        does_quietly s (Created (Err create.OutOfMemory)) (over store) (refl, grind (arith, known, at_false, eqb-true))

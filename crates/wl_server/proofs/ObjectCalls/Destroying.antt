@@ -1,5 +1,5 @@
 -- How what was done to an object that the program destroys is its destruction.
-use Rattle.std.proofs.Common.{◌≡◌, ℕ, true, false, eqb, List, [], ◌++◌, append-nil, None, Some, is_some, IfSome, Result, Ok, Err, MatchResult, refl, subst, inl, inr, arith}
+use Rattle.std.proofs.Common.{◌≡◌, ℕ, true, false, eqb, List, [], ◌++◌, append-nil, None, Some, is_some, IfSome, Result, Ok, Err, MatchResult, refl, inl, inr, arith}
 use Rattle.std.proofs.lemmas.Bool.{false≢true}
 use Rattle.wl_wire.specs.declared.error.IoFault.{IoFault}
 use Rattle.wl_wire.specs.declared.error.IoFault.TheVariants as fault
@@ -59,7 +59,8 @@ module _ {T U C : Type 0} (sends : T → Queue → Result ℕ IoFault → T → 
 
     as_carried : (answer : Result (Unit {0}) DestroyError) (after : Stored T U C) → answer ≡ unless_refused destroy.OutOfMemory (lacks_destroy answer)
         → IsCarried sends verdict s (lacks_destroy answer) after → Does s (λ p did q. Destruction answer p did q) after
-    as_carried answer after so carried = let t = tells_carried sends verdict s after (lacks_destroy answer) carried in (t.0, t.1, rw is (so, t.2), t.3)
+    as_carried answer after so carried = let t = tells_carried sends verdict s after
+        (lacks_destroy answer) carried in (t.0, t.1, rw is (so, t.2), t.3)
 
     -- there was no memory for its note
     pub starved : (waiting : List (Happening U)) → waiting ≡ s.part.waiting → is_some x.value.user_data ≡ true
@@ -74,7 +75,7 @@ module _ {T U C : Type 0} (sends : T → Queue → Result ℕ IoFault → T → 
     untold link waiting n wrote same number puts lacked = as_carried (Err destroy.OutOfMemory) (with_waiting (linked s link) waiting) refl (
       core_of s.part,
       link,
-      inl (Err fault.OutOfMemory, link, [], false, (grind (arith, false≢true, subst (λ (k : ℕ). Puts sends s.part.link (deletions k) wrote link) number puts)), (refl, refl, refl), refl, refl),
+      inl (Err fault.OutOfMemory, link, [], false, (grind (arith, false≢true, number)), (refl, refl, refl), refl, refl),
       grind (arith, silent (core_of s.part), append-nil),
     )
 
@@ -98,6 +99,6 @@ module _ {T U C : Type 0} (sends : T → Queue → Result ℕ IoFault → T → 
     destroyed link n store registries before waiting wrote after number puts lacked without forgotten noted same told = as_carried (Ok tt) after refl (
       came_to speaker verdict wrote,
       link,
-      inl (wrote, link, [], false, subst (λ (k : ℕ). Puts sends s.part.link (deletions k) wrote link) number puts, (refl, refl, refl), refl, rw lacked refl),
+      inl (wrote, link, [], false, rw number at puts, (refl, refl, refl), refl, rw lacked refl),
       grind (arith, append-nil, false≢true, kills_is, registries_without, note_of_end, named_is_held, named, silent (came_to speaker verdict wrote)),
     )

@@ -1,5 +1,5 @@
 -- A new client at a free slot, as a step of the server.
-use Rattle.std.proofs.Common.{◌≡◌, ℕ, ◌+◌, ◌<◌, ◌≤◌, Bool, true, false, List, [], ◌∷◌, ◌++◌, length, map, Option, None, Some, is_some, IsSome, Result, Ok, Err, refl, sym, subst, arith, append-nil}
+use Rattle.std.proofs.Common.{◌≡◌, ℕ, ◌+◌, ◌<◌, ◌≤◌, Bool, true, false, List, [], ◌∷◌, ◌++◌, length, map, Option, None, Some, is_some, IsSome, Result, Ok, Err, refl, sym, arith, append-nil}
 use Rattle.std.specs.Prelude.{MatchBool, MatchOption, nat_lt, slice_get, slice_set, ◌==◌}
 use Rattle.std.specs.Result.{OkIff, result_ok}
 use Rattle.std.proofs.lemmas.Bool.{false≢true, ltb-true, ltb-false, eq-eqb, eqb-true}
@@ -20,7 +20,7 @@ use Rattle.wl_server.specs.Inside.Inserting.{AreTaken, IsPut}
 use Rattle.wl_server.specs.NoteOrder.{AllInTime, AllNumbered, times_of}
 use Rattle.wl_server.specs.Part.{fresh_part, last_possible_serial}
 use Rattle.wl_server.specs.PartStep.{Asked, Inserted, Unfelt, World}
-use Rattle.wl_server.specs.Server.{Seen, ServerState, Stored, if_serial, notes_of, seen_as, stored_at}
+use Rattle.wl_server.specs.Server.{Seen, ServerState, Stored, if_serial, seen_as, stored_at}
 use Rattle.wl_server.specs.Steps.{IsLeastFree, LacksSlot}
 use Rattle.wl_sets.proofs.Lists.{get_set_other, get_set_same, other_of}
 use Rattle.wl_server.proofs.CallSteps.Slots.{client_present, did_at, held_of, stored_past, same_is}
@@ -51,7 +51,7 @@ module _ {T U C : Type 0} where
   at_end (x ∷ clients) s = grind (arith, at_end clients s)
 
   pub put_behind : (clients : List (Option (Stored T U C))) (slot : ℕ) (s : Stored T U C) → slot ≡ length clients → IsPut clients slot s (clients ++ Some s ∷ [])
-  put_behind clients slot s is = subst (λ (n : ℕ). IsPut clients n s (clients ++ Some s ∷ [])) (sym is) (at_end clients s)
+  put_behind clients slot s is = rw is (at_end clients s)
 
 module _ {T U G C : Type 0} (w : World T G C) where
   -- ---- what each client makes of it
@@ -74,7 +74,7 @@ module _ {T U G C : Type 0} (w : World T G C) where
         refl,
         grind (arith, seen_as, fresh_part, append-nil, same_is new id same, client_present new clients' s here, is, free, if_serial, stored_at),
       )
-      at false other = grind (arith, eq-eqb, eqb-true, seen_as, notes_of, slice_get, is, here, free, others, if_serial, other_of, new.slot == id.slot, new.serial == id.serial)
+      at false other = grind (arith, eq-eqb, eqb-true, seen_as, is, here, free, others, if_serial, other_of, new.slot == id.slot, new.serial == id.serial)
 
   -- ---- the step
 
@@ -104,5 +104,7 @@ module _ {T U G C : Type 0} (w : World T G C) where
       → Calls w (record { server = before; refused = was }) (step.InsertClient transport client_data) (reply.InsertClient (Err insert.OutOfMemory))
       (record { server = record before { clients = clients'; numbers = numbers' }; refused = true })
   insertion_starved before transport client_data new clients' free below serial same numbers' times all =
-      calls _ _ _ _ _ (rw same (step_of w before (Asked (step.InsertClient transport client_data) (reply.InsertClient (Err insert.OutOfMemory))) true (λ id. []) _ refl (omega arith)
-      (new, (free, below, serial)) tt tt tt refl (record { gathered = refl; times = rw same at times; numbered = all }) (λ id. (Err insert.OutOfMemory, refl, (refl, refl, refl)))))
+      calls _ _ _ _ _ (rw same (step_of w before (Asked (step.InsertClient transport client_data) (reply.InsertClient (Err insert.OutOfMemory))) true
+      (λ id. []) _ refl (omega arith)
+      (new, (free, below, serial)) tt tt tt refl (record { gathered = refl; times = rw same at times; numbered = all })
+      (λ id. (Err insert.OutOfMemory, refl, (refl, refl, refl)))))

@@ -20,7 +20,7 @@ use Rattle.wl_server.proofs.CallSteps.OneClient.{done_to}
 use Rattle.wl_server.proofs.CallSteps.Slots.{slot_of_client}
 use Rattle.wl_server.proofs.CallSteps.Numbering.{in_time_none}
 use Rattle.wl_server.proofs.CleanupSteps.Gathering.{set_itself}
-use Rattle.wl_server.proofs.Plain.Data.{sets_object_data}
+use Rattle.wl_server.proofs.Plain.Objects.{sets_object_data}
 use Rattle.wl_server.proofs.ObjectCalls.Setting.{set_does, sets}
 
 abbrev data_in : {U : Type 0} → Option (Object (Kept U)) → Option U

@@ -1,5 +1,5 @@
 -- How an error that was posted on an object is a verdict that was carried out.
-use Rattle.std.proofs.Common.{◌≡◌, ◌∙◌, ℕ, Bool, true, false, ◌||◌, List, [], ◌∷◌, ◌++◌, is_some, Result, Ok, MatchResult, refl, ap, subst, append-nil, inl, arith}
+use Rattle.std.proofs.Common.{◌≡◌, ◌∙◌, ℕ, Bool, true, false, ◌||◌, List, [], ◌∷◌, ◌++◌, is_some, Result, Ok, MatchResult, refl, ap, append-nil, inl, arith}
 use Rattle.std.proofs.lemmas.Bool.{false≢true}
 use Rattle.wl_wire.specs.declared.error.IoFault.{IoFault}
 use Rattle.wl_wire.specs.declared.error.ProtocolError.{ProtocolError}
@@ -52,8 +52,7 @@ module _ {T U C : Type 0} (sends : T → Queue → Result ℕ IoFault → T → 
   -- the error of a live client's object that is kept, and of none
   pub puts_error : (n : ℕ) (answer : Result (Unit {0}) IoFault) (link after : LinkState T) → n ≡ id.number → is_some (named p.store id) ≡ true
       → Puts sends link (error_message n code text ∷ []) answer after → Puts sends link (error_messages (core_of p) id code text) answer after
-  puts_error n answer link after is kept puts =
-      rw (live, kept) (subst (λ (k : ℕ). Puts sends link (error_message k code text ∷ []) answer after) is puts)
+  puts_error n answer link after is kept puts = rw (live, kept, ← is) puts
 
   pub puts_no_error : (link : LinkState T) → is_some (named p.store id) ≡ false → Puts sends link (error_messages (core_of p) id code text) (Ok tt) link
   puts_no_error link gone = rw (live, gone) (puts_none sends link)

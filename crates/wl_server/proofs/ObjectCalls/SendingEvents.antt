@@ -1,5 +1,5 @@
 -- What an event that is sent does, from the steps of its sending.
-use Rattle.std.proofs.Common.{◌≡◌, ◌∙◌, ℕ, Bool, true, false, List, [], ◌∷◌, ◌++◌, append-nil, map, Option, Some, IfSome, Result, Ok, Err, refl, ap, subst, inl, inr, arith, is_some}
+use Rattle.std.proofs.Common.{◌≡◌, ◌∙◌, ℕ, Bool, true, false, List, [], ◌∷◌, ◌++◌, append-nil, map, Some, IfSome, Result, Ok, Err, refl, ap, inl, inr, arith, is_some}
 use Rattle.std.proofs.lemmas.Bool.{false≢true}
 use Rattle.wl_wire.specs.declared.error.IoFault.{IoFault}
 use Rattle.wl_wire.specs.declared.argument.Argument.{Argument}
@@ -44,7 +44,7 @@ module _ {U : Type 0} where
   -- what is said of what the sender's number holds is said of the sender
   pub of_sender : (store : Store (Kept U)) (id : IdParts) (x : Object (Kept U)) (P : Object (Kept U) → Type 0) → named store id ≡ Some x
       → IfSome (held store id.number) P → P x
-  of_sender store id x P is some = subst (λ (h : Option (Object (Kept U))). IfSome h P) (named_is_held store id x is) some
+  of_sender store id x P is some = rw (named_is_held store id x is) at some
 
   -- what follows sends has all the notes
   notes_behind : (es : List Sending) (did : List (Deed U)) → notes_in (map Sent es ++ did) ≡ notes_in did

@@ -1,6 +1,5 @@
 -- Each object that leaves with user data is noted once.
 pub mod NotedLaws
-pub mod NotedEnds
 pub mod PlacesInOrder
 pub mod NotesInOrder
 pub mod ErrorLaws

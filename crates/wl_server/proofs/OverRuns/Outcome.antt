@@ -1,14 +1,10 @@
 -- Where memory is not refused there is one outcome.
-pub mod Determined
 pub mod NumberLaws
 pub mod PartOutcome
-pub mod OutcomeLaws
 pub mod OfferLaws
 pub mod RunOutcome
 pub mod MoveLaws
 pub mod SameNotes
-pub mod ShareLaws
 pub mod WholeLaws
 pub mod WholeRuns
 pub mod DispatchLaws
-pub mod LookupLaws

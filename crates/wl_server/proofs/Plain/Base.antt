@@ -1,7 +1,7 @@
 -- What a call is of each client, and what a step leaves of one as it was.
 use Rattle.std.proofs.Common.{◌≡◌, Bool, true, false, List, [], ◌++◌, append-nil, Option, None, Some, is_some, refl, sym, ap, subst, ◌∙◌, arith, true≢false}
 use mathlib.Core.Logic.{inl, inr}
-use Rattle.std.specs.Prelude.{◌⊎◌, MatchBool, MatchOption}
+use Rattle.std.specs.Prelude.{◌⊎◌, MatchBool}
 use Rattle.wl_link.proofs.Calls.Branches.{either_option}
 use Rattle.wl_server.specs.declared.runs.step.Reply.{Reply}
 use Rattle.wl_server.specs.declared.runs.step.Step.{Step}
@@ -29,9 +29,9 @@ pub split_bool : {P Q : Type 0} (b : Bool) → MatchBool b P Q → ((b ≡ true)
 split_bool true p = inl (refl, p)
 split_bool false q = inr (refl, q)
 
-pub match_option : {A P : Type 0} {Q : A → Type 0} (o : Option A) → (o ≡ None → P) → ((x : A) → o ≡ Some x → Q x) → MatchOption o P Q
-match_option None none some = none refl
-match_option (Some x) none some = some x refl
+pub option_cases : {A : Type 0} (o : Option A) → (o ≡ None) ⊎ ((x : A) × (o ≡ Some x))
+option_cases None = inl refl
+option_cases (Some x) = inr (x, refl)
 
 pub one_value : {A : Type 0} {a b : A} (o : Option A) → o ≡ Some a → o ≡ Some b → a ≡ b
 one_value o is other = cc
@@ -50,6 +50,10 @@ module _ {T U G C : Type 0} (id : ClientParts) (e : Entry T U G C) (by : IsRefus
   -- memory was refused in a call about this client exactly if it was refused to the client
   pub lacks_as : e.refused ≡ e.lacks id
   lacks_as = grind (arith, as_true, true≢false, same_is)
+
+-- so it was exactly to the call itself, if it was to no client
+grown : {T U G C : Type 0} (e : Entry T U G C) → IsRefused e → ((id : ClientParts) → e.lacks id ≡ false) → e.refused ≡ lacks_growth e.call
+grown e by all = grind (arith, as_true, true≢false)
 
 module _ {T U G C : Type 0} {w : World T G C} {before after : BackendState T U G C} {s : Step T U G C} {answer : Reply T U} (call : Calls w before s answer after) where
   abbrev Each : ClientParts → Type 0
@@ -79,13 +83,8 @@ module _ {T U G C : Type 0} {w : World T G C} {before after : BackendState T U G
   pub by_growth : NeverLacks → after.refused ≡ lacks_growth (Asked s answer)
   by_growth never =
       let (e, is, refused, by) = call.step in
-      sym refused
-      ∙ as_true e.refused (lacks_growth (Asked s answer))
-      (λ known. elim (by.refused.0 known) [
-        | inl grows ↦ subst (λ (c : Call T U G C). lacks_growth c ≡ true) is grows
-        | inr (id, lacks) ↦ absurd (true≢false (sym lacks ∙ never id (e.lacks id) (e.did id) (grind (arith, seen))))
-      ])
-      (λ grows. by.refused.1 (inl (subst (λ (c : Call T U G C). lacks_growth c ≡ true) (sym is) grows)))
+      let all : (id : ClientParts) → e.lacks id ≡ false = λ id. never id (e.lacks id) (e.did id) (grind (arith, seen)) in
+      sym refused ∙ grown e by.refused all ∙ ap lacks_growth is
 
   -- to nobody
   pub calm : lacks_growth (Asked s answer) ≡ false → NeverLacks → after.refused ≡ false

@@ -1,6 +1,7 @@
 -- A dispatch: what it leaves of its client, and of the others.
-use Rattle.wl_server.specs.Plain.{RequestEndedAs}
-use Rattle.wl_server.proofs.Plain.Requests.{request_ends}
+use Rattle.wl_link.specs.Exchange.{Queue}
+use Rattle.wl_server.specs.Plain.{RequestEndedAs, CleansTo, CleansUpClients, client_in}
+use Rattle.wl_server.proofs.Plain.Actions.{request_ends}
 use Rattle.std.proofs.Common.{◌≡◌, ℕ, Bool, true, false, eqb, List, [], Option, None, Some, IsSome, is_some, Result, Ok, Err, refl, sym, ap, subst, ◌∙◌, true≢false, arith, MatchResult}
 use mathlib.Core.Logic.{inl, inr}
 use Rattle.std.proofs.lemmas.Bool.{cases_lt, eq-eqb}
@@ -27,17 +28,16 @@ use Rattle.wl_server.specs.Backend.{BackendState}
 use Rattle.wl_server.specs.Deeds.{Deed, Handed}
 use Rattle.wl_server.specs.Dispatch.{Answering, Answers, DispatchesAll, DispatchesClient, Handles, Last, Rounds, after_cleanup, cleaned, dispatched, fault_of_end, fault_of_reading, more as one_round, no_action, none as no_round, not_ended, refusal_in, EachIsDispatched, EndsDispatch, IsDispatched, Round}
 use Rattle.wl_server.specs.Finish.{FinishesBind, refusal}
-use Rattle.wl_server.specs.Globals.{Offer}
 use Rattle.wl_server.specs.Ids.{ClientParts, same_client}
 use Rattle.wl_server.specs.Part.{Part}
-use Rattle.wl_server.specs.PartStep.{Asked, Call, CleanedAs, World, OfClient}
+use Rattle.wl_server.specs.PartStep.{Asked, Call, World, OfClient}
 use Rattle.wl_server.specs.Plain.Dispatch.{AllLive, DispatchOfOneLeaves, DispatchOfSeveralLeaves, IsBusy, IsIdle, KeepsGlobals, LeftBy}
 use Rattle.wl_server.specs.Plain.Reading.{ReadAs, ReadsClient}
 use Rattle.wl_server.specs.Server.{Seen, ServerState, seen}
-use Rattle.wl_server.specs.Steps.{Entry, OneStep, lacks_growth, offer_after}
+use Rattle.wl_server.specs.Steps.{Entry, OneStep, offer_after}
 use Rattle.wl_server.proofs.Dispatches.Standing.{Stands, born_still, run_stands}
-use Rattle.wl_server.proofs.Plain.Base.{none_and_some, own, part_of_call}
-use Rattle.wl_server.proofs.Plain.Cleanup.{cleaned_killed, cleaned_live}
+use Rattle.wl_server.proofs.Plain.Base.{none_and_some, own, part_of_call, option_cases, one_value}
+use Rattle.wl_server.proofs.Plain.Clients.{cleanup_leaves}
 use Rattle.wl_server.proofs.Plain.Reading.{reads_client, within_one}
 use Rattle.wl_server.proofs.Plain.ReadingEnds.{or_true}
 
@@ -80,29 +80,35 @@ module _ {H T U G C : Type 0} (w : World T G C) (answers : Answering H T U G C) 
 split : (b : Bool) → (b ≡ true) ⊎ (b ≡ false)
 split h1 = grind (arith)
 
-module _ {T U G C : Type 0} (w : World T G C) (id : ClientParts) (offer : Offer G) (out : Vec (ClientParts × T) Global) (s t : Seen T U C) (lacked : Bool) (did : List (Deed U))
-    (h : CleanedAs w id offer (Ok out) s lacked did t) where
-  -- nor is one that was not stored, or killed
-  gone_then : ((p : Part T U C) → s.part ≡ Some p → p.is_killed ≡ true) → t.part ≡ None
-  gone_then h1 = grind (arith, either_option, none_and_some, cleaned_killed)
+-- what it leaves, by its answer
+abbrev Leaves : {T U G C : Type 0} → World T G C → ServerState T U G C → Entry T U G C → ServerState T U G C → Result (Vec (ClientParts × T) Global) OutOfMemory → Type 0
+Leaves w mid e after r = CleansUpClients w.sends (record { server = mid; refused = false }) r (record { server = after; refused = e.refused })
 
-module _ {T U G C : Type 0} (w : World T G C) (mid : ServerState T U G C) (after : BackendState T U G C) (e : Entry T U G C) (out : Reply T U) (by : OneStep w mid e after.server)
-    (is : e.call ≡ Asked step.Cleanup out) where
-  -- what the cleanup answered, and what it is of a client
-  pub record Cleans (id : ClientParts) : Type 0 where
-    pub r : Result (Vec (ClientParts × T) Global) OutOfMemory
-    pub answer_is : out ≡ reply.Cleanup r
-    pub cleans : CleanedAs w id mid.offer r (seen id mid) (e.lacks id) (e.did id) (seen id after.server)
+cleans : {T U G C : Type 0} {w : World T G C} {mid after : ServerState T U G C} {e : Entry T U G C} {out : Reply T U} → OneStep w mid e after → e.call ≡ Asked step.Cleanup out
+    → (r : Result (Vec (ClientParts × T) Global) OutOfMemory) × (out ≡ reply.Cleanup r) × Leaves w mid e after r
+cleans {w = w} {mid = mid} {after = after} {e = e} by is =
+    let (r, says, h) = part_of_call by is (record { slot = 0; serial = 0 }) in
+    (r, says, cleanup_leaves w (record { server = mid; refused = false }) (record { server = after; refused = e.refused }) r (e, is ∙ ap (λ (o : Reply _ _). Asked step.Cleanup o) says, refl, by))
 
-  of_client : (id : ClientParts) → Cleans id
-  of_client id =
-      let (r, answer_is, h) = part_of_call by is id in record { r = r; answer_is = answer_is; cleans = h }
+module _ {T U G C : Type 0} {sends : T → Queue → Result ℕ IoFault → T → Type 0} {before after : BackendState T U G C} {out : List (ClientParts × T)} (c : CleansTo sends before out after) where
+  all_live : AllLive after
+  all_live id p there =
+      elim (option_cases (client_in before id)) [
+        | inl none ↦ absurd (none_and_some (client_in after id) (ap (λ (x : Seen T U C). x.part) (c.unknown id none).1 ∙ none) there)
+        | inr (x, was) ↦
+            elim (split x.is_killed) [
+              | inl dead ↦ absurd (none_and_some (client_in after id) (c.killed id x was dead).4 there)
+              | inr live ↦ let is : p ≡ record x { waiting = [] } = one_value (client_in after id) there (c.live id x was live).1 in rw is (live, refl)
+            ]
+      ]
 
-  all_live : (o : Vec (ClientParts × T) Global) → out ≡ reply.Cleanup (Ok o) → AllLive after
-  all_live o fine id p there = grind (arith, of_client, either_option, none_and_some, split, cleaned_killed, cleaned_live, seen)
-
-  refused_as : (l : OutOfMemory) → out ≡ reply.Cleanup (Err l) → e.refused ≡ true
-  refused_as l failed = by.refused.1 (inl (ap lacks_growth (is ∙ ap (λ (o : Reply T U). Asked step.Cleanup o) failed)))
+  -- a client that is killed, if it is stored, is gone then
+  gone_then : (id : ClientParts) → ((p : Part T U C) → client_in before id ≡ Some p → p.is_killed ≡ true) → client_in after id ≡ None
+  gone_then id gone =
+      elim (option_cases (client_in before id)) [
+        | inl none ↦ ap (λ (x : Seen T U C). x.part) (c.unknown id none).1 ∙ none
+        | inr (x, was) ↦ (c.killed id x was (gone x was)).4
+      ]
 
 -- ---- what the last round leaves of the client
 
@@ -117,9 +123,6 @@ module _ {T U C : Type 0} where
   EndedBy fault.InvalidInput found = Unit {0}
   EndedBy fault.OutOfMemory found = Unit {0}
   EndedBy _ found = IsGone found
-
-not_open : {f : IoFault} → ◌≡◌ {A = Result Handed ActionError} (Err (Io f)) (Err ActionOpen) → ⊥
-not_open is = absurd cc
 
 module _ {T U C : Type 0} (table : List InterfaceRow) (id : ClientParts) (s t : Seen T U C) where
   read_blocked : ReadAs table id (Err (Io fault.WouldBlock)) s t → IsIdle t.part
@@ -255,85 +258,76 @@ module _ {H T U G C : Type 0} (w : World T G C) (answers : Answering H T U G C) 
 
   -- ---- a client
 
-  -- the cleanup was made
-  shut_then : (offer : Offer G) (out : Vec (ClientParts × T) Global) (s t : Seen T U C) (lacked : Bool) (did : List (Deed U)) → CleanedAs w id offer (Ok out) s lacked did t
-      → Shut s.part → (t.part ≡ None) ⊎ IsBusy t.part
-  shut_then offer out s t lacked did h shut =
-      elim (either_option s.part h) [
-        | inl (none, rest) ↦ inl (gone_then w id offer out s t lacked did h (λ p there. absurd (none_and_some _ none there)))
-        | inr (p, there, rest) ↦
-            elim (split p.is_killed) [
-              | inl dead ↦ inl (gone_then w id offer out s t lacked did h (λ p' there'. (grind (arith))))
-              | inr live ↦ inr (record p { waiting = [] }, (cleaned_live w id offer out s t lacked did p there live h).1, live, (grind (arith, shut p there)))
-            ]
-      ]
-
   abbrev Refused : ServerState T U G C → Option (Part T U C) → Type 0
   Refused before found = (found ≡ None) ⊎ (IsBusy found ⊎ (before.last_client < id.serial))
 
-  swept : (before : ServerState T U G C) (offer : Offer G) (out : Vec (ClientParts × T) Global) (s t : Seen T U C) (lacked : Bool) (did : List (Deed U)) → CleanedAs w id offer (Ok out) s lacked did t
-      → (f : IoFault) (read : ℕ) → EndedBy f s.part → (f ≡ fault.InvalidInput → Refused before t.part) → LeftBy before id t.part (dispatched f read)
-  swept before offer out s t lacked did h fault.WouldBlock read idle shut = grind (arith, still, true≢false, eq-eqb, eqb read 0)
-    where
-      still : IsIdle t.part
-      still = let (handed, is, made) = cleaned_live w id offer out s t lacked did idle.0 idle.1 idle.2 h in (record idle.0 { waiting = [] }, is, idle.2, idle.3)
-  swept before offer out s t lacked did h fault.InvalidInput read ended shut = shut refl
-  swept before offer out s t lacked did h fault.OutOfMemory read ended shut = tt
-  swept before offer out s t lacked did h f read gone shut = gone_then w id offer out s t lacked did h gone
+  -- the cleanup was made
+  module _ {mid after : BackendState T U G C} {out : List (ClientParts × T)} (c : CleansTo w.sends mid out after) where
+    shut_then : Shut (client_in mid id) → (client_in after id ≡ None) ⊎ IsBusy (client_in after id)
+    shut_then shut =
+        elim (option_cases (client_in mid id)) [
+          | inl none ↦ inl (ap (λ (x : Seen T U C). x.part) (c.unknown id none).1 ∙ none)
+          | inr (p, there) ↦
+              elim (split p.is_killed) [
+                | inl dead ↦ inl (c.killed id p there dead).4
+                | inr live ↦ inr (record p { waiting = [] }, (c.live id p there live).1, live, (grind (arith, shut p there)))
+              ]
+        ]
+
+    swept : (before : ServerState T U G C) (f : IoFault) (read : ℕ) → EndedBy f (client_in mid id) → (f ≡ fault.InvalidInput → Refused before (client_in after id))
+        → LeftBy before id (client_in after id) (dispatched f read)
+    swept before fault.WouldBlock read idle shut = grind (arith, still, true≢false, eq-eqb, eqb read 0)
+      where
+        still : IsIdle (client_in after id)
+        still = (record idle.0 { waiting = [] }, (c.live id idle.0 idle.1 idle.2).1, idle.2, idle.3)
+    swept before fault.InvalidInput read ended shut = shut refl
+    swept before fault.OutOfMemory read ended shut = tt
+    swept before f read gone shut = gone_then c id gone
 
   pub dispatch_leaves : (h h' : H) (before : ServerState T U G C) (result : Result ℕ IoFault) (after : BackendState T U G C) → DispatchesClient w answers id h before result h' after
       → DispatchOfOneLeaves answers before id result after
-  dispatch_leaves h h' before result after (calls, lacked, answer, mid, rounds, ends) = record {
-    client = client c.r (result_as c.r c.answer_is) c.cleans;
-    all = λ fine. all c.r c.answer_is fine;
-    memory = λ lacks. ends.refused ∙ memory c.r c.answer_is (sym (result_as c.r c.answer_is) ∙ lacks);
-    globals = λ keeps. cleanup_keeps w answers keeps before mid after calls lacked answer result ends ∙ client_keeps w answers keeps id h h' before mid calls lacked answer rounds;
-  }
+  dispatch_leaves h h' before result after (calls, lacked, answer, mid, rounds, ends) =
+      let (r, says, left) = cleans ends.cleans ends.cleanup_is in
+      let is = ends.result_is ∙ ap (λ (o : Reply T U). cleaned o answer) says ∙ ap (λ (a : Result ℕ IoFault). after_cleanup r a) rounds.answer_is in
+      record {
+        client = rw is (client r left);
+        all = λ fine. all r left (λ lacks. fine (is ∙ lacks));
+        memory = λ lacks. ends.refused ∙ memory r left (sym is ∙ lacks);
+        globals = λ keeps. cleanup_keeps w answers keeps before mid after calls lacked answer result ends ∙ client_keeps w answers keeps id h h' before mid calls lacked answer rounds;
+      }
     where
-      c : Cleans w mid after ends.cleanup ends.out ends.cleans ends.cleanup_is id
-      c = of_client w mid after ends.cleanup ends.out ends.cleans ends.cleanup_is id
+      refused : (before.last_client < id.serial) ⊎ (id.serial ≤ before.last_client) → (Shut (seen id mid).part → ((seen id after.server).part ≡ None) ⊎ IsBusy (seen id after.server).part)
+          → rounds.fault ≡ fault.InvalidInput → Refused before (seen id after.server).part
+      refused (inl unborn) then so = inr (inr unborn)
+      refused (inr born) then so =
+          elim (then (last_shut rounds.rounds_end.end (born_rounds rounds.rounds_end.rounds born) so)) [ inl none ↦ inl none | inr busy ↦ inr (inl busy) ]
 
-      result_as : (r : Result (Vec (ClientParts × T) Global) OutOfMemory) → ends.out ≡ reply.Cleanup r → result ≡ after_cleanup r (dispatched rounds.fault rounds.left.read)
-      result_as r is = ends.result_is ∙ ap (λ (o : Reply T U). cleaned o answer) is ∙ ap (λ (a : Result ℕ IoFault). after_cleanup r a) rounds.answer_is
+      client : (r : Result (Vec (ClientParts × T) Global) OutOfMemory) → Leaves w mid ends.cleanup after.server r → LeftBy before id (seen id after.server).part (after_cleanup r (dispatched rounds.fault rounds.left.read))
+      client (Ok out) left =
+          swept left before rounds.fault rounds.left.read (last_leaves rounds.rounds_end.end) (refused (cases_lt before.last_client id.serial) (shut_then left))
+      client (Err l) left = tt
 
-      refused : (out : Vec (ClientParts × T) Global) → CleanedAs w id mid.offer (Ok out) (seen id mid) (ends.cleanup.lacks id) (ends.cleanup.did id) (seen id after.server)
-          → rounds.fault ≡ fault.InvalidInput → (before.last_client < id.serial) ⊎ (id.serial ≤ before.last_client) → Refused before (seen id after.server).part
-      refused out h so (inl unborn) = inr (inr unborn)
-      refused out h so (inr born) =
-          elim (shut_then mid.offer out (seen id mid) (seen id after.server) (ends.cleanup.lacks id) (ends.cleanup.did id) h
-          (last_shut rounds.rounds_end.end (born_rounds rounds.rounds_end.rounds born) so)) [
-            | inl none ↦ inl none
-            | inr busy ↦ inr (inl busy)
-          ]
+      all : (r : Result (Vec (ClientParts × T) Global) OutOfMemory) → Leaves w mid ends.cleanup after.server r → ¬ (after_cleanup r (dispatched rounds.fault rounds.left.read) ≡ Err fault.OutOfMemory) → AllLive after
+      all (Ok out) left fine = all_live left
+      all (Err l) left fine = absurd (fine refl)
 
-      client : (r : Result (Vec (ClientParts × T) Global) OutOfMemory) → result ≡ after_cleanup r (dispatched rounds.fault rounds.left.read)
-          → CleanedAs w id mid.offer r (seen id mid) (ends.cleanup.lacks id) (ends.cleanup.did id) (seen id after.server) → LeftBy before id (seen id after.server).part result
-      client (Ok out) is cleans =
-          rw is (swept before mid.offer out (seen id mid) (seen id after.server) (ends.cleanup.lacks id) (ends.cleanup.did id) cleans rounds.fault rounds.left.read
-          (last_leaves rounds.rounds_end.end) (λ so. refused out cleans so (cases_lt before.last_client id.serial)))
-      client (Err l) is cleans = rw is tt
-
-      all : (r : Result (Vec (ClientParts × T) Global) OutOfMemory) → ends.out ≡ reply.Cleanup r → ¬ (result ≡ Err fault.OutOfMemory) → AllLive after
-      all (Ok out) is fine = all_live w mid after ends.cleanup ends.out ends.cleans ends.cleanup_is out is
-      all (Err l) is fine = absurd (fine (result_as (Err l) is))
-
-      memory : (r : Result (Vec (ClientParts × T) Global) OutOfMemory) → ends.out ≡ reply.Cleanup r → after_cleanup r (dispatched rounds.fault rounds.left.read) ≡ Err fault.OutOfMemory
+      memory : (r : Result (Vec (ClientParts × T) Global) OutOfMemory) → Leaves w mid ends.cleanup after.server r → after_cleanup r (dispatched rounds.fault rounds.left.read) ≡ Err fault.OutOfMemory
           → (lacked || ends.cleanup.refused) ≡ true
-      memory r is lacks = grind (arith, last_starved rounds.rounds_end.end, refused_as w mid after ends.cleanup ends.out ends.cleans ends.cleanup_is, rounds.fault, rounds.left.read, r, rounds.rounds_end.lacked_is)
+      memory (Ok out) left lacks = grind (arith, last_starved rounds.rounds_end.end, rounds.fault, rounds.left.read, rounds.rounds_end.lacked_is)
+      memory (Err l) left lacks = or_true lacked ends.cleanup.refused left.1
 
 -- ---- several clients
 
 module _ {H T U G C : Type 0} (w : World T G C) (answers : Answering H T U G C) where
   pub dispatches_leave : (ids : List ClientParts) (h h' : H) (before : ServerState T U G C) (result : Result ℕ IoFault) (after : BackendState T U G C)
       → DispatchesAll w answers ids h before result h' after → DispatchOfSeveralLeaves answers before result after
-  dispatches_leave ids h h' before result after (calls, lacked, total, mid, each, ends) = record {
-    all = all c.r c.answer_is;
-    globals = λ keeps. cleanup_keeps w answers keeps before mid after calls lacked (Ok total) result ends ∙ clients_keep w answers keeps ids h h' before mid calls lacked total each;
-  }
+  dispatches_leave ids h h' before result after (calls, lacked, total, mid, each, ends) =
+      let (r, says, left) = cleans ends.cleans ends.cleanup_is in record {
+        all = rw (ends.result_is ∙ ap (λ (o : Reply T U). cleaned o (Ok total)) says) (all r left);
+        globals = λ keeps. cleanup_keeps w answers keeps before mid after calls lacked (Ok total) result ends ∙ clients_keep w answers keeps ids h h' before mid calls lacked total each;
+      }
     where
-      c : Cleans w mid after ends.cleanup ends.out ends.cleans ends.cleanup_is (record { slot = 0; serial = 0 })
-      c = of_client w mid after ends.cleanup ends.out ends.cleans ends.cleanup_is (record { slot = 0; serial = 0 })
-
-      all : (r : Result (Vec (ClientParts × T) Global) OutOfMemory) → ends.out ≡ reply.Cleanup r → MatchResult result (λ count. AllLive after) (λ f. (f ≡ fault.OutOfMemory) × (after.refused ≡ true))
-      all (Ok out) is = rw (ends.result_is ∙ ap (λ (o : Reply T U). cleaned o (Ok total)) is) (all_live w mid after ends.cleanup ends.out ends.cleans ends.cleanup_is out is)
-      all (Err l) is = rw (ends.result_is ∙ ap (λ (o : Reply T U). cleaned o (Ok total)) is) (refl, ends.refused ∙ or_true lacked ends.cleanup.refused (refused_as w mid after ends.cleanup ends.out ends.cleans ends.cleanup_is l is))
+      all : (r : Result (Vec (ClientParts × T) Global) OutOfMemory) → Leaves w mid ends.cleanup after.server r
+          → MatchResult (after_cleanup r (Ok total)) (λ count. AllLive after) (λ f. (f ≡ fault.OutOfMemory) × (after.refused ≡ true))
+      all (Ok out) left = all_live left
+      all (Err l) left = (refl, ends.refused ∙ or_true lacked ends.cleanup.refused left.1)

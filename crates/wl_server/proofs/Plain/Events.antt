@@ -1,7 +1,8 @@
 -- An event that the program sends.
+use Rattle.wl_server.specs.declared.notes.Happening.{Happening}
 use Rattle.std.proofs.Common.{◌≡◌, ℕ, Bool, true, false, cond, List, [], ◌∷◌, ◌++◌, append-nil, map, Option, None, Some, is_some, Result, Ok, Err, refl, sym, ap, ◌∙◌, true≢false, arith}
 use mathlib.Core.Logic.{inl, inr}
-use Rattle.std.specs.Prelude.{◌⊎◌, option_map}
+use Rattle.std.specs.Prelude.{◌⊎◌, option_map, ◌≢◌}
 use Rattle.wl_wire.specs.declared.argument.Argument.{Argument}
 use Rattle.wl_wire.specs.declared.argument.ArgumentType.{ArgumentType}
 use Rattle.wl_wire.specs.declared.argument.Token.{Token}
@@ -37,7 +38,7 @@ use Rattle.wl_server.specs.Plain.Events.{ChecksTo, EmitsEvent, EventIsPut, Event
 use Rattle.wl_server.specs.Server.{seen}
 use Rattle.wl_server.specs.Telling.{Core, Did, Tells, closed_down, core_of, end_deeds}
 use Rattle.wl_server.proofs.OverRuns.Moves.MovesOfCalls.{granted_named}
-use Rattle.wl_server.proofs.Plain.Base.{IsOfOne, became, names_stay, nothing_changes, nothing_new, of_one, split_bool, stored_stay, not_stored}
+use Rattle.wl_server.proofs.Plain.Base.{IsOfOne, became, names_stay, refine, nothing_changes, nothing_new, of_one, split_bool, stored_stay, not_stored}
 use Rattle.wl_server.proofs.Plain.Naming.{names_so, removed_named, removed_others}
 use Rattle.wl_server.proofs.Plain.Verdicts.{IsTold, told}
 use Rattle.wl_server.proofs.Plain.ReadingEnds.{split_result}
@@ -70,60 +71,58 @@ module _ {U : Type 0} (client : ClientParts) (store : Store (Kept U)) where
 
 module _ {T U C : Type 0} (sends : T → Queue → Result ℕ IoFault → T → Type 0) (client : ClientParts) (table : List InterfaceRow) (m : SessionMessage) where
   -- The event is put. If it ends its sender, that has left. The client lives on, or is closed down.
-  record IsPut (p : Part T U C) (x : Object (Kept U)) (ends lacked : Bool) (did : List (Deed U)) (q : Part T U C) : Type 0 where
+  record IsPut (p : Part T U C) (x : Object (Kept U)) (ends lacked : Bool) (notes : List (Happening U)) (q : Part T U C) : Type 0 where
     store_is : q.store ≡ cond ends (removed p.store m.sender.number) p.store
     waiting_is : q.waiting ≡ p.waiting ++ cond ends (note_of_end client m.sender.number x) []
-    told : ((q.is_killed ≡ false) × (lacked ≡ false) × (notes_in did ≡ [])) ⊎ ((q.is_killed ≡ true) × (notes_in did ≡ Disconnected ConnectionClosed ∷ []))
+    told : ((q.is_killed ≡ false) × (lacked ≡ false) × (notes ≡ [])) ⊎ ((q.is_killed ≡ true) × (notes ≡ Disconnected ConnectionClosed ∷ []))
 
   -- what the call is of a client that is stored: nothing, as it is killed, or the event is refused; or the event is granted, and there
   -- is no memory for it, or it is put
-  data Comes (p : Part T U C) (answer : Result (Unit {0}) EventError) (lacked : Bool) (did : List (Deed U)) (q : Part T U C) : Type 0 where
-    is_dropped : p.is_killed ≡ true → answer ≡ Ok tt → lacked ≡ false → did ≡ [] → q ≡ p → Comes p answer lacked did q
-    is_denied : (e : EventError) → p.is_killed ≡ false → event_check client p.store table m ≡ Err e → answer ≡ Err e → lacked ≡ false → did ≡ [] → q ≡ p → Comes p answer lacked did q
+  data Comes (answer : Result (Unit {0}) EventError) (lacked : Bool) (did : List (Deed U)) (p q : Part T U C) : Type 0 where
+    is_dropped : p.is_killed ≡ true → answer ≡ Ok tt → lacked ≡ false → did ≡ [] → q ≡ p → Comes answer lacked did p q
+    is_denied : (e : EventError) → e ≢ refused.OutOfMemory → p.is_killed ≡ false → event_check client p.store table m ≡ Err e → answer ≡ Err e → lacked ≡ false → did ≡ [] → q ≡ p → Comes answer lacked did p q
     is_kept : (x : Object (Kept U)) (ends : Bool) → p.is_killed ≡ false → event_check client p.store table m ≡ Ok (x, ends) → answer ≡ Err refused.OutOfMemory → lacked ≡ true
-        → core_of q ≡ core_of p → notes_in did ≡ [] → Comes p answer lacked did q
-    is_put : (x : Object (Kept U)) (ends : Bool) → p.is_killed ≡ false → event_check client p.store table m ≡ Ok (x, ends) → answer ≡ Ok tt → IsPut p x ends lacked did q
-        → Comes p answer lacked did q
+        → core_of q ≡ core_of p → notes_in did ≡ [] → Comes answer lacked did p q
+    is_put : (x : Object (Kept U)) (ends : Bool) → p.is_killed ≡ false → event_check client p.store table m ≡ Ok (x, ends) → answer ≡ Ok tt → IsPut p x ends lacked (notes_in did) q
+        → Comes answer lacked did p q
 
   quiet : (ends : Bool) (c d : Core U C) (x : Object (Kept U)) → told_notes ((ends_sender client c m x ends).events d) ≡ []
   quiet true c d x = left_silent (is_some (named d.store m.sender)) (id_of m.sender) x.value.user_data
   quiet false c d x = refl
 
   module _ (p q : Part T U C) (live : p.is_killed ≡ false) (x : Object (Kept U)) (ends lacked : Bool) (did : List (Deed U)) where
-    put_told : IsTold (ends_sender client (core_of p) m x ends) lacked did q → IsPut p x ends lacked did q
+    put_told : IsTold (ends_sender client (core_of p) m x ends) lacked did q → IsPut p x ends lacked (notes_in did) q
     put_told t = grind (arith, ends, cond, notes_in, end_deeds, append-nil, closed_down, true≢false, quiet)
 
     -- the event could not be put: the client is closed down
-    put_closed : IsTold (ends_closed client (core_of p) m x ends) lacked did q → IsPut p x ends lacked did q
+    put_closed : IsTold (ends_closed client (core_of p) m x ends) lacked did q → IsPut p x ends lacked (notes_in did) q
     put_closed t = grind (arith, ends, cond, notes_in, end_deeds, append-nil, closed_down, true≢false, quiet)
 
-  put_noted : (p q : Part T U C) (x : Object (Kept U)) (ends lacked : Bool) (did rest : List (Deed U)) → notes_in did ≡ notes_in rest → IsPut p x ends lacked rest q → IsPut p x ends lacked did q
-  put_noted p q x ends lacked did rest same r = grind (arith)
-
   granted_comes : (p q : Part T U C) (x : Object (Kept U)) (ends : Bool) (answer : Result (Unit {0}) EventError) (lacked : Bool) (did : List (Deed U)) → p.is_killed ≡ false
-      → event_check client p.store table m ≡ Ok (x, ends) → SendsGranted sends client p m x ends answer lacked did q → Comes p answer lacked did q
+      → event_check client p.store table m ≡ Ok (x, ends) → SendsGranted sends client p m x ends answer lacked did q → Comes answer lacked did p q
   granted_comes p q x ends answer lacked did live is (inl (asks, says, lacks, none, same)) = is_kept x ends live is says lacks (ap core_of same) (ap notes_in none)
   granted_comes p q x ends answer lacked did live is (inr (es, rest, wrote, link, by, sent, did_so)) = at wrote sent
     where
       silent : notes_in did ≡ notes_in rest
       silent = ap notes_in did_so ∙ behind_sends es rest
 
-      closed : Tells sends (ends_closed client (core_of p) m x ends) link lacked rest q → answer ≡ Ok tt → Comes p answer lacked did q
-      closed tells' says = is_put x ends live is says (put_noted p q x ends lacked did rest silent (put_closed p q live x ends lacked rest (told sends _ link lacked rest q tells')))
+      closed : Tells sends (ends_closed client (core_of p) m x ends) link lacked rest q → answer ≡ Ok tt → Comes answer lacked did p q
+      closed tells' says = is_put x ends live is says (rw silent (put_closed p q live x ends lacked rest (told sends _ link lacked rest q tells')))
 
-      at : (wrote : Result (Unit {0}) IoFault) → SentAs sends client p m x ends wrote link answer lacked rest q → Comes p answer lacked did q
-      at (Ok u) (more, tells', says, put_so) = is_put x ends live is says (put_noted p q x ends lacked did more (silent ∙ ap notes_in put_so) (put_told p q live x ends lacked more (told sends _ link lacked more q tells')))
+      at : (wrote : Result (Unit {0}) IoFault) → SentAs sends client p m x ends wrote link answer lacked rest q → Comes answer lacked did p q
+      at (Ok u) (more, tells', says, put_so) = is_put x ends live is says (rw (silent ∙ ap notes_in put_so) (put_told p q live x ends lacked more (told sends _ link lacked more q tells')))
       at (Err fault.OutOfMemory) (says, lacks, none, same) = is_kept x ends live is says lacks (ap core_of same) (silent ∙ ap notes_in none)
       at (Err other) sent = closed sent.0 sent.1
 
-  comes_to : (p q : Part T U C) (answer : Result (Unit {0}) EventError) (lacked : Bool) (did : List (Deed U)) → SendsEvent sends client table p m answer lacked did q → Comes p answer lacked did q
-  comes_to p q answer lacked did h =
+  comes_to : (answer : Result (Unit {0}) EventError) (lacked : Bool) (did : List (Deed U)) (p q : Part T U C) → SendsEvent sends client table p m answer lacked did q → Comes answer lacked did p q
+  comes_to answer lacked did p q h =
       elim (split_bool p.is_killed h) [
         | inl (dead, (is, calm, none, same)) ↦ is_dropped dead is calm none same
         | inr (live, checked) ↦
             elim (split_result (event_check client p.store table m) checked) [
               | inl (g, is, granted) ↦ granted_comes p q g.0 g.1 answer lacked did live is granted
-              | inr (e, is, (answered, calm, none, same)) ↦ is_denied e live is answered calm none same
+              | inr (e, is, (answered, calm, none, same)) ↦
+                  is_denied e (λ memory. never_memory client p.store table m (rw memory at is)) live is answered calm none same
             ]
       ]
 
@@ -136,22 +135,17 @@ module _ {T U G C : Type 0} (w : World T G C) (before after : BackendState T U G
   abbrev client : ClientParts
   client = message.sender_id.client
 
-  -- what the call does to the client of the sender
-  abbrev Does : ClientParts → Bool → List (Deed U) → Part T U C → Part T U C → Type 0
-  Does id lacked did p q = SendsEvent w.sends id before.server.offer.table p m answer lacked did q
-
-  module _ (one : IsOfOne before after client (Does client) (answer ≡ Err refused.InvalidId)) where
+  module _ (one : IsOfOne before after client (Comes w.sends client before.server.offer.table m answer) (answer ≡ Err refused.InvalidId)) where
     sent_as : EventSentAs before m answer after
     sent_as =
         elim one.own [
           | not_stored none is calm same ↦ rw is (inl (none, refl), nothing_changes one same)
-          | became p q did there does same ↦
-              elim (comes_to w.sends client before.server.offer.table m p q answer after.refused did does) [
+          | became p q did there comes same ↦
+              elim comes [
                 | is_dropped dead is calm none stays ↦
                     rw is (inl (ap (option_map (λ (y : Part T U C). y.is_killed)) there ∙ ap Some dead, nothing_changes one (nothing_new _ _ p q did there stays (ap notes_in none) same)))
-                | is_denied e live check is calm none stays ↦
-                    rw is (was_denied e (λ memory. never_memory client p.store before.server.offer.table m (check ∙ ap (λ (x : EventError). let y : Result (Object (Kept U) × Bool) EventError = Err x in y) memory))
-                    (inr (p, there, live, check), nothing_changes one (nothing_new _ _ p q did there stays (ap notes_in none) same)))
+                | is_denied e other live check is calm none stays ↦
+                    rw is (was_denied e other (inr (p, there, live, check), nothing_changes one (nothing_new _ _ p q did there stays (ap notes_in none) same)))
                 | is_kept x ends live check is lacks core silent ↦ rw is (((x, ends), (p, there, live, check)), lacks, (grind (arith, option_map, core_of)), (grind (arith, append-nil)))
                 | is_put x ends live check is so ↦ rw is (inr (x, ends, (p, there, live, check), event_put p q x ends did there same live check so))
               ]
@@ -164,32 +158,27 @@ module _ {T U G C : Type 0} (w : World T G C) (before after : BackendState T U G
 
         event_put : (p q : Part T U C) (x : Object (Kept U)) (ends : Bool) (did : List (Deed U)) → client_of before.server client ≡ Some p
             → seen client after.server ≡ record { part = Some q; made = (seen client before.server).made ++ notes_in did } → p.is_killed ≡ false
-            → event_check client p.store before.server.offer.table m ≡ Ok (x, ends) → IsPut w.sends client before.server.offer.table m p x ends after.refused did q → EventIsPut before m.sender x ends after
+            → event_check client p.store before.server.offer.table m ≡ Ok (x, ends) → IsPut w.sends client before.server.offer.table m p x ends after.refused (notes_in did) q → EventIsPut before m.sender x ends after
         event_put p q x ends did there same live check put' =
             grind (arith, and_then, named, m, waiting_of, cond, note_of_end, client, option_map, seen, append-nil, removed_named, granted_named client p.store before.server.offer.table m (x, ends) check)
 
     -- another id of the client names what it named
     others_stay : OtherObjectsStay before m.sender after
     others_stay other differ = names_stay one other
-        (grind (arith, comes_to, removed_others, names_so, granted_named, named, true≢false, same_client client other.client))
+        (grind (arith, removed_others, names_so, granted_named, named, true≢false, same_client client other.client))
 
     event_memory : EventMemory before client answer after
     event_memory =
         elim one.own [
           | not_stored none is calm same ↦ rw is calm
-          | became p q did there does same ↦
-              elim (comes_to w.sends client before.server.offer.table m p q answer after.refused did does) [
+          | became p q did there comes same ↦
+              elim comes [
                 | is_dropped dead is calm none stays ↦ rw is (λ lacks. absurd (true≢false (sym lacks ∙ calm)))
-                | is_denied e live check is calm none stays ↦
-                    rw is (was_denied e (λ memory. never_memory client p.store before.server.offer.table m (check ∙ ap (λ (x : EventError). let y : Result (Object (Kept U) × Bool) EventError = Err x in y) memory)) calm)
+                | is_denied e other live check is calm none stays ↦ rw is (grind (arith, e, calm, other))
                 | is_kept x ends live check is lacks core silent ↦ rw is lacks
                 | is_put x ends live check is so ↦ rw is (λ lacks. (grind (arith, option_map, true≢false)))
               ]
         ]
-      where
-        was_denied : (e : EventError) → (e ≡ refused.OutOfMemory → ⊥) → after.refused ≡ false → EventMemory before client (Err e) after
-        was_denied refused.OutOfMemory never calm = absurd (never refl)
-        was_denied _ never calm = calm
 
 module _ {T U G C : Type 0} (w : World T G C) (before after : BackendState T U G C) (message : Message IdParts Token) where
   pub emits_event : (answer : Result (Unit {0}) EventError) → Calls w before (step.SendEvent message) (reply.SendEvent answer) after
@@ -203,5 +192,6 @@ module _ {T U G C : Type 0} (w : World T G C) (before after : BackendState T U G
     memory = event_memory w before after message answer one;
   }
     where
-      one : IsOfOne before after message.sender_id.client (Does w before after message answer message.sender_id.client) (answer ≡ Err refused.InvalidId)
-      one = of_one call.step message.sender_id.client (Does w before after message answer) _ (λ id s t lacked did (r, is, h). let e : r ≡ answer = cc in rw e at h) refl refl refl
+      one : IsOfOne before after message.sender_id.client (Comes w.sends message.sender_id.client before.server.offer.table (session_content message) answer) (answer ≡ Err refused.InvalidId)
+      one = refine (of_one call.step message.sender_id.client (λ id lacked did p q. SendsEvent w.sends id before.server.offer.table p (session_content message) answer lacked did q) _
+          (λ id s t lacked did (r, is, h). let e : r ≡ answer = cc in rw e at h) refl refl refl) (comes_to w.sends message.sender_id.client before.server.offer.table (session_content message) answer)

@@ -36,8 +36,8 @@ use Rattle.wl_server.specs.Steps.{AnswersShared}
 use Rattle.wl_server.specs.Telling.{closed_down, core_of, end_deeds, part_of, tells}
 use Rattle.wl_server.specs.Inside.Carried.{told_notes}
 use Rattle.wl_server.proofs.OverRuns.Ids.GivenLaws.{created_elsewhere, disabled_changes, freed_changes}
-use Rattle.wl_server.proofs.Plain.Base.{by_growth, match_option, nothing_new, of_each, offer_of, some_lacks, split_bool}
-use Rattle.wl_server.proofs.Readings.Finishing.{where_some}
+use Rattle.wl_server.proofs.Plain.Base.{by_growth, option_cases, nothing_new, of_each, offer_of, some_lacks, split_bool}
+use Rattle.wl_server.proofs.Readings.Finishing.{where_none, where_some}
 use Rattle.wl_server.proofs.Plain.Verdicts.{IsTold, told}
 
 -- ---- a client that is told
@@ -45,7 +45,8 @@ use Rattle.wl_server.proofs.Plain.Verdicts.{IsTold, told}
 module _ {T U C : Type 0} (s t : Seen T U C) where
   -- a client that feels nothing
   unfelt_as : t ≡ s → IsToldOrKilled s t
-  unfelt_as same = match_option s.part (λ none. same) (λ p there. (p.link, inl (grind (arith))))
+  unfelt_as same =
+      elim (option_cases s.part) [ inl none ↦ where_none s.part (sym none) _ _ same | inr (p, there) ↦ where_some s.part p (sym there) _ _ (p.link, inl (grind (arith))) ]
 
   -- its objects stay
   objects_stay : IsToldOrKilled s t → (o : IdParts) → and_then t.part (λ p. named p.store o) ≡ and_then s.part (λ p. named p.store o)

@@ -21,7 +21,7 @@ use Rattle.wl_server.specs.Ids.{ClientParts, IdParts, same_client}
 use Rattle.wl_server.specs.Part.{Part, fresh_object, id_at, named, id_of, serial_of}
 use Rattle.wl_server.specs.PartStep.{Asked, World, around}
 use Rattle.wl_server.specs.Steps.{Makes}
-use Rattle.wl_server.specs.Plain.{client_in, killed_in, object_in}
+use Rattle.wl_server.specs.Plain.{client_in, object_in}
 use Rattle.wl_server.specs.Plain.Reading.{IsHandedOut, IsOld, OpenReadAs, ReadAs, ReadingMemory, ReadsClient, ReadsWithin}
 use Rattle.wl_server.specs.Reading.{Around, NextAction, action_content, answered, new_reading, read_on, binds, breaks, converted, garbled, other_request, server, registers, syncs}
 use Rattle.wl_server.specs.ReadingEnds.{ComesOfLast, EndsForAReason, ReadingEnds}
@@ -29,13 +29,11 @@ use Rattle.wl_server.specs.Server.{Seen, seen}
 use Rattle.wl_server.specs.Telling.{Core, end_deeds, part_of, reader_part, Told, closed_down, objects_in, core_of}
 use Rattle.wl_server.proofs.Dispatches.Receiving.{reading_bounded}
 use Rattle.wl_server.proofs.Plain.Base.{Change, IsOfOne, became, names_stay, none_and_some, not_stored, nothing_new, of_one, of_own, one_of, one_value, part_of_call, refine, same_is, split_bool, stored_stay, when_false}
-use Rattle.wl_server.proofs.Plain.ReadingEnds.{MemoryOf, reading_ends, reading_memory}
-use Rattle.wl_server.proofs.Plain.ReadingNotes.{notes_of_reading}
+use Rattle.wl_server.proofs.Plain.ReadingEnds.{MemoryOf, reading_ends, reading_memory, notes_of_reading, either_request}
 use Rattle.wl_wire.specs.Message.{WireMessage}
-use Rattle.wl_wire.specs.Table.{MessageRow, name_of, callback_id, registry_id}
+use Rattle.wl_wire.specs.Table.{MessageRow, callback_id, registry_id}
 use Rattle.wl_link.specs.declared.object.Object.{Object}
 use Rattle.wl_server.specs.declared.objects.Kept.{Kept}
-use Rattle.wl_server.specs.Errors.{since_text}
 use Rattle.wl_server.specs.Requests.{Outcome, convert, start, Whole, Wrong, is_valid_new, made_object, with_made}
 use Rattle.wl_server.proofs.OverRuns.Announced.RequestCases.{request_case}
 use Rattle.std.proofs.lemmas.Bool.{ne_eqb}
@@ -95,22 +93,16 @@ module _ {U : Type 0} where
 
 module _ {U G C : Type 0} (a : Around G C) (c : Core U C) where
   -- whatever becomes of the verdict, each id but those that it made names what it named
-  record Keeps (v : Verdict (Core U C) (Told U)) : Type 0 where
-    core : IdsStay (objects_in c) (objects_in v.core)
-    starved : IdsStay (objects_in c) (objects_in v.starved)
-    last : (d : Core U C) → objects_in (v.last d) ≡ objects_in d
+  abbrev Keeps : Verdict (Core U C) (Told U) → Type 0
+  Keeps v = respect.Keeps (server a) (λ c gave d. IdsStay (objects_in c) (objects_in d)) c v
 
-  keeps_all : (v : Verdict (Core U C) (Told U)) → objects_in v.core ≡ objects_in c → objects_in v.starved ≡ objects_in c
-      → ((d : Core U C) → objects_in (v.last d) ≡ objects_in d) → Keeps v
-  keeps_all v core starved last = grind (arith, objects_in, ids_same)
-
-  -- with these objects
+  -- if its objects are these
   keeps_by : (o : Objects (Kept U)) → IdsStay (objects_in c) o → (v : Verdict (Core U C) (Told U)) → objects_in v.core ≡ o → objects_in v.starved ≡ o
       → ((d : Core U C) → objects_in (v.last d) ≡ objects_in d) → Keeps v
-  keeps_by o stay v core starved last = grind (arith, objects_in)
+  keeps_by o stay v core starved last = record { carried = λ put others wrote is written. (grind (arith, objects_in, closed_down)); starved = λ asks. (grind (arith, objects_in)) }
 
   breaks_keeps : (code : ℕ) (text : List ℕ) → Keeps (breaks a c code text)
-  breaks_keeps code text = keeps_all (breaks a c code text) refl refl (λ d. refl)
+  breaks_keeps code text = keeps_by (objects_in c) (ids_same (objects_in c)) (breaks a c code text) refl refl (λ d. refl)
 
   converted_keeps : (m : WireMessage) (receiver : Object (Kept U)) (row : MessageRow) (o : Outcome U) → Came (λ ids objects. IdsStay (objects_in c) objects) o
       → Keeps (converted a c m receiver row o)
@@ -118,21 +110,15 @@ module _ {U G C : Type 0} (a : Around G C) (c : Core U C) where
   converted_keeps m receiver row (Whole d args) so = keeps_by d.objects so.0 _ refl refl (λ e. refl)
 
   other_keeps : (m : WireMessage) (receiver : Object (Kept U)) (row : MessageRow) → Keeps (other_request a c m receiver row)
-  other_keeps m receiver row = go (nat_lt receiver.version row.since)
-    where
-      go : (b : Bool) → Keeps (cond b
-          (breaks a c 1 (since_text m.opcode receiver.version row.since (name_of a.table receiver.interface.0) m.sender))
-          (converted a c m receiver row (convert a.client receiver.version (start (objects_in c) row) [] m.args)))
-      go true = breaks_keeps 1 _
-      go false =
-          converted_keeps m receiver row (convert a.client receiver.version (start (objects_in c) row) [] m.args)
-          (converts a.client receiver.version (λ ids objects. IdsStay (objects_in c) objects)
-          (λ ids o n i valid so. (grind (arith, is_some, objects_in c, ids_by_new o n i receiver.version valid))) (λ ids o n x there so. so)
-          (λ ids o so. so)
-          (start (objects_in c) row) [] m.args (ids_same (objects_in c), λ id among. among))
+  other_keeps m receiver row =
+      let so = converted_keeps m receiver row (convert a.client receiver.version (start (objects_in c) row) [] m.args)
+      (converts a.client receiver.version (λ ids objects. IdsStay (objects_in c) objects)
+      (λ ids o n i valid so. (grind (arith, is_some, objects_in c, ids_by_new o n i receiver.version valid))) (λ ids o n x there so. so) (λ ids o so. so)
+      (start (objects_in c) row) [] m.args (ids_same (objects_in c), λ id among. among)) in
+      either_request (nat_lt receiver.version row.since) Keeps (breaks_keeps 1 _) so
 
   garbled_keeps : Keeps (garbled c)
-  garbled_keeps = keeps_all (garbled c) refl refl (λ d. refl)
+  garbled_keeps = keeps_by (objects_in c) (ids_same (objects_in c)) (garbled c) refl refl (λ d. refl)
 
   handles_keeps : (m : WireMessage) → Keeps ((server a).handles c m)
   handles_keeps m =
@@ -145,9 +131,6 @@ module _ {U G C : Type 0} (a : Around G C) (c : Core U C) where
 -- ---- a reading
 
 module _ {T U G C : Type 0} (sends : T → Queue → Result ℕ IoFault → T → Type 0) (receives : T → ℕ → Result Queue IoFault → T → Type 0) (a : Around G C) where
-  verdict_keeps : (c : Core U C) (v : Verdict (Core U C) (Told U)) → Keeps a c v → respect.Keeps (server a) (λ c gave d. IdsStay (objects_in c) (objects_in d)) c v
-  verdict_keeps c v keeps = record { carried = λ put others wrote is written. (grind (arith, objects_in, closed_down)); starved = λ asks. keeps.starved }
-
   pub reads_keep : (left : ℕ) (before : ReaderState T (Core U C)) (turns : List Turn) (out : Gives (Told U)) (end : ReaderState T (Core U C))
       → Reads sends (server a) receives left before turns out end → IdsStay (objects_in before.core) (objects_in end.core)
   reads_keep left before turns out end reads =
@@ -155,8 +138,8 @@ module _ {T U G C : Type 0} (sends : T → Queue → Result ℕ IoFault → T �
       (record {
         same = λ c. ids_same (objects_in c);
         joins = λ c d e gave others. (λ first second. grind (arith, is_some, objects_in c, objects_in d, objects_in e));
-        handles = λ c m on. verdict_keeps c ((server a).handles c m) (handles_keeps a c m);
-        malformed = λ c on. verdict_keeps c (garbled c) (garbled_keeps a c);
+        handles = λ c m on. handles_keeps a c m;
+        malformed = λ c on. garbled_keeps a c;
         faulted = λ c f on. (grind (arith, ids_same, objects_in));
       })
       left before end turns out reads
@@ -223,11 +206,6 @@ module _ {T U G C : Type 0} (w : World T G C) (before after : BackendState T U G
         ]
 
     -- whether memory was refused
-    memory_by : (a : Result Handed ActionError) → MemoryOf a after.refused
-        → (a ≡ Err (Io fault.Pipe) → after.refused ≡ true → (killed_in before id ≡ Some false) × (killed_in after id ≡ Some true)) → ReadingMemory before id a after
-    memory_by (Err (Io fault.Pipe)) memory pipe = pipe refl
-    memory_by _ memory pipe = memory
-
     reads_memory : ReadingMemory before id (action_content answer) after
     reads_memory =
         elim one.own [
@@ -236,7 +214,7 @@ module _ {T U G C : Type 0} (w : World T G C) (before after : BackendState T U G
               elim so [
                 | is_open some says l calm none stays ↦ rw says calm
                 | is_dead idle dead says l calm none stays ↦ rw says (λ lacks. absurd (true≢false (sym lacks ∙ calm)))
-                | is_read idle live turns out end reads says l lacks is noted ends memory ids ↦ memory_by _ memory (λ pipe known. (grind (arith, option_map, rw pipe at ends)))
+                | is_read idle live turns out end reads says l lacks is noted ends memory ids ↦ (grind (arith, option_map, answer, memory, ends, same, there))
               ]
         ]
 

@@ -1,40 +1,41 @@
--- How a reading ends, over its turns.
-use Rattle.std.proofs.Common.{◌≡◌, ◌⊎◌, ℕ, Bool, true, false, not, cond, eqb, eqb-true, ◌&&◌, List, [], ◌∷◌, ◌++◌, map, append-nil, append_assoc, Option, None, Some, is_none, is_some, Result, Ok, Err, refl, sym, ap, subst, ◌∙◌, true≢false, arith, MatchOption, ap₂}
-use mathlib.Core.Logic.{inl, inr}
-use Rattle.std.specs.Prelude.{IsSome, MatchOption, MatchResult, ◌||◌, nat_lt, option_map}
-use Rattle.wl_wire.specs.declared.argument.Argument.TheVariants as arg
-use Rattle.wl_wire.specs.Argument.{WireArgument, type_of}
+-- How a reading ends, over its turns; and that only the end of its client is noted in it.
+use Rattle.std.proofs.Common.{◌≡◌, ℕ, List, [], ◌++◌, map, Result, refl, sym, ap, subst, ◌∙◌, arith, ◌⊎◌, Bool, true, false, not, cond, eqb, eqb-true, ◌&&◌, ◌∷◌, append-nil, append_assoc, Option, None, Some, is_none, is_some, Ok, Err, true≢false, MatchOption, ap₂}
+use Rattle.std.specs.Prelude.{nat_lt, IsSome, MatchOption, MatchResult, ◌||◌, option_map}
 use Rattle.wl_wire.specs.declared.error.IoFault.{IoFault}
-use Rattle.wl_wire.specs.declared.error.IoFault.TheVariants as fault
 use Rattle.wl_wire.specs.Message.{WireMessage}
-use Rattle.wl_wire.specs.MessageRows.{request_row, creates, next_interface}
-use Rattle.wl_wire.specs.Table.{MessageRow, display_id, name_of, registry_id, is_new_id}
+use Rattle.wl_wire.specs.Table.{MessageRow, display_id, registry_id, is_new_id}
 use Rattle.wl_link.specs.declared.object.Object.{Object}
-use Rattle.wl_link.proofs.Ids.StoreLaws.{stored_here, held_stored}
 use Rattle.wl_link.specs.Exchange.{Queue, Sending}
-use Rattle.wl_link.specs.Link.{FilledBy, LinkState, count_of, counted_answer}
 use Rattle.wl_link.specs.Puts.{Said, lacks_memory}
-use Rattle.wl_link.specs.Reader.{CarriesOut, Given, Gives, Handled, HandedOut, Halts, Reads, ReadsAs, Received, Turn, Unread, Verdict, came_to, given_first, put_and_gave, stops, with_link, ReaderState}
+use Rattle.wl_link.specs.Reader.{Gives, Reads, Turn, Verdict, came_to, put_and_gave, ReaderState, CarriesOut, Given, Handled, HandedOut, Halts, ReadsAs, Received, Unread, given_first, stops, with_link}
+use Rattle.wl_link.proofs.Readings.RespectLaws.{reads_respect}
+use Rattle.wl_link.specs.Respect.{Keeps}
+use Rattle.wl_server.specs.declared.objects.Kept.{Kept}
+use Rattle.wl_server.specs.Deeds.{Deed, Put, came_in, notes_in, Handed, Remembered}
+use Rattle.wl_server.specs.Reading.{Around, breaks, converted, exchanges_in, garbled, server, action_in, answered, binds, binds_to, display_request, hands_out, may_bind, new_at, other_request, reads_on, registry_request, replies, request, row_in, stops_if, synced, with_registry, registers, syncs}
+use Rattle.wl_server.specs.Requests.{Outcome, Whole, Wrong, convert, start, is_valid_new, made_id, made_object, with_made, Converted, Converting, allows_null, convert_one, going_on, kinds_after, object_found, with_new_argument, with_object_argument}
+use Rattle.wl_server.specs.Telling.{Core, Told, deeds_in, deeds_of, end_deeds, objects_in, Did, deletions, done_message, introductions, reader_part, with_objects}
+use Rattle.wl_server.proofs.OverRuns.Announced.RequestCases.{request_case}
+use Rattle.wl_server.proofs.OverRuns.Moves.BaseMoves.{Doings}
+use Rattle.wl_server.proofs.OverRuns.Moves.DoingsLaws.{doings_in_both, told_deeds}
+use Rattle.wl_server.proofs.Readings.Notes.{notes_append}
+use Rattle.wl_server.proofs.Readings.OneMessage.{deeds_append, notes_of_exchanges}
+use mathlib.Core.Logic.{inl, inr}
+use Rattle.wl_wire.specs.Argument.{WireArgument, type_of}
+use Rattle.wl_wire.specs.MessageRows.{request_row, creates, next_interface}
+use Rattle.wl_link.proofs.Ids.StoreLaws.{stored_here, held_stored}
+use Rattle.wl_link.specs.Link.{FilledBy, LinkState, count_of, counted_answer}
 use Rattle.wl_link.specs.Store.{held, Store}
 use Rattle.wl_server.specs.declared.error.ActionError.{ActionError}
 use Rattle.wl_server.specs.declared.error.ActionError.TheVariants.{ActionOpen, Io}
 use Rattle.wl_server.specs.declared.globals.KeptGlobal.{KeptGlobal}
-use Rattle.wl_server.specs.declared.notes.DisconnectReason.{DisconnectReason}
 use Rattle.wl_server.specs.declared.notes.DisconnectReason.TheVariants.{ConnectionClosed}
-use Rattle.wl_server.specs.declared.objects.Kept.{Kept}
 use Rattle.wl_server.specs.declared.reading.action.OpenAction.{OpenAction}
-use Rattle.wl_server.specs.declared.reading.action.OpenAction.TheVariants as opened
-use Rattle.wl_server.specs.Deeds.{Deed, Handed, Remembered}
-use Rattle.wl_server.specs.Deeds as deeds
-use Rattle.wl_server.specs.Errors.{new_id_text, since_text}
+use Rattle.wl_server.specs.Errors.{new_id_text}
 use Rattle.wl_server.specs.Globals.{global_at, shown}
 use Rattle.wl_server.specs.Ids.{IdParts, ClientParts}
 use Rattle.wl_server.specs.Part.{Part, id_at, fresh_object, null_id}
-use Rattle.wl_server.specs.Reading.{Around, action_in, answered, binds, binds_to, breaks, converted, display_request, garbled, hands_out, may_bind, new_at, other_request, reads_on, registry_request, replies, request, row_in, server, stops_if, synced, with_registry, registers, syncs}
 use Rattle.wl_server.specs.ReadingEnds.{ComesOfFront, FoundNoMessage, LastReceiveFailed, LeavesClient, MakesItsObject, ReadingEnds, StopsItself, TookMessage, TurnLeads, ObjectsFit, new_id_in}
-use Rattle.wl_server.specs.Requests.{Outcome, Whole, Wrong, convert, is_valid_new, made_id, made_object, start, with_made, Converted, Converting, allows_null, convert_one, going_on, kinds_after, object_found, with_new_argument, with_object_argument}
-use Rattle.wl_server.specs.Telling.{Core, Did, Told, deletions, done_message, introductions, objects_in, reader_part, with_objects}
-use Rattle.wl_server.specs.Telling as telling
 use Rattle.wl_server.proofs.OverRuns.Moves.MovesOfRequests.{valid_new}
 use Rattle.wl_server.proofs.Plain.Base.{none_and_some, when_false, when_true}
 use Rattle.wl_server.proofs.Plain.Verdicts.{carried, no_flush}
@@ -47,8 +48,68 @@ use Rattle.wl_wire.specs.declared.argument.Token.{Token}
 use Rattle.wl_wire.specs.declared.interface.InterfaceId.{InterfaceId}
 use Rattle.wl_wire.specs.Reading.{Reads as ReadsArguments}
 use Rattle.wl_wire.proofs.Spelling.CursorLaws.{piece_fits}
-use Rattle.wl_server.specs.declared.reading.response.RequestFault.TheVariants as wrong
 use Rattle.wl_server.specs.Events.{wire_argument}
+use Rattle.wl_wire.specs.declared.argument.Argument.TheVariants as arg
+use Rattle.wl_wire.specs.declared.error.IoFault.TheVariants as fault
+use Rattle.wl_server.specs.declared.reading.action.OpenAction.TheVariants as opened
+use Rattle.wl_server.specs.Deeds as deeds
+use Rattle.wl_server.specs.Telling as telling
+use Rattle.wl_server.specs.declared.reading.response.RequestFault.TheVariants as wrong
+
+-- ---- what is noted in a reading
+
+module _ {U : Type 0} where
+  -- neither a note nor a receive
+  abbrev pub Bare : List (Deed U) → Type 0
+  Bare did = (notes_in did ≡ []) × (came_in did ≡ [])
+
+  bare_both : (x y : List (Deed U)) → Bare x → Bare y → Bare (x ++ y)
+  bare_both x y none nothing =
+      let all = doings_in_both x y in (
+        ap (λ (d : Doings U). d.notes) all ∙ (ap (λ l. l ++ notes_in y) none.0 ∙ nothing.0),
+        ap (λ (d : Doings U). d.came) all ∙ (ap (λ l. l ++ came_in y) none.1 ∙ nothing.1),
+      )
+
+  bare_given : (put : List Said) (events : List (Told U)) → Bare (told_deeds events) → Bare (deeds_in (put_and_gave put events))
+  bare_given [] events bare = bare
+  bare_given (m ∷ put) events bare = bare_given put events bare
+
+module _ {T U G C : Type 0} (sends : T → Queue → Result ℕ IoFault → T → Type 0) (receives : T → ℕ → Result Queue IoFault → T → Type 0) (a : Around G C) where
+  -- what it hands out
+  abbrev IsBare : Verdict (Core U C) (Told U) → Type 0
+  IsBare v = (d : Core U C) → Bare (told_deeds (v.events d))
+
+  converted_bare : (c : Core U C) (m : WireMessage) (receiver : Object (Kept U)) (row : MessageRow) (o : Outcome U) → IsBare (converted a c m receiver row o)
+  converted_bare c m receiver row o d = grind (arith, o, told_deeds)
+
+  verdict_bare : (c : Core U C) (v : Verdict (Core U C) (Told U)) → IsBare v → Keeps (server a) (λ c gave d. Bare (deeds_in gave)) c v
+  verdict_bare c v bare = record {
+    carried = λ put others wrote is written. bare_given put (v.events (came_to (server a) v wrote)) (bare (came_to (server a) v wrote));
+    starved = λ asks. bare v.starved;
+  }
+
+  pub reads_bare : (left : ℕ) (before : ReaderState T (Core U C)) (turns : List Turn) (out : Gives (Told U)) (end : ReaderState T (Core U C))
+      → Reads sends (server a) receives left before turns out end → Bare (deeds_in out.gave)
+  reads_bare left before turns out end reads =
+      reads_respect sends receives (server a) (λ c gave d. Bare (deeds_in gave))
+      (record {
+        same = λ c. (refl, refl);
+        joins = λ c d e gave others x y. subst Bare (sym (deeds_append gave others)) (bare_both (deeds_in gave) (deeds_in others) x y);
+        handles = λ c m on. verdict_bare c ((server a).handles c m) (request_case a c IsBare (λ d. (refl, refl)) (λ code text d. (refl, refl))
+            (λ n valid. (λ d. grind (arith, told_deeds))) (λ n valid.
+            (λ d. grind (arith, told_deeds))) (λ g version n x valid d. (refl, refl)) m
+            (λ receiver row holds other. (grind (arith, nat_lt, breaks, converted, convert, start, objects_in, converted_bare))));
+        malformed = λ c on. verdict_bare c (garbled c) (λ d. (refl, refl));
+        faulted = λ c f on. (refl, refl);
+      })
+      left before end turns out reads
+
+  -- only the end of the client is noted
+  pub notes_of_reading : (left : ℕ) (before : ReaderState T (Core U C)) (turns : List Turn) (out : Gives (Told U)) (end : ReaderState T (Core U C))
+      → Reads sends (server a) receives left before turns out end → notes_in (deeds_of (exchanges_in turns) out.gave end.core) ≡ notes_in (end_deeds {U = U} end.core.ended)
+  notes_of_reading left before turns out end reads = grind (arith, notes_append, exchanges_in, deeds_in, end_deeds, notes_of_exchanges, reads_bare)
+
+-- ---- how it ends
 
 -- ---- new ids among arguments
 
@@ -181,13 +242,10 @@ module _ {U : Type 0} (client : ClientParts) (version : ℕ) where
   converts d done [] = ([], sym (append-nil done), refl, λ k x there. there, tt, inl (refl, refl))
   converts d done (x ∷ args) = goes_on d done x args (convert_one client version d x) (grind (arith, one_object, allows_null, eqb, one_new)) (λ next all. converts next all args)
 
-reason_if : (b : Bool) (o : Option DisconnectReason) (reason : DisconnectReason) → b ≡ false → cond b o (Some reason) ≡ Some reason
-reason_if false o reason is = refl
-reason_if true o reason is = absurd (true≢false is)
-
-some_is : (o : Option DisconnectReason) (reason : DisconnectReason) → o ≡ Some reason → IsSome o
-some_is (Some x) reason is = refl
-some_is None reason is = absurd (true≢false (sym (ap is_some is)))
+-- one of two verdicts
+pub either_request : {V : Type 0} (b : Bool) (P : V → Type 0) {x y : V} → P x → P y → P (cond b x y)
+either_request true P one other = one
+either_request false P one other = other
 
 later_turn : (f : IoFault) (t : Turn) (turns : List Turn) → LastReceiveFailed f turns → LastReceiveFailed f (t ∷ turns)
 later_turn f t [] (r, is, failed) = absurd (none_and_some None refl is)
@@ -289,7 +347,7 @@ module _ {T U G C : Type 0} (sends : T → Queue → Result ℕ IoFault → T �
 
   pub garbled_turns : (turn : List Sending → Turn) (before : ReaderState T (Core U C)) (c : Core U C) → IsRead c → ((es : List Sending) → FoundNoMessage sends a (turn es) before)
       → (link : LinkState T) → Turns turn before (garbled c) link
-  garbled_turns turn before c h1 h2 link = grind (arith, true≢false, reason_if, not_read, action_in, behind_puts, some_is, not, is_none, is_some, lacks_memory, no_flush)
+  garbled_turns turn before c h1 h2 link = grind (arith, true≢false, not_read, action_in, behind_puts, not, is_none, is_some, lacks_memory, no_flush)
 
   -- ---- a client that broke the protocol
 
@@ -298,12 +356,11 @@ module _ {T U G C : Type 0} (sends : T → Queue → Result ℕ IoFault → T �
 
   ended_turned : (t : Turn) (before : ReaderState T (Core U C)) (first : List (Given (Told U))) (lacked : Bool) (mid : ReaderState T (Core U C)) → TookMessage sends a t before
       → action_in first ≡ Err (Io fault.Pipe) → Ended mid.core → Turned t before first lacked mid
-  ended_turned t before first lacked mid took is (dead, reason, idle) =
-      inr (not_read mid.core dead, subst (λ (x : Result Handed ActionError). Answers t before x mid × MemoryOf x lacked) (sym is) ((took, reason, (dead, reason, idle)), tt))
+  ended_turned t before first lacked mid took is ended = grind (arith, not_read)
 
   breaks_turns : (turn : List Sending → Turn) (before : ReaderState T (Core U C)) (m : Core U C) (code : ℕ) (text : List ℕ) → IsRead m
       → ((es : List Sending) → TookMessage sends a (turn es) before) → (link : LinkState T) → Turns turn before (breaks a m code text) link
-  breaks_turns turn before m code text h1 h2 link = grind (arith, ended_turned, action_in, some_is, reason_if, behind_puts, true≢false, is_some, not_read)
+  breaks_turns turn before m code text h1 h2 link = grind (arith, ended_turned, action_in, behind_puts, true≢false, is_some, not_read)
 
   -- ---- a request that the server answers
 
@@ -320,7 +377,7 @@ module _ {T U G C : Type 0} (sends : T → Queue → Result ℕ IoFault → T �
 
   replies_turns : (turn : List Sending → Turn) (before : ReaderState T (Core U C)) (m : Core U C) (puts : List Said) (did : List (Deed U)) → Mute did → IsRead m
       → ((es : List Sending) → TookMessage sends a (turn es) before) → (link : LinkState T) → Turns turn before (replies m puts did) link
-  replies_turns turn before m puts did h1 h2 h3 link = grind (arith, true≢false, some_is, reason_if, is_some, put_and_gave, map, stops_if, stops_when, lacks_memory, no_flush, append-nil, append_assoc, behind_puts, came_to, server, replies, ended_turned, action_in, handed_both, not_read)
+  replies_turns turn before m puts did h1 h2 h3 link = grind (arith, true≢false, is_some, put_and_gave, map, stops_if, stops_when, lacks_memory, no_flush, append-nil, append_assoc, behind_puts, came_to, server, replies, ended_turned, action_in, handed_both, not_read)
 
   -- ---- an action
 
@@ -366,15 +423,10 @@ module _ {T U G C : Type 0} (sends : T → Queue → Result ℕ IoFault → T �
 
     other_turns : (receiver : Object (Kept U)) (row : MessageRow) → held c.store m.sender ≡ Some receiver → request_row a.table receiver.interface m.opcode ≡ Some row
         → Turns Handled here (other_request a c m receiver row) link
-    other_turns receiver row holds has = go (nat_lt receiver.version row.since)
-      where
-        go : (b : Bool) → Turns Handled here (cond b
-            (breaks a c 1 (since_text m.opcode receiver.version row.since (name_of a.table receiver.interface.0) m.sender))
-            (converted a c m receiver row (convert a.client receiver.version (start (objects_in c) row) [] m.args))) link
-        go true = breaks_turns Handled here c 1 _ r took link
-        go false =
-            converted_turns receiver row holds has (convert a.client receiver.version (start (objects_in c) row) [] m.args)
-            (converts a.client receiver.version (start (objects_in c) row) [] m.args)
+    other_turns receiver row holds has =
+        either_request (nat_lt receiver.version row.since) (λ v. Turns Handled here v link) (breaks_turns Handled here c 1 _ r took link)
+        (converted_turns receiver row holds has (convert a.client receiver.version (start (objects_in c) row) [] m.args)
+        (converts a.client receiver.version (start (objects_in c) row) [] m.args))
 
     binds_turns : (x : Object (Kept U)) → held c.store m.sender ≡ Some x → eqb x.interface.0 registry_id.0 ≡ true → Bound a c (λ v. Turns Handled here v link) m.args
     binds_turns x holds registry g interface version n kept args there may valid =
@@ -459,16 +511,11 @@ module _ {T U G C : Type 0} (sends : T → Queue → Result ℕ IoFault → T �
   abbrev pub MemoryAt : Gives (Told U) → Type 0
   MemoryAt out = MemoryOf (answered out.stopped out.gave) out.refused
 
-  done_at : (start : ReaderState T (Core U C)) (turns : List Turn) (out out' : Gives (Told U)) (end end' : ReaderState T (Core U C)) → out ≡ out' → end ≡ end' → Done start turns out' end'
-      → Done start turns out end
-  done_at start turns out out' end end' is same so =
-      subst (λ (o : Gives (Told U)). Done start turns o end) (sym is) (subst (λ (e : ReaderState T (Core U C)). Done start turns out' e) (sym same) so)
-
   -- the reading stops here
   halts_end : (left : ℕ) (before : ReaderState T (Core U C)) (out : Gives (Told U)) → IsRead before.core → Halts sends (server a) left before out → Done before [] out before
-  halts_end left before out r (inl (lacks, none, is)) = done_at before [] out _ before before is refl (inr (none, lacks), (r.live, r.fresh, r.idle))
-  halts_end left before out r (inr (inl (asks, is))) = done_at before [] out _ before before is refl (inr (refl, inl asks), (r.live, r.fresh, r.idle))
-  halts_end left before out r (inr (inr (lacks, (n, one, is)))) = done_at before [] out _ before before is refl (inr (refl, inr lacks), (r.live, r.fresh, r.idle))
+  halts_end left before out r (inl (lacks, none, is)) = rw is (inr (none, lacks), (r.live, r.fresh, r.idle))
+  halts_end left before out r (inr (inl (asks, is))) = rw is (inr (refl, inl asks), (r.live, r.fresh, r.idle))
+  halts_end left before out r (inr (inr (lacks, (n, one, is)))) = rw is (inr (refl, inr lacks), (r.live, r.fresh, r.idle))
 
   -- an action or a reason is there, and nothing more is read
   no_more : (left : ℕ) (mid end : ReaderState T (Core U C)) (turns : List Turn) (rest : Gives (Told U)) → reads_on mid.core ≡ false
@@ -482,7 +529,7 @@ module _ {T U G C : Type 0} (sends : T → Queue → Result ℕ IoFault → T �
     then_ends : out ≡ given_first first lacked rest → TurnLeads sends receives a t start mid → Turned t start first lacked mid → Reads sends (server a) receives left mid turns rest end
         → (IsRead mid.core → Done mid turns rest end) → Done start (t ∷ turns) out end
     then_ends h1 h2 h3 h4 h5 =
-        grind (arith, done_at, given_first, still_answered, ends_later, answered, no_more, later_turn, itself_later, stops, reads_on, action_in, append-nil, answers_end, true≢false)
+        grind (arith, given_first, still_answered, ends_later, answered, no_more, later_turn, itself_later, stops, reads_on, action_in, append-nil, answers_end, true≢false)
 
     then_memory : out ≡ given_first first lacked rest → Turned t start first lacked mid → Reads sends (server a) receives left mid turns rest end → (IsRead mid.core → MemoryAt rest) → MemoryAt out
     then_memory h1 h2 h3 h4 = grind (arith, still_answered, answered, true≢false, given_first, no_more, action_in, append-nil)
@@ -493,7 +540,7 @@ module _ {T U G C : Type 0} (sends : T → Queue → Result ℕ IoFault → T �
 
   pub read_ends : (left : ℕ) (before : ReaderState T (Core U C)) (turns : List Turn) (out : Gives (Told U)) (end : ReaderState T (Core U C)) → IsRead before.core
       → Reads sends (server a) receives left before turns out end → Done before turns out end × MemoryAt out
-  read_ends left before [] out end r (same, stops') = grind (arith, done_at, halts_end, when_true, reads_on, reads_of, true≢false, not, is_none)
+  read_ends left before [] out end r (same, stops') = grind (arith, halts_end, when_true, reads_on, reads_of, true≢false, not, is_none)
   read_ends left before (Received got ∷ turns) out end r (on, lacks, (n, is, (link, filled, room, h))) =
       elim (split_result (counted_answer (count_of got)) h) [
         | inl (u, ok, more) ↦
@@ -502,7 +549,7 @@ module _ {T U G C : Type 0} (sends : T → Queue → Result ℕ IoFault → T �
                   (link, subst (λ (c : Result (Unit {0}) IoFault). FilledBy receives before.link got c link) ok filled, refl) ends,
               memory,
             )
-        | inr (f, failed, (over, stopped, same)) ↦ grind (arith, done_at, some_is, reason_if, true≢false, is_some, lacks_memory)
+        | inr (f, failed, (over, stopped, same)) ↦ grind (arith, true≢false, is_some, lacks_memory)
       ]
   read_ends left before (Handled es ∷ turns) out end r (on, (v, link, first, lacked, mid, rest, (m, read, is), by, split, more)) =
       then_both (Handled es) before mid end left turns first lacked rest out split (v, link, first, lacked, (m, read, is), by)

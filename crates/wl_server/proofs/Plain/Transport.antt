@@ -1,5 +1,5 @@
 -- A transport that the program changed.
-use Rattle.std.proofs.Common.{◌≡◌, ◌∙◌, ◌+◌, ℕ, zero, suc, Bool, List, [], ◌∷◌, ◌++◌, Option, None, Some, option_map, is_some, refl, sym, ap, true≢false, arith, false}
+use Rattle.std.proofs.Common.{◌≡◌, ◌∙◌, ◌+◌, ℕ, zero, suc, Bool, List, [], ◌∷◌, ◌++◌, Option, None, Some, option_map, is_some, refl, sym, ap, arith, false}
 use mathlib.Core.Logic.{inl, inr}
 use Rattle.std.specs.FinMap as finmap
 use Rattle.std.specs.Prelude.{map, slice_set}
@@ -17,10 +17,6 @@ use Rattle.wl_server.specs.PartStep.{Quietly, WithTransport, World}
 use Rattle.wl_server.specs.Plain.Transport.{LeavesTransport}
 use Rattle.wl_server.specs.Server.{Stored, client_at, seen, stored_at}
 use Rattle.wl_server.proofs.Plain.Base.{IsOfOne, made_stay, none_and_some, of_one, one_value, stays}
-
-none_too : {A : Type 0} (o p : Option A) → is_some o ≡ is_some p → p ≡ None → o ≡ None
-none_too None p is none = refl
-none_too (Some x) p is none = absurd (true≢false (is ∙ ap is_some none))
 
 module _ {T U C : Type 0} (t : T) where
   abbrev changed_to : Part T U C → Part T U C
@@ -46,15 +42,9 @@ module _ {T U C : Type 0} (t : T) where
 
   next_stays : (last slot : ℕ) (clients : List (Option (Stored T U C))) (told : Option ClientParts) → NextClient last clients told
       → NextClient last (slice_set clients slot (option_map (λ c. over_transport c t) (stored_at slot clients))) told
-  next_stays last slot clients (Some id) (least, left, serial) = (
-    record {
-      below = least.below;
-      free = none_too _ _ (is_free slot id.slot clients) least.free;
-      least = λ k under. is_free slot k clients ∙ least.least k under;
-    },
-    left,
-    serial,
-  )
+  next_stays last slot clients (Some id) (least, left, serial) =
+      let free = is_free slot id.slot clients in
+      (record { below = least.below; free = grind (arith, free, least.free); least = λ k under. is_free slot k clients ∙ least.least k under }, left, serial)
   next_stays last slot clients None (inl each) = inl (λ k under. is_free slot k clients ∙ each k under)
   next_stays last slot clients None (inr none) = inr none
 

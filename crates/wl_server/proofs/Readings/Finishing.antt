@@ -22,7 +22,7 @@ use Rattle.wl_server.specs.declared.notes.DisconnectReason.TheVariants.{Connecti
 use Rattle.wl_server.specs.declared.notes.Happening.{Happening}
 use Rattle.wl_server.specs.Inside.Carried.{IsCarried}
 use Rattle.wl_server.specs.Inside.Client.{Does}
-use Rattle.wl_server.specs.Deeds.{notes_in, Deed}
+use Rattle.wl_server.specs.Deeds.{Deed}
 use Rattle.wl_server.specs.Finish.{FinishesOpen, Refuses, core_finished, data_given, ended_by, ends, ends_request, refusal, store_with_data}
 use Rattle.wl_server.specs.Inside.Finishing.{EndsObject, EndsSender, is_out_of_memory, part_finished}
 use Rattle.wl_server.specs.Objects.{unless_refused}
@@ -30,10 +30,9 @@ use Rattle.wl_server.specs.Ids.{ClientParts, IdParts}
 use Rattle.wl_server.specs.Part.{id_of, named, note_of_end, registries_without, serial_of, with_link, with_user_data, Part}
 use Rattle.wl_server.specs.Inside.Puts.{Puts}
 use Rattle.wl_server.specs.Server.{NoteTimes, Stored, no_times, untimed}
-use Rattle.wl_server.specs.Telling.{Kills, killed, closed_down, core_of, deletions, end_deeds, part_of, speaker}
+use Rattle.wl_server.specs.Telling.{Kills, closed_down, core_of, deletions, speaker}
 use Rattle.wl_server.proofs.CallSteps.Doing.{does_quietly}
 use Rattle.wl_server.proofs.Readings.Notes.{tells_carried, made_end}
-use Rattle.wl_server.proofs.ObjectCalls.Posting.{kills_is}
 use Rattle.wl_server.proofs.GlobalCalls.Putting.{puts_none}
 use Rattle.wl_server.proofs.ObjectCalls.Destroying.{named_is_held}
 use Rattle.wl_server.specs.declared.reading.action.OpenAction.{OpenAction}
@@ -76,11 +75,6 @@ module _ {U : Type 0} where
 pub wanted_memory : (wrote : Result (Unit {0}) IoFault) → lacks_memory wrote ≡ true → wrote ≡ Err fault.OutOfMemory
 wanted_memory h1 is = grind (arith, false≢true)
 
--- a write that failed kills the client, and changes none of its objects
-pub store_unless_written : {T U C : Type 0} (s after : Stored T U C) (wrote : Result (Unit {0}) IoFault)
-    → MatchResult wrote (λ _. after ≡ s) (λ _. Does s (λ p did q. Kills p ConnectionClosed did q) after) → after.part.store ≡ s.part.store
-store_unless_written {T} {U} {C} s after h6 same = grind (arith, kills_is)
-
 -- ---- the end of a request
 
 pub where_none : {X : Type 0} (o : Option X) → None ≡ o → (A : Type 0) (B : X → Type 0) → A → MatchOption o A B
@@ -101,12 +95,13 @@ module _ {T U C : Type 0} (sends : T → Queue → Result ℕ IoFault → T → 
   -- the object stays where there was no memory
   stays : (x : Object (Kept U)) (e : OutOfMemory) (after : Stored T U C) → named s.part.store sender ≡ Some x → EndsObject sends client s sender x (Err e) after
       → ReachedBy (Some x) true after
-  stays x e after kept (inl (asks, same)) = (core_of s.part, s.part.link, inr (asks, refl, refl, refl), ap untimed same ∙ rw kept (made_end s s.part))
+  stays x e after kept (inl (asks, same)) =
+      (core_of s.part, s.part.link, inr (asks, refl, refl, refl), ap untimed same ∙ rw kept (made_end s.serial s.part s.made))
   stays x e after kept (inr (wrote, lacks, puts, is)) = (
     core_of s.part,
     after.part.link,
     inl (wrote, after.part.link, [], false, puts, (refl, refl, refl), rw (wanted_memory wrote lacks) refl, sym (or-false _ ∙ lacks)),
-    ap untimed is ∙ rw kept (made_end s (with_link s.part after.part.link)),
+    ap untimed is ∙ rw kept (made_end s.serial (with_link s.part after.part.link) s.made),
   )
 
   -- it leaves
@@ -117,7 +112,7 @@ module _ {T U C : Type 0} (sends : T → Queue → Result ℕ IoFault → T → 
     came_to speaker (ends client (core_of s.part) sender (Some x) created u) wrote,
     mid.part.link,
     inl (wrote, mid.part.link, [], false, puts, (refl, refl, refl), refl, sym (or-false _ ∙ lacks)),
-    grind (arith, finished, is, x, created, client, append-nil, append_assoc, end_deeds, killed, core_of, part_of, came_to, speaker, closed_down, false≢true, notes_in, id_of, named, not_named),
+    grind (arith, is, x, created, append-nil, append_assoc, came_to, speaker, closed_down, false≢true, named, not_named),
   )
 
   -- of the sender, where it is ended and kept, and else of none
@@ -140,7 +135,7 @@ module _ {T U C : Type 0} (sends : T → Queue → Result ℕ IoFault → T → 
               core_finished (core_of s.part) created u,
               s.part.link,
               inl (Ok tt, s.part.link, [], false, puts_none sends s.part.link, (refl, refl, refl), refl, refl),
-              (rw all_put at tells) ∙ ap finished same ∙ made_end s (part_finished s.part created u),
+              (rw all_put at tells) ∙ ap finished same ∙ made_end s.serial (part_finished s.part created u) s.made,
             )
         | inr (x, is, h) ↦ rw is (leaves x wrote mid after h tells)
       ]
@@ -166,22 +161,27 @@ module _ {T U C : Type 0} (sends : T → Queue → Result ℕ IoFault → T → 
 
 -- ---- the end of what is open, a request or a bind
 
-module _ {T U C D : Type 0} (s : Stored T U C) (d : D) (Ends : OpenAction → Part T U C → Result (Unit {0}) (FinishRefused D) → Bool → List (Deed U) → Part T U C → Type 0) where
+module _ {T U C D : Type 0} (s : Stored T U C) (d : D)
+    (Ends : OpenAction → Part T U C → Result (Unit {0}) (FinishRefused D) → Bool → List (Deed U) → Part T U C → Type 0) where
   abbrev ByAction : Result (Unit {0}) (FinishRefused D) → Bool → Stored T U C → Type 0
   ByAction answer refused after =
       Does s (λ p did q. MatchOption p.action (Refuses p d finish.NoOpenAction answer refused did q) (λ a. Ends a p answer refused did q)) after
 
   pub none_open : s.part.action ≡ None → ByAction (Err (record { error = finish.NoOpenAction; user_data = d })) false s
   none_open none =
-      does_quietly s (λ p did q. MatchOption p.action (Refuses p d finish.NoOpenAction (Err (record { error = finish.NoOpenAction; user_data = d })) false did q)
-      (λ a. Ends a p (Err (record { error = finish.NoOpenAction; user_data = d })) false did q)) s.part (where_none s.part.action (sym none) _ _ (refl, refl, refl, refl))
+      does_quietly s (λ p did q. MatchOption p.action
+      (Refuses p d finish.NoOpenAction (Err (record { error = finish.NoOpenAction; user_data = d })) false did q)
+      (λ a. Ends a p (Err (record { error = finish.NoOpenAction; user_data = d })) false did q)) s.part
+      (where_none s.part.action (sym none) _ _ (refl, refl, refl, refl))
 
   pub is_open : (a : OpenAction) (answer : Result (Unit {0}) (FinishRefused D)) (refused : Bool) (after : Stored T U C) → s.part.action ≡ Some a
       → Does s (λ p did q. Ends a p answer refused did q) after → ByAction answer refused after
   is_open a answer refused after is (did, q, does, same) = (did, q, where_some s.part.action a (sym is) _ _ does, same)
 
   -- what is open is not ended so, for this reason
-  pub is_refused : (a : OpenAction) (e : FinishError) → s.part.action ≡ Some a → Ends a s.part (Err (record { error = e; user_data = d })) false [] s.part
+  pub is_refused : (a : OpenAction) (e : FinishError) → s.part.action ≡ Some a
+      → Ends a s.part (Err (record { error = e; user_data = d })) false [] s.part
       → ByAction (Err (record { error = e; user_data = d })) false s
   is_refused a e is ends =
-      is_open a (Err (record { error = e; user_data = d })) false s is (does_quietly s (λ p did q. Ends a p (Err (record { error = e; user_data = d })) false did q) s.part ends)
+      is_open a (Err (record { error = e; user_data = d })) false s is
+      (does_quietly s (λ p did q. Ends a p (Err (record { error = e; user_data = d })) false did q) s.part ends)

@@ -48,7 +48,8 @@ broken_with refused = record { fault = fault.Pipe; refused = refused }
 
 module _ {T U C : Type 0} (sends : T → Queue → Result ℕ IoFault → T → Type 0) where
   -- a verdict that was carried out came to what its events say
-  pub handled : (v : Verdict (Core U C) (Told U)) (s after : Stored T U C) (to : MessageResult) (refused : Bool) (carried : IsCarried sends v s refused after)
+  pub handled : (v : Verdict (Core U C) (Told U)) (s after : Stored T U C) (to : MessageResult) (refused : Bool)
+      (carried : IsCarried sends v s refused after)
       → told_notes (v.events carried.0) ≡ [] → Says to (map HandedOut (v.events carried.0)) refused carried.0 → IsHandled sends v s to after
   handled v s after to refused (core, link, inl (wrote, mid, others, lacked, (es, put, puts), flushed, is, refused-is), after_is) none says = record {
     es = es ++ others;
@@ -96,7 +97,8 @@ module _ {T U C : Type 0} (sends : T → Queue → Result ℕ IoFault → T → 
       → Does s (λ p did q. Kills p ConnectionClosed did q) after
       → IsHandled sends (breaks a (core_of s.part) code text) s (Ended (broken_with true)) after
   broke_starved a s after code text live kills =
-      broke a s after code text true (closed_down (core_of s.part), s.part.link, inr (ap not live, refl, refl, refl), kills_is s after ConnectionClosed kills)
+      broke a s after code text true
+      (closed_down (core_of s.part), s.part.link, inr (ap not live, refl, refl, refl), kills_is s after ConnectionClosed kills)
 
   -- ---- a reply, and an action
 
@@ -107,7 +109,8 @@ module _ {T U C : Type 0} (sends : T → Queue → Result ℕ IoFault → T → 
       → Puts sends s.part.link puts (Ok tt) link → after ≡ linked s link → IsHandled sends (replies (core_of s.part) puts did) s WentOn after
   replied_all s after link puts did quiet live put same =
       handled (replies (core_of s.part) puts did) s after WentOn false
-      (told_carried sends s after puts (λ d. map Did did ++ stops_if d) (Ok tt) link (quiet_reply did quiet) put same) (quiet_reply did quiet (core_of s.part))
+      (told_carried sends s after puts (λ d. map Did did ++ stops_if d) (Ok tt) link (quiet_reply did quiet) put same)
+      (quiet_reply did quiet (core_of s.part))
       (refl, refl, live.0, live.1, λ rest. (quiet (stops_if (core_of s.part))).1 rest ∙ rw live.0 refl)
 
   pub replied : (s after : Stored T U C) (link : LinkState T) (puts : List Said) (did : List (Deed U)) (wrote : Result (Unit {0}) IoFault) (end : MessageEnd)
@@ -130,6 +133,6 @@ module _ {T U C : Type 0} (sends : T → Queue → Result ℕ IoFault → T → 
         record (core_of s.part) { action = Some action },
         s.part.link,
         inl (Ok tt, s.part.link, [], false, puts_none sends s.part.link, (refl, refl, refl), refl, refl),
-        made_end s (record s.part { action = Some action }),
+        made_end s.serial (record s.part { action = Some action }) s.made,
       )
       refl (refl, grind (arith, s.part.is_killed), refl)

@@ -4,7 +4,7 @@ use Rattle.wl_wire.specs.declared.error.IoFault.{IoFault}
 use Rattle.wl_link.specs.Exchange.{Queue, Sending}
 use Rattle.wl_link.specs.Link.{LinkState}
 use Rattle.wl_link.specs.Puts.{FlushesOut, Said, lacks_memory}
-use Rattle.wl_link.specs.Reader.{Given, HandedOut, Queued, Verdict, came_to, put_and_gave, ReaderState}
+use Rattle.wl_link.specs.Reader.{Given, HandedOut, Queued, Verdict, came_to, put_and_gave, ReaderState, CarriesOut}
 use Rattle.wl_server.specs.declared.notes.Happening.{Happening}
 use Rattle.wl_server.specs.Inside.Carried.{IsCarried}
 pub use Rattle.wl_server.specs.Inside.Carried.{told_notes}
@@ -27,9 +27,10 @@ use Rattle.wl_server.proofs.GlobalCalls.Putting.{puts_none}
 use Rattle.wl_server.proofs.CallSteps.Doing.{does_quietly}
 
 -- no note is made
-pub made_end : {T U C : Type 0} (s : Stored T U C) (p : Part T U C)
-    → ◌≡◌ {A = Stored T U C} (record { serial = s.serial; part = p; made = s.made; times = no_times }) (record { serial = s.serial; part = p; made = s.made ++ []; times = no_times })
-made_end s p = ap (λ (made : List (Happening _)). let x : Stored _ _ _ = record { serial = s.serial; part = p; made = made; times = no_times } in x) (sym (append-nil s.made))
+pub made_end : {T U C : Type 0} (serial : ℕ) (p : Part T U C) (made : List (Happening U))
+    → ◌≡◌ {A = Stored T U C} (record { serial = serial; part = p; made = made; times = no_times })
+    (record { serial = serial; part = p; made = made ++ []; times = no_times })
+made_end serial p made = rw (append-nil made) refl
 
 -- ---- the notes among deeds
 
@@ -67,28 +68,29 @@ module _ {U C : Type 0} where
       )
 
   module _ {T : Type 0} (sends : T → Queue → Result ℕ IoFault → T → Type 0) where
+    tells_so : (v : Verdict (Core U C) (Told U)) (s after : Stored T U C) (refused : Bool) (es : List Sending) (gave : List (Given (Told U)))
+        (end : ReaderState T (Core U C)) → CarriesOut sends speaker v s.part.link es gave refused end
+        → untimed after
+        ≡ record { serial = s.serial; part = part_of end; made = s.made ++ notes_in (deeds_of (map Sent es) gave end.core); times = no_times }
+        → Does s (λ p did q. Tells sends v p.link refused did q) after
+    tells_so v s after refused es gave end by is = (deeds_of (map Sent es) gave end.core, part_of end, (es, gave, end, by, refl, refl), is)
+
     -- a verdict that was carried out over a client is told to it
     pub tells_carried : (v : Verdict (Core U C) (Told U)) (s after : Stored T U C) (refused : Bool) → IsCarried sends v s refused after
-        → (did : List (Deed U)) × (q : Part T U C) × Tells sends v s.part.link refused did q
-        × (untimed after ≡ record { serial = s.serial; part = q; made = s.made ++ notes_in did; times = no_times })
+        → Does s (λ p did q. Tells sends v p.link refused did q) after
     tells_carried v s after refused (core, link, inl (wrote, mid, others, lacked, (es, put, puts), flushed, core_is, refused_is), is) =
-        let end : ReaderState T (Core U C) = record { core = core; link = link } in
-        let given = ap (λ (c : Core U C). put_and_gave put (v.events c)) core_is in (
-          deeds_of (map Sent (es ++ others)) (put_and_gave put (v.events core)) core,
-          part_of end,
-          (es ++ others, put_and_gave put (v.events core), end, inl (es, others, put, wrote, mid, lacked, puts, flushed, refl, core_is, given, refused_is), refl, refl),
-          is ∙ rw (notes_told (es ++ others) put (v.events core) core) refl,
-        )
+        let given = ap (λ (c : Core U C). put_and_gave put (v.events c)) core_is in
+        tells_so v s after refused (es ++ others) (put_and_gave put (v.events core)) (record { core = core; link = link })
+        (inl (es, others, put, wrote, mid, lacked, puts, flushed, refl, core_is, given, refused_is))
+        (is ∙ rw (notes_told (es ++ others) put (v.events core) core) refl)
     tells_carried v s after refused (core, link, inr (asks, refused_is, core_is, link_is), is) =
-        let end : ReaderState T (Core U C) = record { core = core; link = link } in (
-          deeds_of [] (map HandedOut (v.events core)) core,
-          part_of end,
-          ([], map HandedOut (v.events core), end, inr (asks, refused_is, refl, ap (λ (c : Core U C). map HandedOut (v.events c)) core_is, rw (core_is, link_is) refl), refl, refl),
-          is ∙ rw (notes_told [] [] (v.events core) core) refl,
-        )
+        tells_so v s after refused [] (map HandedOut (v.events core)) (record { core = core; link = link })
+        (inr (asks, refused_is, refl, ap (λ (c : Core U C). map HandedOut (v.events c)) core_is, rw (core_is, link_is) refl))
+        (is ∙ rw (notes_told [] [] (v.events core) core) refl)
 
     -- a client was told messages, which closes it down where one cannot be put, and nothing is noted beside its end
-    abbrev pub told_carried : (s after : Stored T U C) (messages : List Said) (events : Core U C → List (Told U)) (wrote : Result (Unit {0}) IoFault) (link : LinkState T)
+    abbrev pub told_carried : (s after : Stored T U C) (messages : List Said) (events : Core U C → List (Told U)) (wrote : Result (Unit {0}) IoFault)
+        (link : LinkState T)
         → ((c : Core U C) → told_notes (events c) ≡ []) → Puts sends s.part.link messages wrote link
         → MatchResult wrote (λ _. after ≡ linked s link) (λ _. Does (linked s link) (λ p did q. Kills p ConnectionClosed did q) after)
         → IsCarried sends (record (tells (core_of s.part) messages) { events = events }) s (lacks_memory wrote) after
@@ -96,7 +98,7 @@ module _ {U C : Type 0} where
       core_of s.part,
       link,
       inl (Ok tt, link, [], false, puts, (refl, refl, refl), refl, refl),
-      ap untimed same ∙ rw none (made_end s (with_link s.part link)),
+      ap untimed same ∙ rw none (made_end s.serial (with_link s.part link) s.made),
     )
     told_carried s after messages events (Err f) link none puts kills = (
       closed_down (core_of s.part),
@@ -109,15 +111,18 @@ module _ {U C : Type 0} where
 
 module _ {T U C : Type 0} (sends : T → Queue → Result ℕ IoFault → T → Type 0) where
   -- a killed client is told nothing
-  pub killed_hears : (s : Stored T U C) (messages : List Said) → s.part.is_killed ≡ true → Does s (λ p did q. Hears sends s.part messages false did q) s
-  killed_hears s messages killed = does_quietly s (λ p did q. Hears sends s.part messages false did q) s.part (at_true _ s.part.is_killed killed (refl, refl, refl))
+  pub killed_hears : (s : Stored T U C) (messages : List Said) → s.part.is_killed ≡ true
+      → Does s (λ p did q. Hears sends s.part messages false did q) s
+  killed_hears s messages killed =
+      does_quietly s (λ p did q. Hears sends s.part messages false did q) s.part (at_true _ s.part.is_killed killed (refl, refl, refl))
 
   pub live_hears : (s after : Stored T U C) (messages : List Said) (wrote : Result (Unit {0}) IoFault) (link : LinkState T) (lacked : Bool)
       → s.part.is_killed ≡ false → Puts sends s.part.link messages wrote link → lacked ≡ lacks_memory wrote
       → MatchResult wrote (λ _. after ≡ linked s link) (λ _. Does (linked s link) (λ p did q. Kills p ConnectionClosed did q) after)
       → Does s (λ p did q. Hears sends s.part messages lacked did q) after
   live_hears s after messages wrote link lacked live puts is told =
-      let (did, q, tells', noted) = tells_carried sends (tells (core_of s.part) messages) s after _ (told_carried sends s after messages (λ c. []) wrote link (λ c. refl) puts told) in
+      let (did, q, tells', noted) = tells_carried sends (tells (core_of s.part) messages) s after _
+      (told_carried sends s after messages (λ c. []) wrote link (λ c. refl) puts told) in
       (did, q, at_false _ s.part.is_killed live (rw is tells'), noted)
 
   -- a live client is told of a new global that it may see, and of no other
@@ -129,8 +134,10 @@ module _ {T U C : Type 0} (sends : T → Queue → Result ℕ IoFault → T → 
   unseen_hears table visible g s live unseen =
       rw unseen (live_hears s s [] (Ok tt) s.part.link false live (puts_none sends s.part.link) refl refl)
 
-  pub seen_hears : (table : List InterfaceRow) (visible : Bool) (g : Shown) (s after : Stored T U C) (wrote : Result (Unit {0}) IoFault) (link : LinkState T) (lacked : Bool)
-      → s.part.is_killed ≡ false → visible ≡ true → Puts sends s.part.link (announcements table s.part.registries g) wrote link → lacked ≡ lacks_memory wrote
+  pub seen_hears : (table : List InterfaceRow) (visible : Bool) (g : Shown) (s after : Stored T U C) (wrote : Result (Unit {0}) IoFault)
+      (link : LinkState T) (lacked : Bool)
+      → s.part.is_killed ≡ false → visible ≡ true → Puts sends s.part.link (announcements table s.part.registries g) wrote link
+      → lacked ≡ lacks_memory wrote
       → MatchResult wrote (λ _. after ≡ linked s link) (λ _. Does (linked s link) (λ p did q. Kills p ConnectionClosed did q) after)
       → HearsNew table visible g s lacked after
   seen_hears table visible g s after wrote link lacked live seen puts is told =

@@ -17,8 +17,6 @@ use Rattle.wl_link.specs.Reader.{CarriesOut, Given, Gives, Halts, Handled, Leave
 use Rattle.wl_link.specs.declared.object.Object.{Object}
 use Rattle.wl_link.specs.Store.{Store, held}
 use Rattle.wl_wire.specs.Table.{InterfaceRow, message_row}
-use Rattle.wl_wire.specs.Parse.{opcode_of, sender_of}
-use Rattle.wl_wire.specs.declared.argument.ArgumentType.{ArgumentType}
 use Rattle.wl_server.specs.declared.reading.action.OpenAction.{OpenAction}
 use Rattle.wl_server.specs.declared.reading.action.Reading.{Reading}
 use Rattle.wl_server.specs.declared.error.ActionError.{ActionError}
@@ -64,18 +62,13 @@ module _ {T U C : Type 0} where
 -- ---- a read under the signature of the request at the front
 
 module _ {T U : Type 0} (table : List InterfaceRow) (store : Store (Kept U)) (link : LinkState T) (r : FrontRequest) (front : IsFront table store link r) (after : LinkState T) where
-  abbrev AsAsked : Option (List ArgumentType) → Type 0
-  AsAsked f = f ≡ Some r.desc.now.signature.items
-
-  pub read_in : (answer : Result WireMessage MessageParseError) → ReadOne (λ _ _ f. AsAsked f) link answer after → ReadsIn table store link answer after
+  pub read_in : (answer : Result WireMessage MessageParseError) → ReadOne (λ _ _ f. f ≡ Some r.desc.now.signature.items) link answer after
+      → ReadsIn table store link answer after
   read_in answer read = grind (arith, nat_le, option_map, row_in)
 
-  module _ (m : WireMessage) (read : ReadOne (λ _ _ f. AsAsked f) link (Ok m) after) where
-    pub header_is : (m.sender ≡ sender_of link.incoming.bytes) × (m.opcode ≡ opcode_of link.incoming.bytes)
-    header_is = grind (arith, true≢false, is_ok)
-
-    pub row_read : row_in table (held store m.sender) m.opcode ≡ Some (message_row r.desc.now)
-    row_read = ap₂ (λ (n o : ℕ). row_in table (held store n) o) header_is.0 header_is.1 ∙ sym front.row
+  pub row_read : (m : WireMessage) → ReadOne (λ _ _ f. f ≡ Some r.desc.now.signature.items) link (Ok m) after
+      → row_in table (held store m.sender) m.opcode ≡ Some (message_row r.desc.now)
+  row_read m read = grind (arith, true≢false, is_ok, front.row)
 
 module _ {T U G C : Type 0} (sends : T → Queue → Result ℕ IoFault → T → Type 0) (receives : T → ℕ → Result Queue IoFault → T → Type 0) (a : Around G C) where
   -- ---- joining
@@ -151,7 +144,8 @@ module _ {T U G C : Type 0} (sends : T → Queue → Result ℕ IoFault → T �
             turns = t i.es ∷ [];
             out = given_first i.gave i.refused rest;
             end = i.end;
-            reads = found r.turns_left i.es i.gave i.refused i.end [] rest i.end i.carried (refl, at_false (Halts sends (server a) r.turns_left i.end rest) (reads_on i.end.core) off refl);
+            reads = found r.turns_left i.es i.gave i.refused i.end [] rest i.end i.carried
+                (refl, at_false (Halts sends (server a) r.turns_left i.end rest) (reads_on i.end.core) off refl);
             answer_is = sym (ap action_in (append-nil i.gave) ∙ says);
             refused_is = sym (or-false i.refused ∙ refuses);
             left = left;
@@ -166,7 +160,8 @@ module _ {T U G C : Type 0} (sends : T → Queue → Result ℕ IoFault → T �
           record {
             first = t i.es ∷ [];
             gave = i.gave;
-            leads = λ turns rest last reads. subst (λ (b : Bool). Reads sends (server a) receives r.turns_left (reader_part s.part) (t i.es ∷ turns) (given_first i.gave b rest) last) calm
+            leads = λ turns rest last reads. subst (λ (b : Bool). Reads sends (server a) receives r.turns_left (reader_part s.part) (t i.es ∷ turns)
+                (given_first i.gave b rest) last) calm
                 (found r.turns_left i.es i.gave i.refused i.end turns rest last i.carried (grind (arith, reader_part, server, i.after_is)));
             silent = silent;
             no_note = i.no_note;
@@ -195,7 +190,8 @@ module _ {T U G C : Type 0} (sends : T → Queue → Result ℕ IoFault → T �
         → r'.read ≡ counted r.read 1 → HandlesMessage sends receives a s r to after r'
     message_handled v p to after taken handled fewer left read =
         handles_so v p (λ es. Handled es)
-        (λ m es first lacked mid turns rest end carried reads. (on, (v, p.link, first, lacked, mid, rest, taken, carried, refl, reads))) left (λ es. read) to
+        (λ m es first lacked mid turns rest end carried reads. (on, (v, p.link, first, lacked, mid, rest, taken, carried, refl, reads))) left
+        (λ es. read) to
         after handled fewer
 
   -- malformed bytes stay, and the connection is closed
@@ -230,7 +226,7 @@ module _ {T U G C : Type 0} (sends : T → Queue → Result ℕ IoFault → T �
   -- no receive is left
   pub none_left : (s : Stored T U C) (r : Reading) → Live s.part → r.read ≤ most → LacksIn sends receives a s.part → r.turns_left ≡ 0
       → EndsAs sends receives a s r (Err (record { fault = fault.WouldBlock; refused = false })) s r
-  none_left s r live within lacks none = halts_so s s r r _ live (omega (arith, within)) (inl (lacks, none, refl)) (made_end s s.part)
+  none_left s r live within lacks none = halts_so s s r r _ live (omega (arith, within)) (inl (lacks, none, refl)) (made_end s.serial s.part s.made)
 
   -- ---- a message was taken
 
@@ -253,12 +249,13 @@ module _ {T U G C : Type 0} (sends : T → Queue → Result ℕ IoFault → T �
   message_taken s r r' link objects objects' response f args to after live same (m, row, read, is, responds) handled fewer left count =
       let store : objects.map.store ≡ s.part.store = ap (λ (core : Core U C). core.store) same in
       let (x, holds) : (x : Object (Kept U)) × (held objects.map.store m.sender ≡ Some x) = grind (arith, held objects.map.store m.sender) in
+      let here : held s.part.store m.sender ≡ Some x = rw (← store) holds in
       let there : row_in a.table (held s.part.store m.sender) m.opcode ≡ Some row = rw (← store) is in
       let v = response_to a (core_of (gone_through s link objects').part) response f args in
       let verdict : request_to a (core_of s.part) m x row ≡ v
       = subst (λ (core : Core U C). request_to a core m x row ≡ v) same (responds x (core_of s.part) holds) in
       message_handled s r r' live v (gone_through s link objects').part to after
-      (m, rw (← store) read, sym verdict ∙ sym (ap₂ (request a (core_of s.part) m) (ap (λ (kept : Store (Kept U)). held kept m.sender) (sym store) ∙ holds) there))
+      (m, rw (← store) read, sym verdict ∙ sym (ap₂ (request a (core_of s.part) m) here there))
       handled fewer left count
 
   -- ---- receives
@@ -272,7 +269,8 @@ module _ {T U G C : Type 0} (sends : T → Queue → Result ℕ IoFault → T �
     receive_reads : (rc : Result Queue IoFault) (answer : Result (Unit {0}) IoFault) (link : LinkState T) (turns : List Turn) (out : Gives (Told U))
         (end : ReaderState T (Core U C)) → FilledBy receives s.part.link rc answer link → FindsRoom s.part.link (grown_capacity s.part.link)
         → MatchResult answer (λ _. Reads sends (server a) receives q.turns_left (record { core = core_of s.part; link = link }) turns out end)
-        (λ f. (turns ≡ []) × (out ≡ stops (Some f) (lacks_memory (Err f)) q.turns_left) × (end ≡ record { core = faulted (core_of s.part) f; link = link }))
+        (λ f. (turns ≡ []) × (out ≡ stops (Some f) (lacks_memory (Err f)) q.turns_left)
+        × (end ≡ record { core = faulted (core_of s.part) f; link = link }))
         → Reads sends (server a) receives r.turns_left (reader_part s.part) (Received rc ∷ turns) out end
     receive_reads rc answer link turns out end made finds follows =
         let room = room_found receives s.part.link link rc answer made finds in
@@ -339,7 +337,8 @@ module _ {T U G C : Type 0} (sends : T → Queue → Result ℕ IoFault → T �
       let reading : r' ≡ read_on r e.out.left (handled_in e.turns) = grind (arith, e.left, e.read) in (
         did,
         part_of e.end,
-        where_none s.part.action (sym live.1) _ _ (at_false _ s.part.is_killed live.0 (e.turns, e.out, e.end, e.reads, e.answer_is, reading, e.refused_is, refl, refl)),
+        where_none s.part.action (sym live.1) _ _
+            (at_false _ s.part.is_killed live.0 (e.turns, e.out, e.end, e.reads, e.answer_is, reading, e.refused_is, refl, refl)),
         e.after_is ∙ rw notes refl,
       )
 
@@ -347,24 +346,13 @@ module _ {T U G C : Type 0} (sends : T → Queue → Result ℕ IoFault → T �
   pub open_done : r' ≡ r → after ≡ s → is_some s.part.action ≡ true → NextDoes (Err ActionOpen) false
   open_done left same some =
       let (action, is) : (x : OpenAction) × (Some x ≡ s.part.action) = grind (arith, s.part.action) in
-      rw same (does_quietly s (λ p did q. NextAction sends receives a r p (Err ActionOpen) r' false did q) s.part (where_some s.part.action action is _ _ (refl, left, refl, refl, refl)))
+      rw same (does_quietly s (λ p did q. NextAction sends receives a r p (Err ActionOpen) r' false did q) s.part
+      (where_some s.part.action action is _ _ (refl, left, refl, refl, refl)))
 
   pub killed_done : r' ≡ r → after ≡ s → is_some s.part.action ≡ false → s.part.is_killed ≡ true → NextDoes (Err (Io fault.Pipe)) false
   killed_done left same none dead =
       rw same (does_quietly s (λ p did q. NextAction sends receives a r p (Err (Io fault.Pipe)) r' false did q) s.part
       (where_none s.part.action (sym (live_is s.part.action none)) _ _ (at_true _ s.part.is_killed dead (refl, left, refl, refl, refl))))
-
--- a fault after which more may come
-pub fault_stays : {T U C : Type 0} (receives : T → ℕ → Result Queue IoFault → T → Type 0) (s : Stored T U C) (link : LinkState T) (f : IoFault)
-    → faulted (core_of s.part) f ≡ core_of s.part → Filled receives s.part.link (Err f) link → FindsRoom s.part.link (grown_capacity s.part.link)
-    → Fills receives s (Some (record { fault = f; refused = lacks_memory (Err f) })) (linked s link)
-fault_stays receives s link f same filled finds = (
-  link,
-  filled,
-  finds,
-  refl,
-  made_end s (record s.part { link = link }) ∙ ap (λ (c : Core _ _). stored_as s (record { core = c; link = link })) (sym same),
-)
 
 -- a fault that kills
 pub fault_fills : {T U C : Type 0} (receives : T → ℕ → Result Queue IoFault → T → Type 0) (s after : Stored T U C) (link : LinkState T) (f : IoFault)

@@ -1,5 +1,5 @@
 -- What requests to displays and registries come to, by their arguments.
-use Rattle.std.proofs.Common.{◌≡◌, ℕ, Bool, true, ◌==◌, if◌then◌else◌, List, [], ◌∷◌, Option, None, Some, refl}
+use Rattle.std.proofs.Common.{◌≡◌, ℕ, true, ◌==◌, if◌then◌else◌, List, [], ◌∷◌, Option, None, Some, refl}
 use Rattle.std.specs.List.{list_any}
 use Rattle.wl_wire.specs.declared.argument.Argument.TheVariants as arg
 use Rattle.wl_wire.specs.Argument.{WireArgument, type_of}
@@ -10,10 +10,7 @@ use Rattle.wl_server.specs.Reading.{Around, binds_to, display_request, garbled, 
 use Rattle.wl_server.specs.Inside.Responses.{bind_parts, only_new_id}
 use Rattle.wl_server.specs.Telling.{Core, Told}
 
-abbrev pub asks_new : List WireArgument → Bool
-asks_new args = list_any (λ x. is_new_id (type_of x)) args
-
-pub one_new : (args : List WireArgument) (n : ℕ) → only_new_id args ≡ Some n → asks_new args ≡ true
+pub one_new : (args : List WireArgument) (n : ℕ) → only_new_id args ≡ Some n → list_any (λ x. is_new_id (type_of x)) args ≡ true
 one_new (arg.NewId m ∷ []) n is = refl
 one_new _ n is = cc
 

@@ -26,7 +26,8 @@ pub free_both : (a b : List ℕ) → IsFree a → IsFree b → IsFree (a ++ b)
 free_both a b h k = list_any-append (λ byte. byte == 0) a b ∙ (grind (arith, holds_zero a, holds_zero b))
 
 free_parts : (n : ℕ) (text : List ℕ) → IsFree text → IsFree (take n text) × IsFree (drop n text)
-free_parts n text h = or_parts _ _ (sym (list_any-append (λ byte. byte == 0) (take n text) (drop n text)) ∙ ap holds_zero (take-append-drop n text) ∙ h)
+free_parts n text h =
+    or_parts _ _ (sym (list_any-append (λ byte. byte == 0) (take n text) (drop n text)) ∙ ap holds_zero (take-append-drop n text) ∙ h)
 
 -- ---- numbers
 

@@ -62,10 +62,11 @@ module _ {T U C : Type 0} where
 
     pub passed : (rest : ℕ → ℕ) (one : ℕ → Option (Stored T U C) → ℕ) → Counts clients rest one → rest from ≡ rest to
     passed rest one counts =
-        pass (λ k. rest from ≡ rest k) refl (λ k x here calm before. let step = counts.step k x here in let none = counts.none k x calm in omega (arith, before, step, none))
+        pass (λ k. rest from ≡ rest k) refl (λ k x here calm before. omega (arith, before, counts.step k x here, counts.none k x calm))
 
     -- the client of the slot before it is counted, and those between are passed over
-    pub counted : (rest : ℕ → ℕ) (one : ℕ → Option (Stored T U C) → ℕ) → Counts clients rest one → (slot : ℕ) (x : Option (Stored T U C)) → from ≡ slot + 1
+    pub counted : (rest : ℕ → ℕ) (one : ℕ → Option (Stored T U C) → ℕ) → Counts clients rest one → (slot : ℕ) (x : Option (Stored T U C))
+        → from ≡ slot + 1
         → slice_get clients slot ≡ Some x → rest slot ≡ one slot x + rest to
     counted rest one counts slot x is here = counts.step slot x here ∙ ap (λ n. one slot x + n) (ap rest (sym is) ∙ passed rest one counts)
 
@@ -81,11 +82,13 @@ module _ {T U C : Type 0} where
 -- ---- a count that stops at the greatest number
 
 -- it is no less than what there is, as long as it has not come so far
-pub at_least : (count n count' total one rest rest' : ℕ) → rest ≡ one + rest' → count' ≡ min (count + n) 0xFFFFFFFFFFFFFFFF → (n < 0xFFFFFFFFFFFFFFFF → one ≤ n)
+pub at_least : (count n count' total one rest rest' : ℕ) → rest ≡ one + rest' → count' ≡ min (count + n) 0xFFFFFFFFFFFFFFFF
+    → (n < 0xFFFFFFFFFFFFFFFF → one ≤ n)
     → (count < 0xFFFFFFFFFFFFFFFF → total ≤ count + rest) → count' < 0xFFFFFFFFFFFFFFFF → total ≤ count' + rest'
 at_least count n count' total one rest rest' is sum some before below =
     let all = before (omega (arith, sum, below)) in let has = some (omega (arith, sum, below)) in omega (arith, is, sum, all, has, below)
 
 -- and it is never more
-pub at_most : (count n count' total one rest rest' : ℕ) → rest ≡ one + rest' → count' ≡ min (count + n) 0xFFFFFFFFFFFFFFFF → n ≤ one → count + rest ≤ total → count' + rest' ≤ total
+pub at_most : (count n count' total one rest rest' : ℕ) → rest ≡ one + rest' → count' ≡ min (count + n) 0xFFFFFFFFFFFFFFFF → n ≤ one
+    → count + rest ≤ total → count' + rest' ≤ total
 at_most count n count' total one rest rest' is sum some before = omega (arith, is, sum, some, before)

@@ -1,8 +1,8 @@
 -- The clients that were not touched are still so once notes were gathered, and after a cleanup.
-use Rattle.std.proofs.Common.{◌≡◌, ◌∙◌, ℕ, Bool, true, false, List, [], length, map, Option, None, Some, is_some, Result, IfOk, OnErr, refl, sym, ap, subst, arith}
+use Rattle.std.proofs.Common.{◌≡◌, ◌∙◌, ℕ, Bool, true, false, List, [], length, map, Option, None, Some, is_some, Result, IfOk, OnErr, refl, ap, arith}
 use mathlib.Core.Logic.{inl, inr}
 use Rattle.std.specs.Option.{option_map, option_map_or}
-use Rattle.std.specs.Prelude.{nat_lt, slice_get}
+use Rattle.std.specs.Prelude.{nat_lt}
 use Rattle.std.proofs.lemmas.List.{nil_from_length}
 use Rattle.wl_wire.specs.declared.error.IoFault.{IoFault}
 use Rattle.wl_wire.specs.declared.error.OutOfMemory.{OutOfMemory}
@@ -15,9 +15,9 @@ use Rattle.wl_server.specs.Inside.Gathering.{Gathers, all_emptied, emptied}
 use Rattle.wl_server.specs.Inside.Leaving.{FlushesKilled, all_staying, staying}
 use Rattle.wl_server.specs.Inside.Places.{AllFeel, FeltAt}
 use Rattle.wl_server.specs.Inside.Touched.{AllQuiet, AllSent, HasSent, IsQuiet}
-use Rattle.wl_server.specs.NoteOrder.{AllNumbered, AllTakeFirst, IsNumbered, NoneWaits, TakesFirst, times_at, times_of, to_gather}
+use Rattle.wl_server.specs.NoteOrder.{AllNumbered, AllTakeFirst, IsNumbered, NoneWaits, TakesFirst, times_of, to_gather}
 use Rattle.wl_server.specs.Part.{Part}
-use Rattle.wl_server.specs.Server.{NoteTimes, Stored, stored_at}
+use Rattle.wl_server.specs.Server.{Stored, stored_at}
 use Rattle.wl_server.proofs.Touched.Flushed.{sent_flushed}
 use Rattle.wl_server.proofs.Touched.Kept.{out_all, out_each}
 use Rattle.wl_server.proofs.CleanupSteps.Gathering.{both_none, stored_map}
@@ -44,8 +44,7 @@ module _ {T U C : Type 0} where
   quiet_gathered words clients clients' same first numbered =
       out_each IsQuiet words clients clients'
       (λ k. quiet_as (stored_at k clients) (stored_at k clients') (same_emptied false clients clients' k same)
-      (subst (λ (t : NoteTimes). TakesFirst t (times_of (stored_at k clients'))) (times_stored clients k)
-      (subst (λ (t : NoteTimes). TakesFirst (times_at k (map times_of clients)) t) (times_stored clients' k) (first k)))
+      (rw (times_stored clients k, times_stored clients' k) at (first k))
       (numbered k))
 
   -- what was gathered, or was not for want of memory
@@ -56,7 +55,8 @@ module _ {T U C : Type 0} where
 
   -- ---- a cleanup
 
-  calm_staying : (o : Option (Stored T U C)) → to_gather true o ≡ [] → (times_of (staying o)).waiting ≡ [] → IsNumbered (staying o) → IsQuiet (staying o)
+  calm_staying : (o : Option (Stored T U C)) → to_gather true o ≡ [] → (times_of (staying o)).waiting ≡ [] → IsNumbered (staying o) → IsQuiet
+      (staying o)
   calm_staying None none waits numbered = tt
   calm_staying (Some s) none waits numbered = grind (arith, both_none s.made s.part.waiting none, nil_from_length, s.part.is_killed)
 
@@ -65,10 +65,12 @@ module _ {T U C : Type 0} where
         → HasSent (option_map_or (λ s. s) before None) → HasSent (option_map_or (λ s. s) after None)
     sent_place k lacked None after (none, is) sent = rw is tt
     sent_place k lacked (Some None) after (place, (none, gone), is) sent = grind (arith, option_map_or)
-    sent_place k lacked (Some (Some s)) after (place, (s', (did, q, feels, made), there), is) sent = rw (is, there) (elim (either_bool s.part.is_killed feels) [
-      | inl (answer, flushed) ↦ sent_flushed sends s s' answer lacked (did, q, flushed, made) sent
-      | inr (none, nothing, same) ↦ ap (λ (x : Stored T U C). x.part.link.outgoing.bytes) made ∙ (ap (λ (p : Part T U C). p.link.outgoing.bytes) same ∙ sent)
-    ])
+    sent_place k lacked (Some (Some s)) after (place, (s', (did, q, feels, made), there), is) sent = rw (is, there)
+        (elim (either_bool s.part.is_killed feels) [
+          | inl (answer, flushed) ↦ sent_flushed sends s s' answer lacked (did, q, flushed, made) sent
+          | inr (none, nothing, same) ↦ ap (λ (x : Stored T U C). x.part.link.outgoing.bytes) made
+              ∙ (ap (λ (p : Part T U C). p.link.outgoing.bytes) same ∙ sent)
+        ])
 
     sent_killed : (words : List ℕ) (refused : Bool) (clients clients' : List (Option (Stored T U C)))
         → AllFeel (λ id p lacked did q. FlushesKilled sends p lacked did q) refused (length clients) clients clients' → AllSent words clients → AllSent words clients'
@@ -77,8 +79,9 @@ module _ {T U C : Type 0} where
     pub sent_cleaned : (words : List ℕ) (clients clients' : List (Option (Stored T U C))) (notes notes' : List (Note U)) (refused : Bool) (given : List (ClientParts × T))
         → CleansUp sends clients notes refused clients' notes' given → AllSent words clients → AllSent words clients'
     sent_cleaned words clients clients' notes notes' refused given by sent =
-        subst (λ (xs : List (Option (Stored T U C))). AllSent words xs) (sym by.stay)
-        (out_each HasSent words by.left (all_staying by.left) (λ k has. (grind (arith, has, stored_map staying refl by.left k, staying, stored_at k by.left)))
+        rw by.stay
+        (out_each HasSent words by.left (all_staying by.left)
+        (λ k has. (grind (arith, has, stored_map staying refl by.left k, staying, stored_at k by.left)))
         (sent_emptied true words by.flushed by.left by.gathers.rest (sent_killed words refused clients by.flushed by.flushes sent)))
 
     -- after a cleanup no client has a note, and each is live
@@ -86,4 +89,4 @@ module _ {T U C : Type 0} where
         → CleansUp sends clients notes refused clients' notes' given → NoneWaits (map times_of clients') → AllNumbered clients' → AllQuiet words clients'
     quiet_cleaned words clients clients' notes notes' refused given by waits numbered =
         out_all IsQuiet words clients'
-        (λ k out. (grind (arith, by.stay, stored_map staying refl by.left k, calm_staying, by.all k, times_stored clients' k, waits k, numbered k, slice_get by.left k)))
+        (λ k out. (grind (arith, by.stay, stored_map staying refl by.left k, calm_staying, by.all k, times_stored clients' k, waits k, numbered k)))

@@ -33,9 +33,13 @@ module _ {T U C : Type 0} where
     unfolding AllOut
     out_each words clients clients' each all k out = each k (all k out)
 
-    pub out_all : (words : List ℕ) (clients : List (Option (Stored T U C))) → ((k : ℕ) → IsOut words k → P (stored_at k clients)) → AllOut P words clients
+    pub out_all : (words : List ℕ) (clients : List (Option (Stored T U C))) → ((k : ℕ) → IsOut words k → P (stored_at k clients))
+        → AllOut P words clients
     unfolding AllOut
     out_all words clients all = all
+
+    pub out_none : (words : List ℕ) (clients : List (Option (Stored T U C))) → ((k : ℕ) → IsOut words k → ⊥) → AllOut P words clients
+    out_none words clients none = out_all words clients (λ k out. absurd (none k out))
 
     pub out_here : (words : List ℕ) (clients : List (Option (Stored T U C))) (k : ℕ) (x : Option (Stored T U C)) → slice_get clients k ≡ Some x → IsOut words k
         → AllOut P words clients → P x

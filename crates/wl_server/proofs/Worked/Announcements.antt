@@ -36,7 +36,8 @@ tells_of registry g = global_message table registry g
 
 -- a registry that was told of two globals when it was made, and one that was told of them later
 told_of_two : (announced (map (tells_of (at 2 1)) (one ∷ two ∷ [])) (at 2 1) ≡ first ∷ second ∷ [])
-    × (announced (done_message (at 3 2) ∷ delete_message 3 ∷ tells_of (at 2 1) one ∷ done_message (at 3 3) ∷ tells_of (at 2 1) two ∷ []) (at 2 1) ≡ first ∷ second ∷ [])
+    × (announced (done_message (at 3 2) ∷ delete_message 3 ∷ tells_of (at 2 1) one ∷ done_message (at 3 3) ∷ tells_of (at 2 1) two ∷ []) (at 2 1)
+    ≡ first ∷ second ∷ [])
 told_of_two = (refl, refl)
 
 -- a global is taken back; it may have been hidden, so that it was never announced
@@ -45,7 +46,8 @@ taken_back_again : (announced (tells_of (at 2 1) one ∷ tells_of (at 2 1) two �
 taken_back_again = (refl, refl)
 
 -- a name is used again: the new global stands behind the others; and were it not taken back before, both would be announced
-used_again : (announced (tells_of (at 2 1) one ∷ tells_of (at 2 1) two ∷ removal_message 1 (at 2 1) ∷ tells_of (at 2 1) one ∷ []) (at 2 1) ≡ second ∷ first ∷ [])
+used_again : (announced (tells_of (at 2 1) one ∷ tells_of (at 2 1) two ∷ removal_message 1 (at 2 1) ∷ tells_of (at 2 1) one ∷ []) (at 2 1)
+    ≡ second ∷ first ∷ [])
     × (announced (tells_of (at 2 1) one ∷ tells_of (at 2 1) (record one { version = 1 }) ∷ []) (at 2 1) ≡ first ∷ record first { version = 1 } ∷ [])
 used_again = (refl, refl)
 
@@ -105,8 +107,8 @@ as_it_has_to_be g = (
 wrongly_announced : (is_disabled client_data : Bool) → is_shown says client client_data (1, quad_global is_disabled) ≡ false
     → AreSameGlobals (announced (tells_of (at 2 1) one ∷ []) (at 2 1)) (shown_of says (offer_of is_disabled) client client_data) → ⊥
 wrongly_announced is_disabled client_data hidden same =
-    not_shown is_disabled client_data hidden first
-    (among_shown says client client_data (offer_of is_disabled) first (among_contains _ first ((same first).0 (contains_among (first ∷ []) first (inl refl)))))
+    not_shown is_disabled client_data hidden first (among_shown says client client_data (offer_of is_disabled) first
+    (among_contains _ first ((same first).0 (contains_among (first ∷ []) first (inl refl)))))
 
 hidden_and_announced : AreSameGlobals (announced (tells_of (at 2 1) one ∷ []) (at 2 1)) (shown_of says (offer_of false) client false) → ⊥
 hidden_and_announced = wrongly_announced false false refl

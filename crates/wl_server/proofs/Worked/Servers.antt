@@ -1,40 +1,58 @@
--- Worked steps of a server, computed from the definitions: they say what was meant.
-use Rattle.std.proofs.Common.{◌≡◌, ℕ, Bool, List, [], ◌∷◌, ◌++◌, Option, Some, None, Result, Ok, Err, true, false, refl, arith}
-use Rattle.std.specs.Prelude.{ℕ}
+-- Worked steps, runs and outcomes of a server, computed from the definitions: they say what was meant.
+use Rattle.std.proofs.Common.{◌≡◌, ℕ, Bool, List, [], ◌∷◌, ◌++◌, Option, Some, None, Result, Ok, Err, true, false, refl, arith, ◌⊎◌, ap, sym, lit<, true≢false, is_some}
+use Rattle.std.specs.Prelude.{Vec, is_ok}
 use Rattle.wl_wire.specs.declared.protocol.TableError.{TableError}
-use Rattle.wl_wire.specs.declared.protocol.TableError.TheVariants as table_error
 use Rattle.wl_wire.specs.Table.{InterfaceRow}
-use Rattle.wl_wire.specs.declared.error.IoFault.TheVariants as fault
 use Rattle.wl_wire.specs.declared.argument.Token.{Token}
 use Rattle.wl_wire.specs.declared.message.Message.{Message}
 use Rattle.wl_link.specs.Script.{Script}
+use Rattle.wl_server.specs.declared.error.ActionError.TheVariants.{Io, ActionOpen}
+use Rattle.wl_server.specs.declared.notes.DisconnectReason.TheVariants.{ConnectionClosed}
+use Rattle.wl_server.specs.declared.notes.Happening.{Happening}
+use Rattle.wl_server.specs.declared.notes.Note.{Note}
+use Rattle.wl_server.specs.declared.notes.Note.TheVariants.{Initialized, Disconnected, Destroyed}
+use Rattle.wl_server.specs.declared.runs.step.Reply.{Reply}
+use Rattle.wl_server.specs.declared.runs.step.Step.{Step}
+use Rattle.wl_server.specs.Globals.{CreatesGlobal, Offer, new_offer, no_globals, CreatesNext, Globals, LacksName}
+use Rattle.wl_server.specs.Ids.{ClientParts, IdParts, same_client, GlobalParts}
+use Rattle.wl_server.specs.Lookups.{live_from}
+use Rattle.wl_server.specs.Moves.{ArriveFault, ScriptMoves, TakeSent}
+use Rattle.wl_server.specs.Part.{Part}
+use Rattle.wl_server.specs.PartStep.{Asked, Call, Grown, PartStep, World, share_of}
+use Rattle.wl_server.specs.Reading.{new_reading}
+use Rattle.wl_server.specs.Runs.{Own, mine}
+use Rattle.wl_server.specs.Server.{Seen, Stored, no_times, notes_of, ServerState, new_server, nothing_seen, seen}
+use Rattle.wl_server.specs.Steps.{Entry, IsLeastFree, lacks_growth, offer_after, OneStep, RiseBySlot}
+use Rattle.wl_server.proofs.Worked.Messages.{client, entry, id_in, other, quad_id, table, quad_global}
+use Rattle.wl_wire.specs.declared.error.OutOfMemory.{OutOfMemory}
+use Rattle.wl_server.specs.Deeds.{Deed}
+use Rattle.wl_server.specs.Errors.{posts}
+use Rattle.wl_server.specs.Telling.{Core}
+use Rattle.std.specs.Global.{Global}
+use mathlib.Core.Logic.{inl, inr}
+use Rattle.wl_server.specs.declared.error.ActionError.{ActionError}
+use Rattle.wl_server.specs.declared.reading.action.Action.{Action}
+use Rattle.wl_server.specs.declared.reading.action.OpenAction.{OpenAction}
+use Rattle.wl_server.specs.GivenOnce.{ClientsRise, global_over}
+use Rattle.wl_server.specs.Killed.{ReadingAnswers, StaysKilled}
+use Rattle.std.proofs.lemmas.Bool.{cases_Bool, false≢true}
+use Rattle.wl_wire.specs.declared.error.IoFault.{IoFault}
+use Rattle.wl_link.specs.Exchange.{Queue, nothing, IsFunction}
+use Rattle.wl_server.specs.declared.notes.Happening.TheVariants.{Initialized as WasInserted}
+use Rattle.wl_server.specs.Outcome.Whole.{SameServer}
+use Rattle.wl_wire.specs.declared.protocol.TableError.TheVariants as table_error
+use Rattle.wl_wire.specs.declared.error.IoFault.TheVariants as fault
 use Rattle.wl_server.specs.declared.error.CreateError.TheVariants as create
 use Rattle.wl_server.specs.declared.error.DestroyError.TheVariants as destroy
-use Rattle.wl_server.specs.declared.error.ActionError.TheVariants.{Io}
 use Rattle.wl_server.specs.declared.error.EventError.TheVariants as event
 use Rattle.wl_server.specs.declared.error.FinishError.TheVariants as finish
 use Rattle.wl_server.specs.declared.error.GlobalError.TheVariants as global
 use Rattle.wl_server.specs.declared.error.ScriptError.TheVariants as script
-use Rattle.wl_server.specs.declared.notes.DisconnectReason.TheVariants.{ConnectionClosed}
-use Rattle.wl_server.specs.declared.notes.Happening.{Happening}
 use Rattle.wl_server.specs.declared.notes.Happening.TheVariants as happened
-use Rattle.wl_server.specs.declared.notes.Note.{Note}
-use Rattle.wl_server.specs.declared.notes.Note.TheVariants.{Initialized, Disconnected, Destroyed}
-use Rattle.wl_server.specs.declared.runs.step.Reply.{Reply}
 use Rattle.wl_server.specs.declared.runs.step.Reply.TheVariants as reply
-use Rattle.wl_server.specs.declared.runs.step.Step.{Step}
 use Rattle.wl_server.specs.declared.runs.step.Step.TheVariants as step
-use Rattle.wl_server.specs.Globals.{CreatesGlobal, Offer, new_offer, no_globals}
-use Rattle.wl_server.specs.Ids.{ClientParts, IdParts, same_client}
-use Rattle.wl_server.specs.Lookups.{live_from}
-use Rattle.wl_server.specs.Moves.{ArriveFault, ScriptMoves, TakeSent}
-use Rattle.wl_server.specs.Part.{Part}
-use Rattle.wl_server.specs.PartStep.{Asked, Call, Grown, PartStep, World}
-use Rattle.wl_server.specs.Reading.{new_reading}
-use Rattle.wl_server.specs.Runs.{Own, mine}
-use Rattle.wl_server.specs.Server.{Seen, Stored, no_times, notes_of}
-use Rattle.wl_server.specs.Steps.{Entry, IsLeastFree, lacks_growth, offer_after}
-use Rattle.wl_server.proofs.Worked.Messages.{client, entry, id_in, other, quad_id, table}
+use Rattle.wl_server.specs.declared.error.InsertClientError.TheVariants as insert
+use Rattle.wl_server.proofs.OverRuns.Outcome.WholeLaws.{same_client_is}
 
 -- ---- what is a client's
 
@@ -166,3 +184,202 @@ module _ (s : Script) where
   a_fault_arrives : ScriptMoves s (ArriveFault fault.Pipe) (Ok []) (record s { arrivals = s.arrivals ++ Err fault.Pipe ∷ [] })
       × ScriptMoves s TakeSent (Ok s.sent) (record s { sent = [] })
   a_fault_arrives = ((refl, refl), (refl, refl))
+
+-- ---- what no step does, whatever else it is free to do
+
+module _ (w : World ℕ ℕ Bool) (lacks : ClientParts → Bool) (did : ClientParts → List (Deed ℕ)) (after : ServerState ℕ ℕ ℕ Bool) where
+  abbrev first_entry : Step ℕ ℕ ℕ Bool → Reply ℕ ℕ → Bool → Entry ℕ ℕ ℕ Bool
+  first_entry call answer refused = record { call = Asked call answer; refused = refused; lacks = lacks; did = did }
+
+  -- a call as the first of a server
+  abbrev First : Step ℕ ℕ ℕ Bool → Reply ℕ ℕ → Bool → Type 0
+  First call answer refused = OneStep w (new_server table) (first_entry call answer refused) after
+
+  none_lacks : ((id : ClientParts) → lacks id ≡ false) → (false ≡ true) ⊎ ((id : ClientParts) × (lacks id ≡ true)) → ⊥
+  none_lacks none h2 = grind (arith, true≢false)
+
+  -- ---- no memory is refused where there is nobody to refuse it to
+
+  a_flush_of_nobody : First (step.Flush None) (reply.Flush (Ok tt)) true → ⊥
+  a_flush_of_nobody by = none_lacks (λ id. let (r, is, h) = by.each id in h.1.1.0) (by.refused.0 refl)
+
+  a_global_of_nobody : (g : GlobalParts) → First (step.CreateGlobal (record { 0 = 4 }) 3 7) (reply.CreateGlobal (Ok g)) true → ⊥
+  a_global_of_nobody g by = none_lacks (λ id. nobody id (by.each id)) (by.refused.0 refl)
+    where
+      nobody : (id : ClientParts)
+          → PartStep w id (new_offer table) (step.CreateGlobal (record { 0 = 4 }) 3 7) (reply.CreateGlobal (Ok g)) nothing_seen (lacks id) (did id) (seen id after)
+          → lacks id ≡ false
+      nobody id h2 = grind (arith)
+
+  -- ---- nor where there is nothing to be made room for
+
+  a_cleanup_of_nobody : (e : OutOfMemory) (refused : Bool) → First step.Cleanup (reply.Cleanup (Err e)) refused → ⊥
+  a_cleanup_of_nobody e refused by = let (slot, s, here, some) = by.room in true≢false (sym (ap is_some here))
+
+  no_notes_of_nobody : (e : OutOfMemory) (refused : Bool) → First step.TakeNotes (reply.TakeNotes (Err e)) refused → ⊥
+  no_notes_of_nobody e refused by = let (slot, s, here, some) = by.room in true≢false (sym (ap is_some here))
+
+  -- ---- a new client
+
+  -- gets the first slot
+  first_slot_given : (id : ClientParts) (refused : Bool) → First (step.InsertClient 5 true) (reply.InsertClient (Ok id)) refused → (id.slot ≡ 0)
+      × (id.serial ≡ 1)
+  first_slot_given id refused by = grind (arith, true≢false)
+
+  -- and is not told that none is left
+  not_full_yet : (refused : Bool) → First (step.InsertClient 5 true) (reply.InsertClient (Err insert.Full)) refused → ⊥
+  not_full_yet refused by = grind (arith, true≢false, lit<)
+
+-- ---- no want of memory is answered where no name is left
+
+full_comes_first : (globals : Globals ℕ) → LacksName globals → CreatesNext globals (Err global.OutOfMemory) → ⊥
+full_comes_first globals h2 h3 = grind (arith, true≢false, is_some)
+
+-- ---- an error for a killed client asks for no memory
+
+an_error_for_the_killed : (c : Core ℕ Bool) (id : IdParts) → c.is_killed ≡ true → (posts table c id 0 []).asks ≡ false
+an_error_for_the_killed c id killed = rw killed refl
+
+-- ---- clients and globals that come to their end
+
+-- ---- a killed client
+
+abbrev read_of : ClientParts → Result Action ActionError → Entry ℕ ℕ ℕ Bool
+read_of target answer = entry (step.NextAction target) (reply.NextAction answer)
+
+abbrev cleaned : Vec (ClientParts × ℕ) Global → Entry ℕ ℕ ℕ Bool
+cleaned out = entry step.Cleanup (reply.Cleanup (Ok out))
+
+module _ (p : Part ℕ ℕ Bool) (open' : OpenAction) (out : Vec (ClientParts × ℕ) Global) (handed : out.items ≡ (client, 7) ∷ []) where
+  abbrev dead : Option OpenAction → Part ℕ ℕ Bool
+  dead action = record p { is_killed = true; action = action }
+
+  -- its action is open, is ended, and then a cleanup takes it out; another client is read as well
+  taken_out : StaysKilled client (record { part = Some (dead (Some open')); made = [] })
+      (read_of client (Err ActionOpen) ∷ entry (step.FinishRequest client None) (reply.FinishRequest (Ok tt)) ∷ read_of client (Err (Io fault.Pipe))
+      ∷ read_of other (Err (Io fault.WouldBlock)) ∷ cleaned out ∷ read_of client (Err (Io fault.InvalidInput)) ∷ []) nothing_seen
+  taken_out = record {
+    with_action = read_of client (Err ActionOpen) ∷ entry (step.FinishRequest client None) (reply.FinishRequest (Ok tt)) ∷ [];
+    without_action = read_of client (Err (Io fault.Pipe)) ∷ read_of other (Err (Io fault.WouldBlock)) ∷ [];
+    from_cleanup = cleaned out ∷ read_of client (Err (Io fault.InvalidInput)) ∷ [];
+    split = refl;
+    opened = λ none. absurd (true≢false (ap is_some none));
+    says_open = ((λ mine. refl), (tt, tt));
+    says_killed = ((λ mine. refl), ((λ mine. absurd (true≢false (sym mine))), tt));
+    ends = ((out, 7, refl, ap (share_of client) handed), ((λ mine. refl), tt), refl);
+    receives = refl;
+  }
+
+  -- one that is still stored
+  still_stored : StaysKilled client (record { part = Some (dead None); made = [] }) (read_of client (Err (Io fault.Pipe)) ∷ []) (record { part = Some (dead None); made = [] })
+  still_stored = record {
+    with_action = [];
+    without_action = read_of client (Err (Io fault.Pipe)) ∷ [];
+    from_cleanup = [];
+    split = refl;
+    opened = λ none. refl;
+    says_open = tt;
+    says_killed = ((λ mine. refl), tt);
+    ends = refl;
+    receives = refl;
+  }
+
+-- another fault is no such answer, nor is a reading that used up a receive
+no_other_fault : ReadingAnswers client (Io fault.Pipe) (read_of client (Err (Io fault.Proto))).call → ⊥
+no_other_fault says = grind (arith, true≢false)
+
+no_receive_used : ReadingAnswers client (Io fault.Pipe)
+    (entry (step.NextActionWithin client new_reading) (reply.NextActionWithin (Err (Io fault.Pipe)) (record new_reading { turns_left = 63 }))).call → ⊥
+no_receive_used says = grind (arith)
+
+-- ---- ids
+
+abbrev inserted : ClientParts → Entry ℕ ℕ ℕ Bool
+inserted id = entry (step.InsertClient 1 true) (reply.InsertClient (Ok id))
+
+abbrev first_global : GlobalParts
+first_global = record { name = 1; serial = 1 }
+
+-- one that took the name of the first
+abbrev next_global : GlobalParts
+next_global = record { name = 1; serial = 2 }
+
+abbrev disabling : GlobalParts → Entry ℕ ℕ ℕ Bool
+disabling g = entry (step.DisableGlobal g) reply.DisableGlobal
+
+abbrev removing : GlobalParts → Entry ℕ ℕ ℕ Bool
+removing g = entry (step.RemoveGlobal g) reply.RemoveGlobal
+
+-- a global is not touched by calls that name one of the same name
+its_own_calls : (global_over first_global (disabling next_global ∷ removing next_global ∷ []) (Some (quad_global false)) ≡ Some (quad_global false))
+    × (global_over first_global (disabling first_global ∷ disabling first_global ∷ []) (Some (quad_global false)) ≡ Some (quad_global true))
+    × (global_over first_global (disabling first_global ∷ removing first_global ∷ disabling first_global ∷ []) (Some (quad_global false)) ≡ None)
+its_own_calls = (refl, refl, refl)
+
+-- a client that takes the slot of an earlier one has another id
+never_twice : ClientsRise (inserted client ∷ inserted other ∷ inserted client ∷ []) → ⊥
+never_twice rise = (let less = rise.0 client client (1, true, refl) (inr (inl (1, true, refl))) in omega (arith, less))
+
+-- ---- what one outcome leaves open and what it does not
+
+not_both : (id : ClientParts) → same_client client id ≡ true → same_client other id ≡ true → ⊥
+not_both id one two = grind (arith, same_client_is, client, other)
+
+-- ---- the order of the notes of two clients
+
+abbrev noted : List (Note ℕ) → ServerState ℕ ℕ ℕ Bool
+noted notes = record { offer = new_offer table; last_client = 2; clients = []; notes = notes; numbers = record { waiting = 0; made = 0 } }
+
+abbrev one_order : List (Note ℕ)
+one_order = Initialized client ∷ Initialized other ∷ []
+
+abbrev other_order : List (Note ℕ)
+other_order = Initialized other ∷ Initialized client ∷ []
+
+-- servers that differ in it are the same only where it does not count: each client finds the same
+either_order : (id : ClientParts) → notes_of id one_order ≡ notes_of id other_order
+either_order id = grind (arith, cases_Bool, same_client, client, other, not_both)
+
+orders_alike : SameServer false (noted one_order) (noted other_order)
+orders_alike = grind (arith, either_order, false≢true)
+
+orders_differ : SameServer true (noted one_order) (noted other_order) → ⊥
+orders_differ same = grind (arith, true≢false, client)
+
+-- and the notes of one client stand as they were made
+abbrev is_first : List (Happening ℕ) → Bool
+is_first (WasInserted ∷ _) = true
+is_first _ = false
+
+abbrev ended : List (Note ℕ)
+ended = Disconnected client ConnectionClosed ∷ Initialized client ∷ []
+
+abbrev begun : List (Note ℕ)
+begun = Initialized client ∷ Disconnected client ConnectionClosed ∷ []
+
+not_turned : (ordered : Bool) → SameServer ordered (noted ended) (noted begun) → ⊥
+not_turned ordered same = true≢false (sym (ap (λ (s : Seen ℕ ℕ Bool). is_first s.made) (same.held.each client)))
+
+-- ---- a cleanup's list
+
+-- the clients that it takes out do not stand in the other order
+abbrev descending : List (ClientParts × ℕ)
+descending = (other, 8) ∷ (client, 7) ∷ []
+
+not_descending : RiseBySlot descending → ⊥
+not_descending rises = let falls = rises 0 1 (client, 7) (lit< tt) (lit< tt) in omega (arith, falls)
+
+-- ---- a transport that chooses
+
+-- where a send may be answered by anything, there is more than one outcome
+abbrev chooses : ℕ → Queue → Result ℕ IoFault → ℕ → Type 0
+chooses before offer answer after = Unit {0}
+
+not_a_function : IsFunction chooses → ⊥
+not_a_function function = let one = function 0 nothing (Ok 0) (Err fault.Pipe) 0 0 tt tt taken broken in true≢false (ap is_ok one.0)
+  where
+    taken : ◌≡◌ {A = Result ℕ IoFault} (Ok 0) (Err fault.OutOfMemory) → ⊥
+    taken same = true≢false (ap is_ok same)
+
+    broken : ◌≡◌ {A = Result ℕ IoFault} (Err fault.Pipe) (Err fault.OutOfMemory) → ⊥
+    broken same = cc

@@ -5,36 +5,48 @@ use Rattle.std.specs.Str.Lossy.{utf8_lossy, utf8_valid_len}
 use Rattle.std.specs.Str.{is_utf8, chars}
 use lib.Utf8.{encode}
 use Rattle.std.specs.Prelude.{codes, ℕ}
-use Rattle.wl_wire.specs.declared.argument.ArgumentType.TheVariants as kind
-use Rattle.wl_wire.specs.declared.argument.Argument.TheVariants as arg
 use Rattle.wl_wire.specs.declared.error.IoFault.{IoFault}
-use Rattle.wl_wire.specs.declared.error.IoFault.TheVariants as fault
 use Rattle.wl_wire.specs.Message.{word, piece, spelling}
 use Rattle.wl_wire.specs.Parse.{ReadsMessage, sender_of, second_word}
 use Rattle.wl_wire.specs.Inside.Cursor.{word_at, counted_at, text_of, argument_at, arguments_at}
 use Rattle.wl_wire.proofs.Spelling.CursorLaws.{arguments_read}
-use Rattle.wl_link.specs.Exchange.{Queue, Sending}
+use Rattle.wl_link.specs.Exchange.{Queue, Sending, nothing}
 use Rattle.wl_link.specs.Link.{FlushedBy, Grown, LinkState, Wants, WroteBy, needed}
 use Rattle.wl_link.specs.Puts.{FlushesOut, PutsOut, Said}
-use Rattle.wl_link.specs.Reader.{Given, HandedOut, Handled, Queued, ReaderState, stops}
+use Rattle.wl_link.specs.Reader.{Given, HandedOut, Handled, Queued, ReaderState, stops, Gives, Reads, Received, Turn}
 use Rattle.wl_link.specs.Store.{held, removed}
 use Rattle.wl_server.specs.declared.error.ActionError.TheVariants.{Io}
 use Rattle.wl_server.specs.declared.notes.DisconnectReason.{DisconnectReason}
 use Rattle.wl_server.specs.declared.notes.DisconnectReason.TheVariants.{ProtocolError as BrokeProtocol, ConnectionClosed}
-use Rattle.wl_server.specs.declared.notes.Happening.TheVariants as happened
-use Rattle.wl_server.specs.Deeds.{Noted, Put, Sent, Left}
-use Rattle.wl_server.specs.Globals.{Globals}
+use Rattle.wl_server.specs.Deeds.{Noted, Put, Sent, Left, Came}
+use Rattle.wl_server.specs.Globals.{Globals, Offer}
 use Rattle.wl_server.specs.Part.{Part, display_object, objects_of, fresh_object}
-use Rattle.wl_server.specs.Reading.{Around, NextAction, new_reading, server}
+use Rattle.wl_server.specs.Reading.{Around, NextAction, new_reading, server, exchanges_in}
 use Rattle.wl_server.specs.Requests.{is_valid_new}
-use Rattle.wl_server.specs.Telling.{Core, Stops, Told, core_of, delete_message, error_message, killed}
+use Rattle.wl_server.specs.Telling.{Core, Stops, Told, core_of, delete_message, error_message, killed, deeds_of, reader_part}
 use Rattle.wl_server.proofs.Worked.Messages.{at, client, id_in, is_cons, quad, quad_id, says, table}
 use Rattle.wl_link.specs.declared.object.Object.{Object}
 use Rattle.wl_link.specs.Stretch.{EndsByPipe}
-use Rattle.wl_server.specs.declared.reading.action.OpenAction.TheVariants as opened
 use Rattle.wl_server.specs.declared.objects.Kept.{Kept}
 use Rattle.wl_server.specs.Events.{SendsEvent, SessionMessage, said}
 use Rattle.wl_server.specs.Finish.{FinishesRequest}
+use Rattle.wl_link.specs.Script.{Script}
+use Rattle.wl_link.specs.Served.{Answers, state_as, AsTold}
+use Rattle.wl_server.specs.Cutting.{CutsReading, IsServed}
+use Rattle.wl_server.proofs.OverRuns.Cut.CuttingLaws.{seen_reads}
+use Rattle.wl_server.specs.PartStep.{Asked, ReadsFor, World, around, over_scripts}
+use Rattle.wl_server.specs.Runs.{Alone, Own}
+use Rattle.wl_server.specs.Server.{Seen}
+use Rattle.wl_server.proofs.OverRuns.Cut.StretchLaws.{stretch_served}
+use Rattle.wl_server.specs.Stretches.{IsStretch, StretchIsServed}
+use Rattle.wl_wire.specs.declared.argument.ArgumentType.TheVariants as kind
+use Rattle.wl_wire.specs.declared.argument.Argument.TheVariants as arg
+use Rattle.wl_wire.specs.declared.error.IoFault.TheVariants as fault
+use Rattle.wl_server.specs.declared.notes.Happening.TheVariants as happened
+use Rattle.wl_server.specs.declared.reading.action.OpenAction.TheVariants as opened
+use Rattle.wl_server.specs.declared.runs.step.Reply.TheVariants as reply
+use Rattle.wl_server.specs.declared.runs.step.Step.TheVariants as step
+use Rattle.wl_link.proofs.Readings.ServedLaws.{served_one, told_function}
 
 abbrev arrived : List ℕ
 arrived = 1 ∷ 0 ∷ 0 ∷ 0 ∷ 0 ∷ 0 ∷ 0x0c ∷ 0 ∷ 5 ∷ 0 ∷ 0 ∷ 0 ∷ []
@@ -121,7 +133,7 @@ module _ (sends : ℕ → Queue → Result ℕ IoFault → ℕ → Type 0) (rece
             end,
             stops None false 64,
             (record { sender = 1; opcode = 0; args = arg.NewId 5 ∷ [] }, (Some (kind.NewId ∷ []), rw display refl, (it_is_read, refl)), refl),
-            rw display (rw taken (rw display (inl ([], the_send ∷ [], the_error ∷ [], Ok tt, _, false, it_is_put, it_is_sent, refl, refl, refl, refl)))),
+            rw display (rw taken (rw display (inl ([], the_send ∷ [], the_error ∷ [], Ok tt, _, _, it_is_put, it_is_sent, refl, refl, refl, refl)))),
             refl,
             (refl, refl),
           ),
@@ -193,14 +205,113 @@ module _ (sends : ℕ → Queue → Result ℕ IoFault → ℕ → Type 0) (p : 
       → PutsOut sends full.link (delete_message 3 ∷ []) (failed ∷ []) [] (Err fault.Pipe) broken
   unfolding word piece
   it_fails fails =
-      let sent : FlushedBy sends full.link (failed ∷ []) (Err fault.Pipe) broken = ((1, fails, refl), ((λ e. true≢false (ap is_cons e)), refl, (refl, refl, refl)), refl) in
-      (failed ∷ [], Err fault.Pipe, broken, inl (inr (full.link, stays full.link 12 (λ w. absurd (let h = w.1 in omega (arith, h))), (broken, Err fault.Pipe, sent, (refl, refl)))), (refl, refl, refl, refl))
+      let sent : FlushedBy sends full.link (failed ∷ [])
+      (Err fault.Pipe) broken = ((1, fails, refl), ((λ e. true≢false (ap is_cons e)), refl, (refl, refl, refl)), refl) in (
+        failed ∷ [],
+        Err fault.Pipe,
+        broken,
+        inl (inr
+            (full.link, stays full.link 12 (λ w. absurd (let h = w.1 in omega (arith, h))), (broken, Err fault.Pipe, sent, (refl, refl)))),
+        (refl, refl, refl, refl),
+      )
 
   -- where the `delete_id` of a destructor request fails, the sender is noted first, and then the end of the client
-  an_end_that_fails : held p.store 3 ≡ Some quad → held (removed p.store 3) 3 ≡ None → sends 0 (record { bytes = 7 ∷ []; tokens = [] }) (Err fault.Pipe) 1
+  an_end_that_fails : held p.store 3 ≡ Some quad → held (removed p.store 3) 3 ≡ None → sends 0 (record { bytes = 7 ∷ []; tokens = [] })
+      (Err fault.Pipe) 1
       → FinishesRequest sends client full None (Ok tt) false
       (Sent failed ∷ Noted (happened.Destroyed (id_in client 3 2 quad_id) 6) ∷ Left (at 3 2) ∷ Noted (happened.Disconnected ConnectionClosed) ∷ [])
       (record full { link = broken; store = removed p.store 3; is_killed = true; action = None })
   unfolding word piece
   an_end_that_fails there left fails =
-      rw there (refl, (failed ∷ [], _, _, inl (failed ∷ [], [], [], Err fault.Pipe, broken, false, it_fails fails, (refl, refl, refl), refl, refl, refl, refl), rw left refl, refl))
+      let failing = it_fails fails in
+      rw there (refl, (failed ∷ [], _, _, inl (failed ∷ [], [], [], _, broken, false, failing, (refl, refl, refl), refl, refl, refl, refl), rw left refl, refl))
+
+-- ---- a stretch of a client's own run: five bytes of a header arrive, are read, and wait
+
+-- The deeds of the reading are those of its turns; and what is served of the five bytes is nothing, by no answer to a send.
+
+abbrev half : Queue
+half = record { bytes = 1 ∷ 0 ∷ 0 ∷ 0 ∷ 0 ∷ []; tokens = [] }
+
+abbrev scripted : List (Result Queue IoFault) → Script
+scripted arrivals = record { arrivals = arrivals; answers = []; sent = [] }
+
+abbrev link_over : Script → Queue → LinkState Script
+link_over script incoming = record {
+  transport = script;
+  incoming = incoming;
+  incoming_capacity = 4096;
+  outgoing = nothing;
+  outgoing_capacity = 4096;
+  limit = Some 4096;
+}
+
+module _ (offer : Offer ℕ) (p : Part Script ℕ Bool) where
+  abbrev w : World Script ℕ Bool
+  w = over_scripts says
+
+  abbrev at_first : Part Script ℕ Bool
+  at_first = record p { link = link_over (scripted (Ok half ∷ [])) nothing; is_killed = false; action = None }
+
+  abbrev at_last : Part Script ℕ Bool
+  at_last = record p { link = link_over (scripted []) half; is_killed = false; action = None }
+
+  abbrev with_part : Part Script ℕ Bool → Seen Script ℕ Bool
+  with_part q = record { part = Some q; made = [] }
+
+  abbrev reading : Own Script ℕ ℕ Bool
+  reading = record {
+    call = Asked (step.NextAction client) (reply.NextAction (Err (Io fault.WouldBlock)));
+    lacked = false;
+    did = Came (Ok half) ∷ Came (Err fault.WouldBlock) ∷ [];
+  }
+
+  -- what is told of the reading
+  abbrev outcome : Gives (Told ℕ)
+  outcome = stops (Some fault.WouldBlock) false 62
+
+  abbrev turns : List Turn
+  turns = Received (Ok half) ∷ Received (Err fault.WouldBlock) ∷ []
+
+  its_deeds : reading.did ≡ deeds_of (exchanges_in turns) outcome.gave (core_of at_last)
+  its_deeds = refl
+
+  -- a piece is received, and then nothing can be
+  would_block : Reads w.sends (server (around w client offer)) w.receives 63 (reader_part at_last) (Received (Err fault.WouldBlock) ∷ []) outcome
+      (reader_part at_last)
+  would_block = (refl, inl (refl, refl), (62, refl, (_, (inl (tt, refl, refl), refl, refl), λ lacks fits. omega arith, (refl, refl, refl))))
+
+  half_arrives : Reads w.sends (server (around w client offer)) w.receives 64 (reader_part at_first) turns outcome (reader_part at_last)
+  half_arrives = (refl, inl (refl, refl), (63, refl, (_, (inl (lit≤ tt, refl, refl), refl, refl), λ lacks fits. omega arith, would_block)))
+
+  a_read : ReadsFor w client offer client new_reading (Err (Io fault.WouldBlock)) (record { turns_left = 62; read = 0 })
+      (with_part at_first) false reading.did (with_part at_last)
+  a_read = (at_last, (turns, outcome, reader_part at_last, half_arrives, refl, refl, refl, refl, refl), refl)
+
+  a_reading : Alone w client offer (with_part at_first) (reading ∷ []) (with_part at_last)
+  a_reading = (with_part at_last, (Err (Io fault.WouldBlock), record { turns_left = 62; read = 0 }, refl, a_read), refl)
+
+  -- it is a stretch, and so what is served of the piece
+  a_stretch : IsStretch (around w client offer) at_first (reading ∷ []) at_last
+  a_stretch = grind (arith, true≢false, is_cons)
+
+  so_it_is_served : StretchIsServed (around w client offer) at_first (reading ∷ []) at_last
+  so_it_is_served = stretch_served says client offer (with_part at_first) (with_part at_last) at_first refl at_last
+      (reading ∷ []) refl a_reading a_stretch
+
+  -- the reading is cut by its own deeds
+  it_is_cut : CutsReading (around w client offer) w.sends w.receives new_reading (with_part at_first) (Err (Io fault.WouldBlock)) reading.did
+      (with_part at_last)
+  it_is_cut =
+      seen_reads w client offer (with_part at_first) (with_part at_last) new_reading (Err (Io fault.WouldBlock))
+      (record { turns_left = 62; read = 0 }) false reading.did refl a_read
+
+  -- five bytes that wait are served as nothing, and still wait
+  of_half : IsServed (around w client offer) (reader_part at_first) half [] [] [] (state_as (reader_part at_first) half [])
+  of_half = record { count = 0; left = []; serves = (refl, refl, refl); rests = inl (refl, refl) }
+
+  -- with the law of one outcome: as nothing else
+  of_half_alone : (gave : List (Given (Told ℕ))) (end : ReaderState Answers (Core ℕ Bool)) → IsServed (around w client offer)
+      (reader_part at_first) half [] [] gave end → gave ≡ []
+  of_half_alone gave end served =
+      (served_one AsTold told_function (server (around w client offer)) (state_as (reader_part at_first) half []) end _ [] gave [] served of_half).0

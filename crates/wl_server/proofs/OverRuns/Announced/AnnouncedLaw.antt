@@ -42,7 +42,7 @@ use Rattle.wl_server.proofs.OverRuns.Announced.ShownLaws.{among_shown, shown_amo
 use Rattle.wl_server.specs.Steps.{Entry, AnswersShared, inserted_by, offer_after}
 use Rattle.wl_server.proofs.OverRuns.Announced.WatchedCalls.{destroys_lives, finishes_bind_lives, finishes_lives, relinked_lives, sends_lives, none_done, quietly}
 use Rattle.wl_server.proofs.OverRuns.Announced.WatchedReadings.{next_action_lives}
-use Rattle.wl_server.proofs.OverRuns.Announced.WatchedVerdicts.{PartLives, log_both, registries_both, carried_to, exchanged, tells_lives, silent_sends}
+use Rattle.wl_server.proofs.OverRuns.Announced.WatchedVerdicts.{PartLives, log_both, registries_both, carried_to, exchanged, tells_lives, silent_sends, IsSilent}
 use Rattle.wl_server.proofs.OverRuns.Announced.Watching.{Watch, part_scene, Scene, scene_of, told_all, told_none, steady_same, wrote_goes, born_goes, Goes, goes_not, Announces, goes_so}
 use Rattle.wl_server.proofs.OverRuns.Announced.AnnouncementLaws.{announced-append, some_turns}
 use Rattle.wl_server.specs.Telling.{Core, Tells, core_of, global_message, making, removal_message, speaker, tells}
@@ -52,6 +52,8 @@ use Rattle.wl_server.proofs.ObjectCalls.Destroying.{named_is_held}
 use Rattle.wl_server.specs.Objects.{new_object}
 use Rattle.wl_server.proofs.OverRuns.Ids.NamedLaws.{far_offer, inserted}
 use Rattle.wl_server.specs.Named.{offer_through}
+use Rattle.wl_server.proofs.OverRuns.Moves.BaseMovesLaw.{doings_noted, doings_taken}
+use Rattle.wl_server.proofs.OverRuns.Moves.BaseMoves.{Doings}
 
 -- ---- a registry that is watched over the calls that each client feels: globals that come and go
 
@@ -136,13 +138,11 @@ module _ {G C : Type 0} (views : G → ClientParts → C → GlobalParts → Boo
 -- ---- notes put nothing
 
 module _ {U : Type 0} where
-  silent_notes : (notes : List (Happening U)) → (log_of (map Noted notes) ≡ []) × (registries_in (map Noted notes) ≡ [])
-  silent_notes [] = (refl, refl)
-  silent_notes (h ∷ notes) = silent_notes notes
+  silent_notes : (notes : List (Happening U)) → IsSilent (map Noted notes)
+  silent_notes notes = (ap (λ (d : Doings U). d.put) (doings_noted notes), ap (λ (d : Doings U). d.registries) (doings_noted notes))
 
-  silent_taken : (notes : List (Happening U)) → (log_of (map NoteTaken notes) ≡ []) × (registries_in (map NoteTaken notes) ≡ [])
-  silent_taken [] = (refl, refl)
-  silent_taken (h ∷ notes) = silent_taken notes
+  silent_taken : (notes : List (Happening U)) → IsSilent (map NoteTaken notes)
+  silent_taken notes = (ap (λ (d : Doings U). d.put) (doings_taken notes), ap (λ (d : Doings U). d.registries) (doings_taken notes))
 
 -- ---- the globals that are created in a client's run have names that were free
 
@@ -170,10 +170,6 @@ module _ {T U G C : Type 0} (w : World T G C) (id : ClientParts) (r : Id) where
 
   -- ---- forms of a call
 
-  -- what a part comes to
-  abbrev Leads' : Offer G → Offer G → Part T U C → List (Deed U) → Part T U C → Type 0
-  Leads' offer offer' p did q = Goes w.views id r offer offer' (part_scene p) (log_of did) (registries_in did) (part_scene q)
-
   unfelt_follows : (offer : Offer G) (s : Seen T U C) (lacked : Bool) (did : List (Deed U)) (t : Seen T U C) → Unfelt s lacked did t → Follows offer offer s did t
   unfelt_follows offer s lacked did t (no_memory, none, same) = grind (arith, log_of, registries_in, append-nil)
 
@@ -189,12 +185,12 @@ module _ {T U G C : Type 0} (w : World T G C) (id : ClientParts) (r : Id) where
 
   -- a step that each client feels, where the offer becomes this
   feels_follows : (offer offer' : Offer G) (s : Seen T U C) (R : Part T U C → Part T U C → Type 0) (missing : Type 0) (lacked : Bool) (did : List (Deed U)) (t : Seen T U C)
-      → ((p q : Part T U C) → R p q → Leads' offer offer' p did q) → OnPart s R missing lacked did t → Follows offer offer' s did t
+      → ((p q : Part T U C) → R p q → PartLives w.views id r offer offer' p did q) → OnPart s R missing lacked did t → Follows offer offer' s did t
   feels_follows offer offer' s R missing lacked did t leads h = grind (arith, either_option, log_of, registries_in)
 
   -- a step that is about this client or about another
   of_client : (offer : Offer G) (b : Bool) (s : Seen T U C) (R : Part T U C → Part T U C → Type 0) (missing : Type 0) (lacked : Bool) (did : List (Deed U)) (t : Seen T U C)
-      → ((p q : Part T U C) → R p q → PartLives w.views id r offer p did q) → OfClient b s R missing lacked did t → Follows offer offer s did t
+      → ((p q : Part T U C) → R p q → PartLives w.views id r offer offer p did q) → OfClient b s R missing lacked did t → Follows offer offer s did t
   of_client offer true s R missing lacked did t lives h = grind (arith, feels_follows, either_option, log_of, registries_in)
   of_client offer false s R missing lacked did t lives h = unfelt_follows offer s lacked did t h
 
@@ -203,14 +199,14 @@ module _ {T U G C : Type 0} (w : World T G C) (id : ClientParts) (r : Id) where
   -- what all registries of a live client are told
   hears_leads : (offer offer' : Offer G) (messages : List Said) (p q : Part T U C) (lacked : Bool) (did : List (Deed U))
       → ((told : List Announced) (made : List Id) → Watched offer p told made → Watched offer' p (announced_over r told messages) made)
-      → Hears w.sends p messages lacked did q → Leads' offer offer' p did q
+      → Hears w.sends p messages lacked did q → PartLives w.views id r offer offer' p did q
   hears_leads offer offer' messages p q lacked did watch h = go p.is_killed refl h
     where
-      over : q.is_killed ≡ true → Leads' offer offer' p did q
+      over : q.is_killed ≡ true → PartLives w.views id r offer offer' p did q
       over dead = goes_not w.views id r offer offer' (part_scene p) (log_of did) (registries_in did) (part_scene q) dead
 
       go : (b : Bool) → p.is_killed ≡ b → MatchBool b ((lacked ≡ false) × (did ≡ []) × (q ≡ p)) (Tells w.sends (tells (core_of p) messages) p.link lacked did q)
-          → Leads' offer offer' p did q
+          → PartLives w.views id r offer offer' p did q
       go true was (no_memory, none, same) = over (ap (λ (x : Part T U C). x.is_killed) same ∙ was)
       go false was (es, gave, end, by, is, same) =
           let so = exchanged es gave end.core in

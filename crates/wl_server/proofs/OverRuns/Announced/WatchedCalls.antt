@@ -44,7 +44,7 @@ module _ {G C : Type 0} (views : G → ClientParts → C → GlobalParts → Boo
   Still s t = Change s [] [] t
 
   abbrev Run : {T : Type 0} → Part T U C → List (Deed U) → Part T U C → Type 0
-  Run p did q = PartLives views client r offer p did q
+  Run p did q = PartLives views client r offer offer p did q
 
   -- ---- forms of a call
 

@@ -192,5 +192,5 @@ module _ {G C : Type 0} (views : G → ClientParts → C → GlobalParts → Boo
 
     pub next_action_lives : (t : Reading) (p : Part T U C) (answer : Result Handed ActionError) (t' : Reading) (lacked : Bool) (did : List (Deed U)) (q : Part T U C)
         → NextAction sends receives (record { table = offer.table; client = client; globals = offer.globals; views = views }) t p answer t' lacked did q
-        → PartLives views client r offer p did q
+        → PartLives views client r offer offer p did q
     next_action_lives t p answer t' lacked did q h1 = grind (arith, either_option, either_bool, turned, goes_so, part_scene, scene_of, log_of, deeds_in, registries_in, reads_lives, reader_part, append-nil, none_gave, gave_none, around_of, either_result, counted_answer, count_of, with_link, faulted, faulted_lives, gave_then, turn_lives, handles, garbled_handles, steady_same)

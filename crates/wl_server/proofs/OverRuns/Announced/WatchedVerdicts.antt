@@ -124,13 +124,13 @@ module _ {G C : Type 0} (views : G → ClientParts → C → GlobalParts → Boo
 
   -- ---- a part
 
-  abbrev pub PartLives : {T : Type 0} → Part T U C → List (Deed U) → Part T U C → Type 0
-  PartLives p did q = Goes views client r offer offer (part_scene p) (log_of did) (registries_in did) (part_scene q)
+  abbrev pub PartLives : Offer G → {T : Type 0} → Part T U C → List (Deed U) → Part T U C → Type 0
+  PartLives offer' p did q = Goes views client r offer offer' (part_scene p) (log_of did) (registries_in did) (part_scene q)
 
   -- a client to which a verdict is told
   pub tells_lives : {T : Type 0} (sends : T → Queue → Result ℕ IoFault → T → Type 0) (p : Part T U C) (v : Verdict (Core U C) (Told U)) (link : LinkState T) (refused : Bool)
       (did : List (Deed U)) (after : Part T U C) → Forms (core_of p) v → ((v.flushes ≡ false → refused ≡ false) → Leads (core_of p) v) → Tells sends v link refused did after
-      → PartLives p did after
+      → PartLives offer p did after
   tells_lives sends p v link refused did after forms leads (es, gave, end, by, is, same) =
       let so = exchanged es gave end.core in
       let lives = verdict_lives (core_of p) v gave refused end.core leads (carried_to sends speaker (λ d f. refl) (core_of p) v forms link es gave refused end by) in

@@ -1,7 +1,6 @@
 -- What the readings of a client of a server answer, and how they leave it: an action, or that the client was killed, or that
 -- more may be received later.
 use Rattle.std.proofs.Common.{◌≡◌, ◌≢◌, ◌⊎◌, ℕ, Bool, true, false, not, ◌&&◌, List, [], ◌∷◌, ◌++◌, append-nil, map, Option, None, Some, is_none, is_some, Result, Ok, Err, is_ok, refl, sym, ap, ap₂, subst, ◌∙◌, true≢false, arith}
-use mathlib.Core.Logic.{inr}
 use Rattle.std.proofs.lemmas.Option.{same_Some, none-some}
 use Rattle.std.specs.Prelude.{nat_lt}
 use Rattle.wl_wire.specs.declared.error.IoFault.{IoFault}
@@ -11,7 +10,7 @@ use Rattle.wl_wire.specs.Table.{MessageRow}
 use Rattle.wl_link.specs.declared.object.Object.{Object}
 use Rattle.wl_link.specs.Exchange.{Queue, Sending}
 use Rattle.wl_link.specs.Link.{LinkState, counted_answer, count_of}
-use Rattle.wl_link.specs.Puts.{PutsOut, Said, lacks_memory}
+use Rattle.wl_link.specs.Puts.{Said, lacks_memory}
 use Rattle.wl_link.specs.Reader.{CarriesOut, Ends, Given, Gives, HandedOut, Handled, Reads, Received, Turn, Unread, Verdict, given_first, came_to, put_and_gave, stops, with_link, ReaderState}
 use Rattle.wl_link.proofs.Readings.ServedLaws.{both_false}
 use Rattle.wl_server.specs.declared.reading.action.OpenAction.{OpenAction}
@@ -71,8 +70,7 @@ module _ {U : Type 0} where
   pub beside_turns : (turns : List Turn) → beside_exchanges {U = U} (exchanges_in turns) ≡ []
   beside_turns [] = refl
   beside_turns (Received r ∷ turns) = beside_turns turns
-  beside_turns (Handled es ∷ turns) = grind (arith, beside_both, map, exchanges_in, beside_exchanges, beside_sends, beside_turns turns)
-  beside_turns (Unread es ∷ turns) = grind (arith, beside_both, map, exchanges_in, beside_exchanges, beside_sends, beside_turns turns)
+  beside_turns (t ∷ turns) = grind (arith, beside_both, map, exchanges_in, beside_exchanges, beside_sends, beside_turns turns)
 
   beside_puts : (put : List Said) (others : List (Deed U)) → beside_exchanges (map Put put ++ others) ≡ map Put put ++ beside_exchanges others
   beside_puts [] others = refl
@@ -109,9 +107,6 @@ module _ {U C : Type 0} where
   pub on_of : (c : Core U C) → c.is_killed ≡ false → c.action ≡ None → reads_on c ≡ true
   on_of c live unopened = ap₂ (λ (b : Bool) (o : Option OpenAction). not b && is_none o) live unopened
 
-  off_of : (c : Core U C) → c.is_killed ≡ true → reads_on c ≡ false
-  off_of c dead = ap (λ (b : Bool). not b && is_none c.action) dead
-
   -- ---- what a verdict answers
 
   -- one answer: an action, or that nothing more is read, where the client was killed
@@ -128,7 +123,7 @@ module _ {U C : Type 0} where
     so : ((reads_on d ≡ true) × (answers_in gave ≡ [])) ⊎ IsOver (answers_in gave) d
 
   says_stops : (f : IoFault) (d : Core U C) → f ≢ fault.WouldBlock → IsSound d → d.is_killed ≡ true → Says (HandedOut (Stops f) ∷ []) d
-  says_stops f d not sound dead = record { sound = sound; quiet = refl; so = inr (off_of d dead, inr (f, refl, not, dead)) }
+  says_stops f d not sound dead = grind (arith, reads_on)
 
 module _ {U G C : Type 0} (a : Around G C) where
   -- what a verdict says where its messages were put, and where one could not be
@@ -162,14 +157,10 @@ module _ {U G C : Type 0} (a : Around G C) where
   came_broken v h2 ample = grind (arith, true≢false)
 
   module _ {T : Type 0} (sends : T → Queue → Result ℕ IoFault → T → Type 0) where
-    came_says : (v : Verdict (Core U C) (Told U)) → Speaks v → (before mid : LinkState T) (es : List Sending) (put : List Said) (wrote : Result (Unit {0}) IoFault)
-        → PutsOut sends before v.puts es put wrote mid → lacks_memory wrote ≡ false → Says (map HandedOut (v.events (came_to (server a) v wrote))) (came_to (server a) v wrote)
-    came_says v speaks before mid es put (Ok u) puts ample = speaks.whole
-    came_says v speaks before mid es put (Err f) puts ample = grind (arith, map, came_broken, true≢false, is_ok)
-
     carried_says : (v : Verdict (Core U C) (Told U)) → Speaks v → (before : LinkState T) (es : List Sending) (gave : List (Given (Told U))) (refused : Bool)
         (after : ReaderState T (Core U C)) → refused ≡ false → CarriesOut sends (server a) v before es gave refused after → Says gave after.core
-    carried_says v h1 before es gave refused after h2 h3 = grind (arith, true≢false, both_false, came_says, came_to, server, beside_given, reads_on, answers_given)
+    carried_says v h1 before es gave refused after h2 h3 = grind
+        (arith, true≢false, both_false, came_broken, is_ok, came_to, server, beside_given, reads_on, answers_given)
 
 -- ---- a reading
 

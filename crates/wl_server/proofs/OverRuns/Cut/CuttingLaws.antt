@@ -1,12 +1,12 @@
 -- What follows for a client of a server from the laws of a reader: that it does not matter to it how bytes and tokens are
 -- cut, reading by reading and finish by finish.
-use Rattle.std.proofs.Common.{◌≡◌, ℕ, Bool, false, List, ◌++◌, None, Some, is_none, Result, Ok, refl, sym, ap, subst, ◌∙◌, true≢false, arith}
+use Rattle.std.proofs.Common.{◌≡◌, ℕ, Bool, false, List, ◌++◌, None, Some, is_none, Result, Ok, refl, sym, ap, subst, ◌∙◌, true≢false, arith, [], Option, is_ok, map, ◌<◌, ◌∷◌, true}
 use Rattle.std.proofs.lemmas.Option.{same_Some, none-some}
-use Rattle.std.specs.Prelude.{is_ok}
+use Rattle.std.specs.Prelude.{MatchOption}
 use Rattle.wl_wire.specs.declared.error.IoFault.{IoFault}
 use Rattle.wl_link.proofs.Readings.CuttingLaws.{finish_law, reading_law}
-use Rattle.wl_link.specs.Exchange.{Queue}
-use Rattle.wl_link.specs.Reader.{CarriesOut, Ends}
+use Rattle.wl_link.specs.Exchange.{Queue, Sending}
+use Rattle.wl_link.specs.Reader.{CarriesOut, Ends, Given, Verdict, came_to, put_and_gave, ReaderState}
 use Rattle.wl_link.specs.Served.{AsTold}
 use Rattle.wl_link.proofs.Readings.ServedLaws.{told_function}
 use Rattle.wl_server.specs.declared.reading.action.Reading.{Reading}
@@ -15,19 +15,73 @@ use Rattle.wl_server.specs.declared.error.FinishRefused.{FinishRefused}
 use Rattle.wl_server.specs.declared.runs.step.Reply.TheVariants as reply
 use Rattle.wl_server.specs.declared.runs.step.Step.TheVariants as step
 use Rattle.wl_server.specs.Cutting.{CutsFinish, CutsReading, HistoriesAreCut}
-use Rattle.wl_server.specs.Deeds.{Deed, Handed, notes_in}
-use Rattle.wl_server.specs.Finish.{finishing, refusal}
+use Rattle.wl_server.specs.Deeds.{Deed, Handed, notes_in, Sent}
+use Rattle.wl_server.specs.Finish.{finishing, refusal, FinishesBind, FinishesRequest, core_finished, finish_verdict, ends_request}
 use Rattle.wl_server.specs.Globals.{Offer}
 use Rattle.wl_server.specs.Ids.{ClientParts, same_client}
 use Rattle.wl_server.proofs.OverRuns.Alone.IsolationLaw.{same_self}
 use Rattle.wl_server.specs.Part.{Part}
 use Rattle.wl_server.specs.PartStep.{Asked, Call, OfClient, OnPart, PartCall, ReadsFor, World, around}
-use Rattle.wl_server.proofs.OverRuns.Cut.ReaderLaws.{EndsAlike, bind_ends_alike, request_ends_alike}
 use Rattle.wl_server.specs.Reading.{Around, NextAction, ReadsTo, action_content, new_reading, server}
 use Rattle.wl_server.proofs.OverRuns.Ids.ReplyLaws.{own_step}
 use Rattle.wl_server.specs.Server.{Seen, ServerState, seen}
-use Rattle.wl_server.specs.Steps.{Entry, IsRefused, OneStep}
-use Rattle.wl_server.specs.Telling.{Finish, OfBind, OfRequest, core_of, reader_part}
+use Rattle.wl_server.specs.Steps.{Entry, IsRefused, OneStep, offer_after}
+use Rattle.wl_server.specs.Telling.{Finish, OfBind, OfRequest, core_of, reader_part, Core, Told, deeds_of, part_of, speaker}
+use mathlib.Core.Logic.{inl, inr}
+use Rattle.wl_link.proofs.Calls.Branches.{either_option}
+use Rattle.wl_link.specs.Link.{LinkState}
+use Rattle.wl_server.specs.declared.reading.action.OpenAction.TheVariants as opened
+use Rattle.wl_link.proofs.Readings.HoldingLaws.{puts_hold}
+use Rattle.wl_server.proofs.OverRuns.Moves.BaseMoves.{Doings, Goes, Moves, any, doings_of, followed, handed_by, handed_out, notes_taken, moved, stayed, taken_out, unfelt, within}
+use Rattle.wl_server.proofs.OverRuns.Moves.BaseMovesLaw.{call_goes}
+use Rattle.wl_server.proofs.OverRuns.Alone.OwnRuns.{AreMine}
+use Rattle.wl_server.specs.Runs.{Alone, Own}
+
+-- ---- the end of an action is what the reader makes of it
+
+module _ {T U G C : Type 0} (sends : T → Queue → Result ℕ IoFault → T → Type 0) (a : Around G C) where
+  pub carried_alike : (v : Verdict (Core U C) (Told U)) (link : LinkState T) (es : List Sending) (gave : List (Given (Told U))) (refused : Bool)
+      (after : ReaderState T (Core U C)) → CarriesOut sends speaker v link es gave refused after → CarriesOut sends (server a) v link es gave refused after
+  carried_alike v link es gave refused after h1 = grind (arith, came_to, speaker, put_and_gave)
+
+  -- an accepted end of a live client's request is what the reader makes of these data, with the same deeds
+  abbrev pub EndsAlike : Part T U C → Finish U → Bool → List (Deed U) → Part T U C → Type 0
+  EndsAlike before u refused did after =
+      (es : List Sending) × (gave : List (Given (Told U))) × (end : ReaderState T (Core U C))
+      × Ends sends (server a) (reader_part before) u es gave refused end
+      × (did ≡ deeds_of (map Sent es) gave end.core) × (after ≡ part_of end)
+
+  pub request_ends_alike : (before : Part T U C) (u : Option U) (refused : Bool) (did : List (Deed U)) (after : Part T U C) → before.is_killed ≡ false
+      → FinishesRequest sends a.client before u (Ok tt) refused did after → EndsAlike before (OfRequest u) refused did after
+  request_ends_alike before u refused did after live h =
+      elim (either_option before.action h) [
+        | inl (none, (wrong, calm, nothing, still)) ↦ absurd (true≢false (ap is_ok wrong))
+        | inr (opened.Bind object, is_open, (wrong, calm, nothing, still)) ↦ absurd (true≢false (ap is_ok wrong))
+        | inr (opened.Request sender d created, is_open, g) ↦
+            elim (either_option (refusal before.is_killed created u) g) [
+              | inr (e, why, (wrong, calm, nothing, still)) ↦ absurd (true≢false (ap is_ok wrong))
+              | inl (accepted, (answer, (es, gave, end, carried, did_so, is))) ↦
+                  let v = ends_request a.client (core_of before) sender d created u in
+                  let by : Ends sends (server a) (reader_part before) (OfRequest u) es gave refused end
+                  = (v, rw is_open (rw accepted (rw live refl)), carried_alike v before.link es gave refused end carried) in
+                  (es, gave, end, by, did_so, is)
+            ]
+      ]
+
+  -- so is the end of a bind
+  pub bind_ends_alike : (before : Part T U C) (u : U) (refused : Bool) (did : List (Deed U)) (after : Part T U C) → before.is_killed ≡ false
+      → FinishesBind before u (Ok tt) refused did after → EndsAlike before (OfBind u) refused did after
+  bind_ends_alike before u refused did after live h =
+      elim (either_option before.action h) [
+        | inl (none, (wrong, calm, nothing, still)) ↦ absurd (true≢false (ap is_ok wrong))
+        | inr (opened.Request sender d created, is_open, (wrong, calm, nothing, still)) ↦ absurd (true≢false (ap is_ok wrong))
+        | inr (opened.Bind object, is_open, (answer, no_memory, did_so, is)) ↦
+            let end : ReaderState T (Core U C) = record { core = core_finished (core_of before) (Some object) (Some u); link = before.link } in
+            let v = finish_verdict (core_of before) (Some object) (Some u) in
+            let carried : CarriesOut sends (server a) v before.link [] [] refused end
+            = inl ([], [], [], Ok tt, before.link, false, (refl, refl, refl, refl), (refl, refl, refl), refl, refl, refl, no_memory) in
+            ([], [], end, (v, rw is_open (rw live refl), carried), did_so, is)
+      ]
 
 -- ---- of a client
 
@@ -121,3 +175,34 @@ module _ {T U G C : Type 0} (w : World T G C) (before after : ServerState T U G 
       let next = rw accepted at done in
       ((grind (arith)), bind_ends_alike w.sends (around w id before.offer) p u (e.lacks id) (e.did id) q live next)) (rw same at h)
   histories_cut _ e call by = tt
+
+-- ---- the storage for what is sent holds a byte, an induction over base moves; and so something is served of each client
+
+module _ {T U C : Type 0} where
+  abbrev Holds : Part T U C → Type 0
+  Holds p = 0 < p.link.outgoing_capacity
+
+  -- so it is of a client that is stored
+  abbrev SeenHolds : Seen T U C → Type 0
+  SeenHolds s = MatchOption s.part (Unit {0}) (λ p. Holds p)
+
+  pub holds_at : (s : Seen T U C) (p : Part T U C) → s.part ≡ Some p → SeenHolds s → Holds p
+  holds_at s p there holds = subst (λ (x : Option (Part T U C)). MatchOption x (Unit {0}) (λ q. Holds q)) {x = s.part} {y = Some p} there holds
+
+module _ {T U C : Type 0} (sends : T → Queue → Result ℕ IoFault → T → Type 0) (receives : T → ℕ → Result Queue IoFault → T → Type 0)
+    (client : ClientParts) where
+  moves_hold : (p q : Part T U C) (d : Doings U) → Moves (any true) sends receives client p d q → Holds p → Holds q
+  moves_hold p q d (stayed is same) holds = subst Holds (sym same) holds
+  moves_hold p q d (followed {m = m} {a = a} {b = b} first second is) holds = moves_hold m q b second (moves_hold p m a first holds)
+  moves_hold p q d (handed_out {a = a} ids moves among is) holds = moves_hold p q a moves holds
+  moves_hold p q d (moved move) holds = grind (arith, puts_hold)
+
+  goes_hold : (s t : Seen T U C) (d : Doings U) → Goes (any true) sends receives client s d t → SeenHolds s → SeenHolds t
+  goes_hold s t d h1 h2 = grind (arith, unfelt, notes_taken, within, moves_hold, holds_at, taken_out)
+
+module _ {T U G C : Type 0} (w : World T G C) (id : ClientParts) where
+  pub run_holds : (offer : Offer G) (s : Seen T U C) (run : List (Own T U G C)) (t : Seen T U C) → AreMine id run → Alone w id offer s run t → SeenHolds s → SeenHolds t
+  run_holds offer s [] t own same holds = subst SeenHolds (sym same) holds
+  run_holds offer s (e ∷ run) t own (mid, by, alone) holds =
+      run_holds (offer_after offer e.call) mid run t own.1 alone
+      (goes_hold w.sends w.receives id s mid (doings_of (handed_by id e.call e.did) e.did) (call_goes true w id offer e.call s e.lacked e.did mid own.0 by (λ cleans. refl)) holds)

@@ -14,7 +14,7 @@ use Rattle.wl_server.proofs.OverRuns.Moves.BaseMoves.{Doings}
 use Rattle.wl_server.proofs.OverRuns.Moves.DoingsLaws.{doings_in_both}
 use Rattle.wl_server.specs.Globals.{Offer}
 use Rattle.wl_server.specs.Ids.{ClientParts, same_client}
-use Rattle.wl_server.proofs.Plain.ReadingNotes.{reads_bare}
+use Rattle.wl_server.proofs.Plain.ReadingEnds.{reads_bare}
 use Rattle.wl_server.specs.Part.{Part}
 use Rattle.wl_server.specs.PartStep.{ReadsFor, World, around}
 use Rattle.wl_server.specs.Reading.{Around, NextAction, exchanges_in, server}

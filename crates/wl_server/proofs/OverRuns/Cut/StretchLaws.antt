@@ -1,7 +1,7 @@
 -- That what a stretch of a client's own run gives is what is served of all that arrived.
 --
 -- Its entries are acts of the client as a reader: those that are refused change nothing, and are none.
-use Rattle.std.proofs.Common.{◌≡◌, ℕ, Bool, true, false, List, [], ◌∷◌, ◌++◌, append_assoc, append-nil, Option, None, Some, Result, Ok, Err, refl, sym, ap, subst, ◌∙◌, true≢false, arith, is_none, is_ok}
+use Rattle.std.proofs.Common.{◌≡◌, Bool, true, false, List, [], ◌∷◌, ◌++◌, append_assoc, append-nil, Option, None, Some, Result, Ok, Err, refl, sym, ap, subst, ◌∙◌, true≢false, arith, is_none, is_ok}
 use mathlib.Core.Logic.{inl, inr}
 use Rattle.std.proofs.lemmas.Option.{same_Some, none-some}
 use Rattle.wl_wire.specs.declared.error.IoFault.{IoFault}
@@ -16,7 +16,7 @@ use Rattle.wl_link.proofs.Stretches.RanLaws.{ran}
 use Rattle.wl_link.proofs.Readings.ServedLaws.{served_one}
 use Rattle.wl_link.specs.Served.{state_as}
 use Rattle.wl_link.proofs.Calls.OneScript.{script_sends_function}
-use Rattle.wl_link.specs.Reader.{Ends, Gives, IsFed, Reads, Turn, came_by, ReaderState}
+use Rattle.wl_link.specs.Reader.{Ends, Gives, IsFed, Reads, came_by, ReaderState}
 use Rattle.wl_link.specs.Script.{Script, ScriptReceives, ScriptSends}
 use Rattle.wl_link.specs.Stretch.{Act, AllPieces, Arrived, DoesAll, EndsByPipe, EndsWaiting as ActsEndWaiting, HasEnded, HasRead, IsStretch as IsActStretch, NotFull, arrivals_of, arrived as act_arrived, ended as act_ended, given_in, with_arrival, sending_side}
 use Rattle.wl_link.proofs.Stretches.StretchLaws.{acts_pieces, arrived-append, does_joins, ended-append, ends_waiting-append, given_in-append, roomy_before, stretch_served as acts_served}
@@ -27,7 +27,7 @@ use Rattle.wl_server.specs.declared.error.ScriptError.{ScriptError}
 use Rattle.wl_server.specs.declared.notes.DisconnectReason.{DisconnectReason}
 use Rattle.wl_server.specs.declared.runs.step.Step.TheVariants as step
 use Rattle.wl_server.proofs.OverRuns.Cut.AnswerLaws.{IsSound, ReadsSo, action_first, answers_both, beside_both, beside_sends, beside_turns, ends_so, first_of, on_of, reads_so, killed_later}
-use Rattle.wl_server.proofs.OverRuns.Cut.CuttingLaws.{of_part}
+use Rattle.wl_server.proofs.OverRuns.Cut.CuttingLaws.{of_part, EndsAlike, bind_ends_alike, request_ends_alike}
 use Rattle.wl_server.specs.Deeds.{Deed, Handed}
 use Rattle.wl_server.specs.Globals.{Offer}
 use Rattle.wl_server.specs.Ids.{ClientParts, GlobalParts}
@@ -35,8 +35,7 @@ use Rattle.wl_server.proofs.OverRuns.Alone.IsolationLaw.{alone_run}
 use Rattle.wl_server.specs.Moves.{ArrivesWith, nothing_taken}
 use Rattle.wl_server.specs.Part.{Part, with_link}
 use Rattle.wl_server.specs.PartStep.{Asked, Call, OfClient, PartCall, World, around, over_scripts}
-use Rattle.wl_server.proofs.OverRuns.Cut.ReaderLaws.{EndsAlike, bind_ends_alike, request_ends_alike}
-use Rattle.wl_server.specs.Reading.{Around, NextAction, action_content, answered as answered_so, exchanges_in, new_reading, reads_on, server}
+use Rattle.wl_server.specs.Reading.{Around, NextAction, action_content, answered as answered_so, exchanges_in, new_reading, reads_on, server, ReadsTo}
 use Rattle.wl_server.proofs.OverRuns.Ids.ReplyLaws.{own_step}
 use Rattle.wl_server.proofs.Plain.Base.{split_bool}
 use Rattle.wl_server.specs.Runs.{Alone, Own, concerns, history, mine}
@@ -117,12 +116,15 @@ module _ {G C : Type 0} (views : G → ClientParts → C → GlobalParts → Boo
           (with_arrival s r, Arrived r ∷ [], (grind (arith, does, append-nil, none-some)))
 
       -- a reading of a client that is read on
-      acts_read : (left : ℕ) (turns : List Turn) (out : Gives (Told U)) (end : Client U) (answer : Result Handed ActionError) → reads_on s.core ≡ true
-          → Reads ScriptSends (server a) ScriptReceives left s turns out end → out.refused ≡ false → answer ≡ answered_so out.stopped out.gave
-          → reading_by x.call ≡ Some answer
-          → x.did ≡ deeds_of (exchanges_in turns) out.gave end.core → q ≡ part_of end → s.core.ended ≡ None → arrived_by x.call ≡ nothing
-          → finished_by x.call ≡ [] → AsActs s (x ∷ []) after
-      acts_read left turns out end answer on reads ample is told did_so same unended came ended =
+      acts_read : (r r' : Reading) (answer : Result Handed ActionError) → reading_by x.call ≡ Some answer → arrived_by x.call ≡ nothing
+          → finished_by x.call ≡ [] → s.core.is_killed ≡ false → s.core.action ≡ None
+          → ReadsTo ScriptSends ScriptReceives a r (part_of s) answer r' false x.did q → AsActs s (x ∷ []) after
+      acts_read r r' answer told came ended live unopened (turns, out, end, by, is, still, lacks, did_so, same) =
+          let unended : s.core.ended ≡ None = grind (arith, sound, true≢false) in
+          let on = on_of s.core live unopened in
+          let reads = subst (λ (p : Client U). Reads ScriptSends (server a) ScriptReceives r.turns_left p turns out end) (begun_so s unended) by in
+          let left = r.turns_left in
+          let ample : out.refused ≡ false = sym lacks in
           let so = reads_so ScriptSends ScriptReceives a left s end turns out reads ample sound in
           let does : DoesAll (server a) s (HasRead out ∷ []) end = (end, (ample, (left, turns, reads)), refl) in
           let answers : AllPieces (arrivals_of s) → NotFull (server a) end → told_by (Some answer)
@@ -156,15 +158,9 @@ module _ {G C : Type 0} (views : G → ClientParts → C → GlobalParts → Boo
                 elim (split_bool s.core.is_killed g) [
                   | inl (dead, (is, left, unasked, none, same)) ↦
                       acts_none same none came ended (Some (Err (Io fault.Pipe))) (told ∙ ap Some is) refl (λ w. cc)
-                  | inr (live, (turns, out, end, reads, is, left, lacks, did_so, same)) ↦
-                      acts_read r.turns_left turns out end answer (on_of s.core live unopened)
-                      (subst (λ (p : Client U). Reads ScriptSends (server a) ScriptReceives r.turns_left p turns out end)
-                      (begun_so s (unended live)) reads) (sym lacks) is told did_so same (unended live) came ended
+                  | inr (live, reads) ↦ acts_read r r' answer told came ended live unopened reads
                 ]
           ]
-        where
-          unended : s.core.is_killed ≡ false → s.core.ended ≡ None
-          unended live = grind (arith, sound, true≢false)
 
     -- what a step that is about the client does to its part
     mine_is : (s : Client U) (before after : Seen Script U C) (did : List (Deed U)) (b : Bool) (R : Part Script U C → Part Script U C

@@ -2,7 +2,7 @@
 use Rattle.std.proofs.Common.{◌≡◌, ◌≢◌, ◌⊎◌, ℕ, ◌+◌, ◌<◌, ◌≤◌, Bool, false, cond, eqb, List, [], ◌∷◌, Option, None, Some, is_some, Ok, refl, sym, ap, subst, ◌∙◌, true≢false, arith}
 use mathlib.Core.Logic.{inl, inr}
 use Rattle.std.specs.Prelude.{◌&&◌, IsSome, is_ok, nat_le, option_map, slice_get}
-use Rattle.std.proofs.lemmas.Bool.{cases_eq, eqb-true, eq-eqb, ne_eqb}
+use Rattle.std.proofs.lemmas.Bool.{cases_eq, eqb-true, eq-eqb, ne_eqb, cases_Bool}
 use Rattle.std.proofs.lemmas.Option.{same_Some, none-some}
 use Rattle.wl_wire.specs.declared.interface.InterfaceId.{InterfaceId}
 use Rattle.wl_wire.specs.Table.{InterfaceRow}
@@ -115,20 +115,16 @@ module _ {T U G C : Type 0} where
   named_before : (offer : Offer G) (call : Call T U G C) (g : GlobalParts) → AnswersShared offer call → IsSome (global_of (offer_after offer call).globals g)
       → IsSome (global_of offer.globals g) ⊎ Offers g call
   named_before offer (Asked (step.CreateGlobal i version handler) (reply.CreateGlobal (Ok new))) g by some =
-      elim (cases_eq g.serial new.serial) [
-        | inr older ↦ inl (subst IsSome (created_other offer.globals i version handler new (next_in offer i version new by) new.serial g older) some)
-        | inl serials ↦
-            elim (cases_eq g.name new.name) [
-              | inl names ↦ inr (i, version, handler, ap (λ (x : GlobalParts). Asked (step.CreateGlobal i version handler) (reply.CreateGlobal (Ok x))) (global_is new g (sym names) (sym serials)))
-              | inr other ↦ inl (subst IsSome (ap (named_at g) (stored_other offer.globals.store new.name (new_global i version new.serial handler) g.name other)) some)
-            ]
+      elim (cases_Bool (same_global new g)) [
+        | inl same ↦ inr (i, version, handler, ap (λ (x : GlobalParts). Asked (step.CreateGlobal i version handler) (reply.CreateGlobal (Ok x))) (grind (arith, global_is, eqb-true, same_global)))
+        | inr other ↦ inl (subst IsSome (created_elsewhere offer.globals i version handler new (next_in offer i version new by) new.serial g other) some)
       ]
   named_before offer _ g by some = grind (arith, some_none, option_map, as_disabled, same_global, global_of, disabled_changes, freed_changes)
 
   -- ---- a run of the shared calls
 
   -- each id that is given in a run comes behind those before it, and is not behind the last
-  clients_given : (offer offer' : Offer G) (last last' : ℕ) (run : List (Entry T U G C)) → SharedAlone offer last run offer' last'
+  pub clients_given : (offer offer' : Offer G) (last last' : ℕ) (run : List (Entry T U G C)) → SharedAlone offer last run offer' last'
       → (last ≤ last') × ((new : ClientParts) → SomeCall (Inserts new) run → (last < new.serial) × (new.serial ≤ last'))
   clients_given offer offer' last last' [] (same, is) = (omega (arith, is), λ new none. absurd none)
   clients_given offer offer' last last' (e ∷ run) (by, next, rest) =

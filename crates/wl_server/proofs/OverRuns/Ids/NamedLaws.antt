@@ -17,9 +17,10 @@ use Rattle.wl_server.specs.PartStep.{Asked, Call, World}
 use Rattle.wl_server.specs.Runs.{Alone, Leads, Own, just_inserted, concerns, mine, offer_over}
 use Rattle.wl_server.specs.Server.{Seen, ServerState, new_server, seen}
 use Rattle.wl_server.specs.Steps.{Entry, offer_after}
-use Rattle.wl_server.proofs.OverRuns.Alone.IsolationLaw.{alone_run, each_alone, numbered, offer_over_one, offer_run, one_more, split_run}
+use Rattle.wl_server.proofs.OverRuns.Alone.IsolationLaw.{alone_run, each_alone, numbered, offer_over_one, offer_run, one_more, split_run, shared_run}
 use Rattle.wl_server.proofs.OverRuns.Alone.OwnRuns.{AreMine, are_mine}
 use Rattle.wl_server.proofs.OverRuns.Ids.IdentityLaws.{change_both, names_of, own_by, run_begins, run_change}
+use Rattle.wl_server.proofs.OverRuns.Ids.GivenLaws.{clients_given}
 
 module _ {T U G C : Type 0} (w : World T G C) (id : ClientParts) where
   own_named : (offer : Offer G) (link : LinkState T) (client_data : C) (done : List (Own T U G C)) (point : Seen T U C) (later : List (Own T U G C)) (t : Seen T U C)
@@ -68,10 +69,6 @@ module _ {T U G C : Type 0} (w : World T G C) (id : ClientParts) where
 -- ---- every client of a server
 
 module _ {T U G C : Type 0} where
-  later_last : (w : World T G C) (before after : ServerState T U G C) (run : List (Entry T U G C)) → Leads w before run after → before.last_client ≤ after.last_client
-  later_last w before after [] same = (let last = ap (λ (s : ServerState T U G C). s.last_client) same in omega (arith, last))
-  later_last w before after (e ∷ run) (mid, by, leads) = grind (arith, later_last w mid after run leads)
-
   -- a call that does not concern a client leaves the offer
   pub far_offer : (id : ClientParts) (offer : Offer G) (call : Call T U G C) → concerns id call ≡ false → offer_after offer call ≡ offer
   far_offer id offer call far = grind (arith, true≢false)
@@ -102,7 +99,7 @@ module _ {T U G C : Type 0} where
         link = link;
         fresh = fresh;
         alone = alone;
-        given = omega (arith, number, by.last, one_more e.call id (transport, client_data, inserts), later_last w next point between rest);
+        given = omega (arith, number, by.last, one_more e.call id (transport, client_data, inserts), (clients_given next.offer point.offer next.last_client point.last_client between (shared_run w next point between rest)).0);
         offered = offer_run w next point between rest ∙ ap (λ (o : Offer G). offer_over o between) (grind (arith, offer_after, offer_run, new_server, offer_over_one, new_offer))
             ∙ through id between (offer_over (new_offer table) (earlier ++ e ∷ []));
       }
@@ -122,7 +119,7 @@ module _ {T U G C : Type 0} where
       → e.call ≡ Asked (step.InsertClient transport client_data) (reply.InsertClient (Ok id)) → NamesNoneAgain (seen id point) (seen id mid) (seen id after)
   each_names_none_again w table done between later point mid after leads onward others id transport client_data earlier since e split inserts =
       let is = inserted w table done point leads id transport client_data earlier since e split inserts in
-      let last = later_last w point mid between onward in
+      let last = (clients_given point.offer mid.offer point.last_client mid.last_client between (shared_run w point mid between onward)).0 in
       let offered = offer_run w point mid between onward ∙ through id between point.offer in
       none_again w id (offer_over (new_offer table) (earlier ++ e ∷ [])) is.link client_data (mine id since) (seen id point) (mine id between) (seen id mid) (mine id later) (seen id after)
       (are_mine id since) (are_mine id between) (are_mine id later) is.alone

@@ -1,5 +1,5 @@
 -- That a killed client stays killed until a cleanup takes it out, over each run of a new server.
-use Rattle.std.proofs.Common.{◌≡◌, ◌≤◌, true, List, [], ◌∷◌, ◌++◌, length, Option, None, Some, refl, sym, ap, subst, ◌∙◌, arith, ◌⊎◌, Bool, false, Result, Ok, Err, true≢false, ℕ, MatchBool}
+use Rattle.std.proofs.Common.{◌≡◌, ◌≤◌, true, List, [], ◌∷◌, ◌++◌, length, Option, None, Some, refl, sym, ap, subst, ◌∙◌, arith, ◌⊎◌, Bool, false, Result, Ok, Err, true≢false, ℕ, MatchBool, MatchOption}
 use Rattle.std.proofs.lemmas.Option.{none-some, same_Some}
 use mathlib.Core.Logic.{inl, inr}
 use Rattle.wl_wire.specs.declared.error.IoFault.TheVariants as fault
@@ -11,7 +11,7 @@ use Rattle.wl_server.specs.Bounded.{receives_in, receives_over}
 use Rattle.wl_server.specs.Ids.{ClientParts, same_client}
 use Rattle.wl_server.specs.Killed.{AllAnswer, EachStaysKilled, HasNoAction, ReadingAnswers, StaysOrIsTakenOut, TakesOut, StaysKilled}
 use Rattle.wl_server.specs.Part.{Part}
-use Rattle.wl_server.specs.PartStep.{World, Asked, Call, CleanedAs, PartCall, ReadsFor, around, share_of}
+use Rattle.wl_server.specs.PartStep.{World, Asked, Call, CleanedAs, PartCall, ReadsFor, around}
 use Rattle.wl_server.specs.Runs.{IsNotInserted, Leads, concerns}
 use Rattle.wl_server.specs.Server.{Seen, ServerState, new_server, seen}
 use Rattle.wl_server.specs.Steps.{Entry, OneStep}
@@ -26,7 +26,6 @@ use Rattle.wl_server.specs.declared.runs.step.Reply.{Reply}
 use Rattle.wl_server.specs.declared.runs.step.Reply.TheVariants as reply
 use Rattle.wl_server.specs.declared.runs.step.Step.TheVariants as step
 use Rattle.wl_server.specs.Deeds.{Deed, Handed, came_in}
-use Rattle.wl_server.specs.Felt.{Cleaned}
 use Rattle.wl_server.specs.Globals.{Offer}
 use Rattle.wl_server.specs.Reading.{NextAction, action_content, new_reading}
 use Rattle.wl_server.proofs.Dispatches.Receiving.{call_quiet}
@@ -67,12 +66,6 @@ abbrev pub refusal_with : Option OpenAction → ActionError
 refusal_with None = Io fault.Pipe
 refusal_with (Some a) = ActionOpen
 
--- nothing is read, for this reason
-record Unread {U : Type 0} (e : ActionError) (r r' : Reading) (answer : Result Handed ActionError) (did : List (Deed U)) : Type 0 where
-  answers : answer ≡ Err e
-  left : r' ≡ r
-  none : did ≡ []
-
 -- ---- a killed client
 
 module _ {T U G C : Type 0} (w : World T G C) (id : ClientParts) (offer : Offer G) (before : Seen T U C) (p : Part T U C) (there : before.part ≡ Some p) (killed : p.is_killed ≡ true)
@@ -80,6 +73,9 @@ module _ {T U G C : Type 0} (w : World T G C) (id : ClientParts) (offer : Offer 
   -- the part that a call finds
   found_part : (p' : Part T U C) → before.part ≡ Some p' → p' ≡ p
   found_part p' there' = same_Some p' p (sym there' ∙ there)
+
+  found : (A : Type 0) (B : Part T U C → Type 0) → MatchOption before.part A B → B p
+  found A B h = subst (λ (o : Option (Part T U C)). MatchOption o A B) there h
 
   -- what a reading of it answers
   pub dead_says : (call : Call T U G C) → PartCall w id offer call before lacked did after → ReadingAnswers id (refusal_with p.action) call
@@ -113,26 +109,14 @@ module _ {T U G C : Type 0} (w : World T G C) (id : ClientParts) (offer : Offer 
       → DeadOrOut (Asked step.Cleanup answer)
   cleanup_dead answer (Err e) is h = inl ((p, ap (λ (s : Seen T U C). s.part) h.2 ∙ there, remains p killed p refl))
   cleanup_dead answer (Ok out) is h =
-      elim (either_option before.part h) [
-        | inl (none, nothing) ↦ absurd (none-some _ (sym none ∙ there))
-        | inr (p', there', (q, cleans, same)) ↦
-            let (sent, flushed, end, flushes, did_so, handed, gone) =
-            when_killed _ p.is_killed killed (subst (λ (x : Part T U C). Cleaned w.sends id x lacked did (share_of id out.items) q) (found_part p' there') cleans) in
-            inr ((out, end.link.transport, ap (λ (a : Reply T U). Asked step.Cleanup a) is, handed), ap (λ (s : Seen T U C). s.part) same ∙ gone)
-      ]
+      let (q, cleans, same) = found _ _ h in
+      let (sent, flushed, end, flushes, did_so, handed, gone) = when_killed _ p.is_killed killed cleans in
+      inr ((out, end.link.transport, ap (λ (a : Reply T U). Asked step.Cleanup a) is, handed), ap (λ (s : Seen T U C). s.part) same ∙ gone)
 
   reads_dead : (target : ClientParts) (r r' : Reading) (answer : Result Handed ActionError) → ReadsFor w id offer target r answer r' before lacked did after → StillDead
   reads_dead target r r' answer h =
       elim (either_bool (same_client target id) h) [
-        | inl on ↦
-            elim (either_option before.part on) [
-              | inl (none, nothing) ↦ absurd (none-some _ (sym none ∙ there))
-              | inr (p', there', (q, next, same)) ↦ (
-                q,
-                ap (λ (s : Seen T U C). s.part) same,
-                stays q (subst (λ (x : Part T U C). NextAction w.sends w.receives (around w id offer) r x answer r' lacked did q) (found_part p' there') next),
-              )
-            ]
+        | inl on ↦ let (q, next, same) = found _ _ on in (q, ap (λ (s : Seen T U C). s.part) same, stays q next)
         | inr unfelt' ↦ (p, ap (λ (s : Seen T U C). s.part) unfelt'.2 ∙ there, remains p killed p refl)
       ]
     where

@@ -1,5 +1,5 @@
 -- That no message is lost, and none is sent that was not put: an induction over base moves.
-use Rattle.std.proofs.Common.{◌≡◌, ℕ, true, List, [], ◌∷◌, ◌++◌, Option, Some, Result, refl, sym, ap, subst, ◌∙◌, arith}
+use Rattle.std.proofs.Common.{◌≡◌, ℕ, true, List, [], ◌∷◌, ◌++◌, Option, Some, Result, refl, sym, ap, subst, ◌∙◌, arith, ◌⊎◌}
 use Rattle.wl_wire.specs.declared.error.IoFault.{IoFault}
 use Rattle.wl_wire.specs.Message.{WireMessage}
 use Rattle.wl_wire.specs.Table.{InterfaceRow}
@@ -11,7 +11,7 @@ use Rattle.wl_link.proofs.Readings.LogLaws.{kept_still, kept_then, puts_kept}
 use Rattle.wl_link.specs.Puts.{Said, messages_of}
 use Rattle.wl_link.specs.Sides.{spelled_all}
 use Rattle.wl_link.proofs.Streams.StreamLaws.{spelled_all-append}
-use Rattle.wl_server.proofs.OverRuns.Moves.BaseMoves.{Doings, Goes, Moves, any, born, cleaned, finished, doings_of, ended, flushed, followed, found, found_none, handed_by, handed_out, joined, notes_taken, moved, opens, putting, received, relinked, remembered, sending, stayed, taken_out, told, unfelt, went, within, wrote}
+use Rattle.wl_server.proofs.OverRuns.Moves.BaseMoves.{Doings, Goes, Move, Moves, any, doings_of, followed, handed_by, handed_out, joined, notes_taken, moved, putting, sending, stayed, taken_out, unfelt, within}
 use Rattle.wl_server.proofs.OverRuns.Moves.BaseMovesLaw.{call_goes}
 use Rattle.wl_server.specs.Deeds.{log_of, sends_of}
 use Rattle.wl_server.proofs.OverRuns.Moves.DoingsLaws.{doings_in_both}
@@ -25,6 +25,7 @@ use Rattle.wl_server.specs.PartStep.{World}
 use Rattle.wl_server.specs.Runs.{Alone, Leads, Own, just_inserted, history, mine, offer_over}
 use Rattle.wl_server.specs.Server.{Seen, ServerState, new_server, seen}
 use Rattle.wl_server.specs.Steps.{Entry, offer_after}
+use mathlib.Core.Logic.{inl, inr}
 
 messages_both : (said others : List Said) → messages_of (said ++ others) ≡ messages_of said ++ messages_of others
 messages_both [] others = refl
@@ -70,31 +71,21 @@ module _ {T U C : Type 0} (sends : T → Queue → Result ℕ IoFault → T → 
   abbrev out : Part T U C → Queue
   out p = p.link.outgoing
 
-  -- a move that neither sends nor puts
-  quiet_move : (p q r : Part T U C) (d e : Doings U) → d ≡ e → q ≡ r → e.sends ≡ [] → e.put ≡ [] → out r ≡ out p → Keeps (out p) d (out q)
-  quiet_move p q r d e is same no_sends no_puts waits = keeps_so (out p) (out r) (out q) e d is (ap out same) (keeps_quiet (out p) (out r) e no_sends no_puts waits)
+  -- a move keeps, or it neither sends nor puts
+  sorts : (p q : Part T U C) (d : Doings U) → Move (any true) sends receives client p d q
+      → Keeps (out p) d (out q) ⊎ ((d.sends ≡ []) × (d.put ≡ []) × (out q ≡ out p))
+  sorts p q d move = grind (arith, keeps_so, puts_kept, flush_kept, out, putting, sending)
 
   moves_keep : (p q : Part T U C) (d : Doings U) → Moves (any true) sends receives client p d q → Keeps (out p) d (out q)
-  moves_keep p q d (stayed is same) = quiet_move p q p d _ is same refl refl refl
+  moves_keep p q d (stayed is same) = keeps_quiet (out p) (out q) d (ap (λ (e : Doings U). e.sends) is) (ap (λ (e : Doings U). e.put) is) (ap out same)
   moves_keep p q d (followed {m = m} {a = a} {b = b} first second is) =
       keeps_so (out p) (out q) (out q) (joined a b) d is refl (keeps_then (out p) (out m) (out q) a b (moves_keep p m a first) (moves_keep m q b second))
   moves_keep p q d (handed_out {a = a} ids moves among is) = keeps_so (out p) (out q) (out q) (record a { handed = ids }) d is refl (moves_keep p q a moves)
-  moves_keep p q d (moved (relinked link waits stays unread is same)) = quiet_move p q (record p { link = link }) d _ is same refl refl waits
-  moves_keep p q d (moved (received r answer link reads filled is same)) =
-      quiet_move p q (record p { link = link }) d _ is same refl refl (ap (λ (l : LinkState T). l.outgoing) filled.2)
-  moves_keep p q d (moved (told messages es put answer link puts is same)) = grind (arith, keeps_so, out, putting, puts_kept)
-  moves_keep p q d (moved (flushed es answer link by is same)) =
-      keeps_so (out p) link.outgoing (out q) (sending es) d is (ap out same) (flush_kept sends within' p.link link es answer by)
-  moves_keep p q d (moved (ended reason may is same)) = quiet_move p q (record p { is_killed = true }) d _ is same refl refl refl
-  moves_keep p q d (moved (born n x free ne serial is same)) = quiet_move p q _ d _ is same refl refl refl
-  moves_keep p q d (moved (found n x holds is same)) = quiet_move p q p d _ is same refl refl refl
-  moves_keep p q d (moved (found_none is same)) = quiet_move p q p d _ is same refl refl refl
-  moves_keep p q d (moved (wrote n x u holds is same)) = quiet_move p q _ d _ is same refl refl refl
-  moves_keep p q d (moved (went n x waits holds is same)) = quiet_move p q _ d _ is same refl refl refl
-  moves_keep p q d (moved (remembered n x holds registry is same)) = quiet_move p q _ d _ is same refl refl refl
-  moves_keep p q d (moved (opens action h acts so is same)) = quiet_move p q _ d _ is same refl refl refl
-  moves_keep p q d (moved (finished may is same)) = quiet_move p q _ d _ is same refl refl refl
-  moves_keep p q d (moved (cleaned on is same)) = quiet_move p q _ d _ is same refl refl refl
+  moves_keep p q d (moved move) =
+      elim (sorts p q d move) [
+        | inl keeps ↦ keeps
+        | inr (no_sends, no_puts, waits) ↦ keeps_quiet (out p) (out q) d no_sends no_puts waits
+      ]
 
   -- ---- what is held of a client
 

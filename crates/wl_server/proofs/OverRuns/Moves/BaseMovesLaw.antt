@@ -56,11 +56,11 @@ module _ {A : Type 0} where
   pairs_first e es x pairs (k, lt, is) = subst (λ (y : ℕ × A). e.0 < y.0) is (pairs zero (suc k) x (omega arith) (omega (arith, lt)))
 
 module _ {U : Type 0} where
-  doings_noted : (notes : List (Happening U)) → doings_in (map Noted notes) ≡ noting notes
+  pub doings_noted : (notes : List (Happening U)) → doings_in (map Noted notes) ≡ noting notes
   doings_noted [] = refl
   doings_noted (h ∷ notes) = ap (λ (d : Doings U). record d { notes = h ∷ d.notes }) (doings_noted notes)
 
-  doings_taken : (notes : List (Happening U)) → doings_in (map NoteTaken notes) ≡ record nothing_done { taken = notes }
+  pub doings_taken : (notes : List (Happening U)) → doings_in (map NoteTaken notes) ≡ record nothing_done { taken = notes }
   doings_taken [] = refl
   doings_taken (h ∷ notes) = ap (λ (d : Doings U). record d { taken = h ∷ d.taken }) (doings_taken notes)
 
@@ -111,7 +111,8 @@ module _ {T U C : Type 0} (kind : Kind) (sends : T → Queue → Result ℕ IoFa
       elim (either_bool p.is_killed h) [
         | inl s ↦ stayed (ap doings_in s.1) s.2
         | inr tells' ↦
-            tells_moves kind sends receives client p (tells (core_of p) messages) lacked did q (tells_comes kind sends receives client (core_of p) messages refl) tells'
+            tells_moves kind sends receives client p (tells (core_of p) messages) lacked did q
+            (tells_comes kind sends receives client (core_of p) messages refl) tells'
       ]
 
   flushed_moves : (p : Part T U C) (answer : Result (Unit {0}) IoFault) (lacked : Bool) (did : List (Deed U)) (q : Part T U C) → FlushedTo sends p answer lacked did q
@@ -192,14 +193,16 @@ module _ {T U G C : Type 0} (kind : Kind) (w : World T G C) (id : ClientParts) (
       elim (cases_Bool p.is_killed) [
         | inr live ↦
             let (no_memory, did_so, nobody, is) = MatchBool-at_false _ _ live h in
-            within p (record p { waiting = [] }) there (moved (cleaned on (ap doings_in did_so ∙ doings_noted p.waiting) refl)) (same ∙ ap (λ (o : Option (Part T U C)). record { part = o; made = s.made ++ notes_in did }) is)
+            within p (record p { waiting = [] }) there (moved (cleaned on (ap doings_in did_so ∙ doings_noted p.waiting) refl))
+            (same ∙ ap (λ (o : Option (Part T U C)). record { part = o; made = s.made ++ notes_in did }) is)
         | inl killed ↦
             let (sent, answer, end, (es, link, by, no_memory, sent_so, end_so), did_so, handed, is) = MatchBool-at_true _ _ killed h in
             let gone = empties kind w.sends w.receives id (record p { waiting = [] }) (finmap.entries p.store.objects) (walk_of_entries p.store) in
             taken_out p (with_link gone.after link) on there killed
             (followed (moved (cleaned on refl refl))
             (followed gone.moves (moved (flushed es answer link (rw gone.link by) refl refl)) refl)
-            (ap doings_in (did_so ∙ ap (λ (l : List (Deed U)). map Noted p.waiting ++ (objects_leave id (finmap.entries p.store.objects) ++ l)) sent_so)
+            (ap doings_in (did_so
+            ∙ ap (λ (l : List (Deed U)). map Noted p.waiting ++ (objects_leave id (finmap.entries p.store.objects) ++ l)) sent_so)
             ∙ doings_cleaned p.waiting (objects_leave id (finmap.entries p.store.objects)) es))
             gone.none gone.waiting (same ∙ ap (λ (o : Option (Part T U C)). record { part = o; made = s.made ++ notes_in did }) is)
       ]
@@ -241,7 +244,8 @@ module _ {T U G C : Type 0} (kind : Kind) (w : World T G C) (id : ClientParts) (
       → Handed (Asked call answer) s did t
   step_goes (step.InsertClient transport client_data) answer s lacked did t about may h = absurd (true≢false (sym about))
   step_goes (step.SetObjectData o u) answer s lacked did t about may (r, is, h) = grind (arith, of_client, same_doings, nothing_done, doings_in, named, stayed, writes, named_is_held)
-  step_goes (step.CreateObject target i version u) answer s lacked did t about may (r, is, h) = grind (arith, made_ids, doings_of, on_part, creates_moves, unfelt)
+  step_goes (step.CreateObject target i version u) answer s lacked did t about may (r, is, h) =
+      grind (arith, made_ids, doings_of, on_part, creates_moves, unfelt)
   step_goes (step.DestroyObject o) answer s lacked did t about may (r, is, h) = grind (arith, of_client, same_client, destroys_moves)
   step_goes (step.SendEvent m) answer s lacked did t about may (r, is, h) =
       of_client kind w.sends w.receives id (same_client m.sender_id.client id) s _ _ lacked did t (λ mine p q d. sends_moves kind w.sends w.receives id offer.table p _ r lacked did q d) h

@@ -2,7 +2,7 @@
 use Rattle.std.proofs.Common.{◌≡◌, List, [], ◌∷◌, ◌++◌, map, refl, sym, ap, ◌∙◌, append-nil, append_assoc, arith, ap₂}
 use Rattle.wl_link.specs.Exchange.{Sending}
 use Rattle.wl_link.specs.Puts.{Said}
-use Rattle.wl_link.specs.Reader.{Given, HandedOut, Queued, Turn, put_and_gave}
+use Rattle.wl_link.specs.Reader.{Given, HandedOut, Turn, put_and_gave}
 use Rattle.wl_server.specs.Deeds.{came_in, Deed, Handed, Put, Sent, notes_in, sends_of}
 use Rattle.wl_server.proofs.OverRuns.Moves.BaseMoves.{Doings, acted_in, all_action_ids, doings_of, joined, nothing_done, noting, putting, sending}
 use Rattle.wl_server.specs.Reading.{exchanges_in, stops_if}
@@ -73,12 +73,9 @@ module _ {U : Type 0} where
   told_did [] others none = none
   told_did (d ∷ did) others none = ap (λ (ds : List (Deed U)). d ∷ ds) (told_did did others none)
 
-  deeds_queued : (put : List Said) → deeds_in {U = U} (map Queued put) ≡ map Put put
-  deeds_queued [] = refl
-  deeds_queued (m ∷ put) = ap (λ (did : List (Deed U)). Put m ∷ did) (deeds_queued put)
-
   pub deeds_given : (put : List Said) (events : List (Told U)) → deeds_in (put_and_gave put events) ≡ map Put put ++ told_deeds events
-  deeds_given put events = grind (arith, deeds_append, map, told_deeds, deeds_queued)
+  deeds_given [] events = refl
+  deeds_given (m ∷ put) events = ap (λ (did : List (Deed U)). Put m ∷ did) (deeds_given put events)
 
   -- ---- the deeds of a verdict, and of a reading
 
@@ -93,7 +90,8 @@ module _ {U : Type 0} where
     -- a verdict's, with what it put and what it handed out
     pub verdict_done : (es : List Sending) (put : List Said) (events : List (Told U)) (c : Core U C)
         → doings_in (deeds_of (map Sent es) (put_and_gave put events) c) ≡ joined (putting es put) (joined (doings_in (told_deeds events)) (end_of c))
-    verdict_done es put events c = grind (arith, deeds_done, deeds_given, joined, deeds_in, doings_sends, sending, doings_in_both, doings_puts, joined_assoc, putting, append-nil)
+    verdict_done es put events c =
+        grind (arith, deeds_done, deeds_given, joined, doings_sends, sending, doings_in_both, doings_puts, joined_assoc, putting, append-nil)
 
     -- what a turn sent and gave, where it killed nobody, and then what the turns behind it did
     pub turns_done : (es : List Sending) (turns : List Turn) (first others : List (Given (Told U))) (c : Core U C) → IsQuiet (deeds_in first)
@@ -105,5 +103,6 @@ module _ {U : Type 0} where
         ∙ passes_by (sending es) (doings_in (deeds_in first)) X (doings_in (deeds_in others)) (end_of c) quiet (doings_turns turns)
         ∙ sym
         (deeds_done (map Sent es ++ exchanges_in turns) (first ++ others) c
-        ∙ ap₂ (λ (x y : Doings U). joined x (joined y (end_of c))) (doings_in_both (map Sent es) (exchanges_in turns) ∙ ap (λ (d : Doings U). joined d X) (doings_sends es))
+        ∙ ap₂ (λ (x y : Doings U). joined x (joined y (end_of c)))
+        (doings_in_both (map Sent es) (exchanges_in turns) ∙ ap (λ (d : Doings U). joined d X) (doings_sends es))
         (ap doings_in (deeds_append first others) ∙ doings_in_both (deeds_in first) (deeds_in others)))

@@ -32,7 +32,7 @@ use Rattle.wl_server.specs.Errors.{PostsError, error_of, posts}
 use Rattle.wl_server.specs.Events.{SendsEvent, SentAs, SessionMessage, argument_faults, checked_row, checked_sender, ends_closed, ends_sender, event_check, granted, said, wire_message}
 use Rattle.wl_server.specs.Finish.{FinishesBind, FinishesRequest, core_finished, data_given, ended_by, ends, ends_request, refusal, store_with_data}
 use Rattle.wl_server.specs.Ids.{ClientParts, IdParts}
-use Rattle.wl_server.proofs.OverRuns.Moves.MovesOfVerdicts.{Comes, Go, at, lands_at, lands_not, same_doings, tells_moves, lands_killed}
+use Rattle.wl_server.proofs.OverRuns.Moves.MovesOfVerdicts.{Comes, Go, at, lands_at, lands_not, same_doings, tells_moves, lands_killed, comes_silently}
 use Rattle.wl_server.specs.Objects.{Creates, Destroys, destroyable, destroys, new_object, without}
 use Rattle.wl_server.specs.Part.{Part, end_note, id_at, id_of, last_possible_serial, named, note_of_end, serial_of, with_link, with_user_data}
 use Rattle.wl_server.specs.Telling.{Core, Did, Kills, Tells, Told, closed_down, core_of, deletions, killed, tells}
@@ -102,7 +102,8 @@ module _ {T U C : Type 0} (kind : Kind) (sends : T → Queue → Result ℕ IoFa
 
   -- ---- an object that leaves
 
-  leaves_comes : (c e starved : Core U C) (waits asks : Bool) (id : IdParts) (x : Object (Kept U)) (puts : List Said) → c.ended ≡ None → named c.store id ≡ Some x
+  leaves_comes : (c e starved : Core U C) (waits asks : Bool) (id : IdParts) (x : Object (Kept U)) (puts : List Said) → c.ended ≡ None
+      → named c.store id ≡ Some x
       → e.ended ≡ None → held e.store id.number ≡ None
       → ((l : LinkState T) → Move (left_by client waits (at kind sends receives client c l) id.number x) nothing_done (at kind sends receives client e l))
       → (starved ≡ closed_down e) ⊎ (starved ≡ c) → Come c (leaving_by client e starved waits asks id x puts)
@@ -139,26 +140,31 @@ module _ {T U C : Type 0} (kind : Kind) (sends : T → Queue → Result ℕ IoFa
   -- ---- messages alone, errors, the end of a client
 
   pub tells_comes : (c : Core U C) (messages : List Said) → c.ended ≡ None → Come c (tells c messages)
-  tells_comes c messages none = ([], lands_not kind sends receives client c none, λ e same. refl, (refl, refl), inl refl, inl refl)
+  tells_comes c messages none =
+      comes_silently kind sends receives client c (tells c messages) (lands_not kind sends receives client c none) (λ e. refl) (inl refl) refl
 
-  posts_comes : (table : List InterfaceRow) (c : Core U C) (id : IdParts) (code : ℕ) (text : List ℕ) → kind.kills (BrokeProtocol (error_of table id code text)) → c.ended ≡ None
+  posts_comes : (table : List InterfaceRow) (c : Core U C) (id : IdParts) (code : ℕ) (text : List ℕ)
+      → kind.kills (BrokeProtocol (error_of table id code text)) → c.ended ≡ None
       → Come c (posts table c id code text)
   posts_comes table c id code text may none =
-      ([], lands_not kind sends receives client c none, λ e same. refl, (refl, refl), inr (BrokeProtocol (error_of table id code text), may, refl), inl refl)
+      comes_silently kind sends receives client c (posts table c id code text) (lands_not kind sends receives client c none) (λ e. refl)
+      (inr (BrokeProtocol (error_of table id code text), may, refl)) refl
 
   pub posts_moves : (table : List InterfaceRow) (p : Part T U C) (id : IdParts) (code : ℕ) (text : List ℕ) (lacked : Bool) (did : List (Deed U)) (q : Part T U C)
       → kind.kills (BrokeProtocol (error_of table id code text)) → PostsError sends table p id code text lacked did q → Move p (doings_in did) q
   posts_moves table p id code text lacked did q may h =
       elim (either_bool (eqb id.number 0) h) [
         | inl (no_memory, none, same) ↦ stays p did q none same
-        | inr tells' ↦ tells_moves kind sends receives client p (posts table (core_of p) id code text) lacked did q (posts_comes table (core_of p) id code text may refl) tells'
+        | inr tells' ↦ tells_moves kind sends receives client p (posts table (core_of p) id code text) lacked did q
+            (posts_comes table (core_of p) id code text may refl) tells'
       ]
 
   pub kills_moves : (p : Part T U C) (reason : DisconnectReason) (did : List (Deed U)) (q : Part T U C) → kind.kills reason → Kills p reason did q → Move p (doings_in did) q
   kills_moves p reason did q may (is, same) =
       rw (is, same)
       (same_doings kind sends receives client _ _ _ _ (grind (arith, (killed (core_of p) reason).ended))
-      ((lands_killed kind sends receives client (core_of p) [] (core_of p) reason may (lands_not kind sends receives client (core_of p) refl)).moves p.link))
+      ((lands_killed kind sends receives client (core_of p) [] (core_of p) reason may
+      (lands_not kind sends receives client (core_of p) refl)).moves p.link))
 
   -- ---- an event
 
@@ -166,7 +172,8 @@ module _ {T U C : Type 0} (kind : Kind) (sends : T → Queue → Result ℕ IoFa
     ends_sender_comes : (c : Core U C) (b : Bool) → c.ended ≡ None → named c.store m.sender ≡ Some sender → Come c (ends_sender client c m sender b)
     ends_sender_comes c false none is = tells_comes c [] none
     ends_sender_comes c true none is =
-        leaves_comes c _ _ true false m.sender sender (deletions m.sender.number) none is none (removed_here c.store m.sender.number m.sender.number refl)
+        leaves_comes c _ _ true false m.sender sender (deletions m.sender.number) none is none
+        (removed_here c.store m.sender.number m.sender.number refl)
         (λ l. stayed refl refl) (inl refl)
 
     -- the client is closed down, and its sender ends all the same
@@ -189,9 +196,11 @@ module _ {T U C : Type 0} (kind : Kind) (sends : T → Queue → Result ℕ IoFa
           → Move p (doings_in did) q
       sent_moves (Ok u) by (more, tells', is_ok', rest_so) =
           then_tells (said m ∷ []) (Ok tt) (ends_sender client (core_of p) m sender b) more
-          (es, Ok tt, link, inl by, ([], [], sym (append-nil es), refl, (refl, refl, refl, refl))) rest_so (ends_sender_comes (core_of p) b refl is) tells'
+          (es, Ok tt, link, inl by, ([], [], sym (append-nil es), refl, (refl, refl, refl, refl))) rest_so
+          (ends_sender_comes (core_of p) b refl is) tells'
       sent_moves (Err fault.OutOfMemory) by (is_err, no_memory, none, same) =
-          moved {d = doings_in did} (told (said m ∷ []) es [] (Err fault.OutOfMemory) link ((es, Err fault.OutOfMemory, link, inl by, (refl, refl, refl, refl)))
+          moved {d = doings_in did}
+          (told (said m ∷ []) es [] (Err fault.OutOfMemory) link ((es, Err fault.OutOfMemory, link, inl by, (refl, refl, refl, refl)))
           (ap doings_in (did_so ∙ ap (λ (ds : List (Deed U)). map Sent es ++ ds) none ∙ append-nil (map Sent es)) ∙ doings_sends es) same)
       sent_moves (Err f) by h =
           then_tells [] (Err f) (ends_closed client (core_of p) m sender b) rest
@@ -207,17 +216,13 @@ module _ {T U C : Type 0} (kind : Kind) (sends : T → Queue → Result ℕ IoFa
   data_moves : (p : Part T U C) (created : Option IdParts) (u : Option U) → Move p nothing_done (record p { store = store_with_data p.store created u })
   data_moves p created u = grind (arith, stayed, named, nothing_done, data_given, writes, named_is_held)
 
-  ends_comes : kind.finishes ≡ true → (c : Core U C) (id : IdParts) (o : Option (Object (Kept U))) (created : Option IdParts) (u : Option U) → c.ended ≡ None
+  ends_comes : kind.finishes ≡ true → (c : Core U C) (id : IdParts) (o : Option (Object (Kept U))) (created : Option IdParts) (u : Option U)
+      → c.ended ≡ None
       → ((x : Object (Kept U)) → o ≡ Some x → named c.store id ≡ Some x) → Come c (ends client c id o created u)
-  ends_comes may c id None created u none is = (
-    [],
-    lands_at kind sends receives client c [] (core_finished c created u) none
-        (λ l. followed (data_moves (at kind sends receives client c l) created u) (moved (finished may refl refl)) refl),
-    λ e same. refl,
-    (refl, refl),
-    inl refl,
-    inl refl,
-  )
+  ends_comes may c id None created u none is =
+      comes_silently kind sends receives client c (ends client c id None created u)
+      (lands_at kind sends receives client c [] (core_finished c created u) none
+      (λ l. followed (data_moves (at kind sends receives client c l) created u) (moved (finished may refl refl)) refl)) (λ e. refl) (inl refl) refl
   ends_comes may c id (Some x) created u none is =
       leaves_comes c _ c false (is_some x.value.user_data) id x (deletions id.number) none (is x refl) none
       (still_gone (removed c.store id.number) id.number created u (removed_here c.store id.number id.number refl))

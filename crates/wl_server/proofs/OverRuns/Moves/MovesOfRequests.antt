@@ -33,7 +33,7 @@ use Rattle.wl_server.proofs.OverRuns.Moves.DoingsLaws.{IsQuiet, told_stops, told
 use Rattle.wl_server.specs.Errors.{error_of, fault_text}
 use Rattle.wl_server.specs.Globals.{global_at}
 use Rattle.wl_server.specs.Ids.{ClientParts, IdParts}
-use Rattle.wl_server.proofs.OverRuns.Moves.MovesOfVerdicts.{Comes, Go, Lands, at, lands_at, lands_not, lands_killed}
+use Rattle.wl_server.proofs.OverRuns.Moves.MovesOfVerdicts.{Comes, Go, Lands, at, lands_at, lands_not, lands_killed, comes_silently}
 use Rattle.wl_server.specs.Part.{Part, display_of, id_at, last_possible_serial, null_id}
 use Rattle.wl_server.specs.Reading.{Around, binds, breaks, converted, garbled, hands_out, new_at, other_request, replies, server, stops_if, synced, with_registry}
 use Rattle.wl_server.proofs.OverRuns.Announced.RequestCases.{request_case}
@@ -129,11 +129,14 @@ module _ {T U G C : Type 0} (kind : Kind) (sends : T → Queue → Result ℕ Io
 
   pub garbled_comes : (c : Core U C) → c.ended ≡ None → Come c (garbled c)
   garbled_comes c none =
-      ([], lands_killed kind sends receives a.client c [] c ConnectionClosed kind.closes (lands_not kind sends receives a.client c none), λ e same. refl, (refl, refl), inl refl, inl refl)
+      comes_silently kind sends receives a.client c (garbled c)
+      (lands_killed kind sends receives a.client c [] c ConnectionClosed kind.closes (lands_not kind sends receives a.client c none)) (λ e. refl)
+      (inl refl) refl
 
   breaks_comes : MayRead kind a.table a.client → (c m : Core U C) (code : ℕ) (text : List ℕ) → Lead c [] m → Come c (breaks a m code text)
   breaks_comes may c m code text lead =
-      ([], lead, λ e same. refl, (refl, refl), inr (BrokeProtocol (error_of a.table (display_of a.client) code text), may.displays code text, refl), inl refl)
+      comes_silently kind sends receives a.client c (breaks a m code text) lead (λ e. refl)
+      (inr (BrokeProtocol (error_of a.table (display_of a.client) code text), may.displays code text, refl)) refl
 
   -- whatever is put
   replies_comes : (c m : Core U C) (did : List (Deed U)) → Lead c did m → IsQuiet did → Come c (replies m [] did)
@@ -144,17 +147,20 @@ module _ {T U G C : Type 0} (kind : Kind) (sends : T → Queue → Result ℕ Io
 
   -- ---- requests to a display and to a registry
 
-  binds_comes : MayRead kind a.table a.client → (c : Core U C) (g version n : ℕ) (x : Object (KeptGlobal G)) → c.ended ≡ None → is_valid_new (objects_in c) n ≡ true → Come c (binds a c g version n x)
+  binds_comes : MayRead kind a.table a.client → (c : Core U C) (g version n : ℕ) (x : Object (KeptGlobal G)) → c.ended ≡ None
+      → is_valid_new (objects_in c) n ≡ true → Come c (binds a c g version n x)
   binds_comes may c g version n x none valid =
       let id : IdParts = made_id a.client (objects_in c) n x.interface in
       hands_out_comes c (with_objects c (with_made (objects_in c) n x.interface version)) (opened.Bind id) (deeds.Bind (global_at g x) id)
       (lands_at kind sends receives a.client c (Acted (deeds.Bind (global_at g x) id) ∷ [])
       (record (with_objects c (with_made (objects_in c) n x.interface version)) { action = Some (opened.Bind id) }) none
-      (λ l. followed (makes_object c version (objects_in c) n x.interface valid l) (moved (opens (opened.Bind id) (deeds.Bind (global_at g x) id) may.reads refl refl refl)) refl))
+      (λ l. followed (makes_object c version (objects_in c) n x.interface valid l)
+      (moved (opens (opened.Bind id) (deeds.Bind (global_at g x) id) may.reads refl refl refl)) refl))
 
   -- ---- other requests
 
-  module _ (c : Core U C) (m : WireMessage) (receiver : Object (Kept U)) (row : MessageRow) (none : c.ended ≡ None) (holds : held c.store m.sender ≡ Some receiver)
+  module _ (c : Core U C) (m : WireMessage) (receiver : Object (Kept U)) (row : MessageRow) (none : c.ended ≡ None)
+      (holds : held c.store m.sender ≡ Some receiver)
       (other : eqb receiver.interface.0 registry_id.0 ≡ false) (may : MayRead kind a.table a.client) where
     -- the action is opened, its sender's id is made, and then those of its arguments
     hands_out_converted : (d : Converting U) (args : List (Argument IdParts Token))
@@ -187,8 +193,10 @@ module _ {T U G C : Type 0} (kind : Kind) (sends : T → Queue → Result ℕ Io
           | inr ok ↦
               rw ok
               (converted_comes (convert a.client receiver.version (start (objects_in c) row) [] m.args)
-              (λ e. converts a.client receiver.version (Over e (objects_in c)) (λ ids o n i valid so l. followed (so l) (makes_object e receiver.version o n i valid l) refl)
-              (λ ids o n x there so l. followed (so l) (moved (found n x there refl refl)) refl) (λ ids o so l. followed (so l) (moved (found_none refl refl)) refl)
+              (λ e. converts a.client receiver.version (Over e (objects_in c))
+              (λ ids o n i valid so l. followed (so l) (makes_object e receiver.version o n i valid l) refl)
+              (λ ids o n x there so l. followed (so l) (moved (found n x there refl refl)) refl)
+              (λ ids o so l. followed (so l) (moved (found_none refl refl)) refl)
               (start (objects_in c) row) [] m.args (λ l. stayed refl refl, λ id among. among)))
         ]
 
@@ -206,4 +214,5 @@ module _ {T U G C : Type 0} (kind : Kind) (sends : T → Queue → Result ℕ Io
       (λ l. followed (unseen (makes_object c 1 (objects_in c) n registry_id valid l))
       (moved (remembered n (made_object (objects_in c) registry_id 1)
       (stored_here c.store n (made_object (objects_in c) registry_id 1) n refl) refl refl refl)) refl)) (refl, refl))
-      (λ g version n x valid. binds_comes may c g version n x none valid) m (λ receiver row holds other. other_comes c m receiver row none holds other may)
+      (λ g version n x valid. binds_comes may c g version n x none valid) m
+      (λ receiver row holds other. other_comes c m receiver row none holds other may)

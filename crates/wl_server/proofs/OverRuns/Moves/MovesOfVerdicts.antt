@@ -1,5 +1,5 @@
 -- That a verdict that is carried out is a chain of base moves.
-use Rattle.std.proofs.Common.{◌≡◌, ◌⊎◌, ℕ, Bool, true, false, List, [], map, None, Result, refl, sym, ap, subst, append-nil, append_assoc, true≢false, arith, Option, Some, ◌∷◌, Ok, Err}
+use Rattle.std.proofs.Common.{◌≡◌, ◌⊎◌, ℕ, Bool, true, false, List, [], map, None, Result, refl, sym, ap, subst, append-nil, append_assoc, true≢false, arith, ◌∷◌, Ok, Err}
 use mathlib.Core.Logic.{inl, inr}
 use Rattle.wl_wire.specs.declared.error.IoFault.{IoFault}
 use Rattle.wl_wire.specs.declared.error.IoFault.TheVariants as fault
@@ -8,13 +8,12 @@ use Rattle.wl_link.specs.Link.{LinkState}
 use Rattle.wl_link.specs.Puts.{FlushesOut, Said}
 use Rattle.wl_link.specs.Reader.{ReaderState, CarriesOut, Given, Reader, Verdict, came_to, put_and_gave}
 use Rattle.wl_server.specs.declared.notes.DisconnectReason.{DisconnectReason}
-use Rattle.wl_server.proofs.OverRuns.Moves.BaseMoves.{Doings, Kind, Moves, ended, end_notes, flushed, followed, joined, moved, nothing_done, noting, putting, sending, stayed, told}
+use Rattle.wl_server.proofs.OverRuns.Moves.BaseMoves.{Doings, Kind, Moves, ended, flushed, followed, joined, moved, nothing_done, putting, sending, stayed, told}
 use Rattle.wl_server.specs.Deeds.{Deed, notes_in, Sent}
 use Rattle.wl_server.proofs.OverRuns.Moves.DoingsLaws.{IsQuiet, doings_in, joined_none, told_deeds, verdict_done, end_of}
 use Rattle.wl_server.specs.Ids.{ClientParts}
 use Rattle.wl_server.specs.Part.{Part}
 use Rattle.wl_server.specs.Telling.{Core, Finish, Tells, Told, closed_down, core_of, deeds_in, end_deeds, killed, part_of, speaker, deeds_of}
-use Rattle.std.specs.Prelude.{if◌then◌else◌}
 use Rattle.wl_server.specs.declared.notes.DisconnectReason.TheVariants.{ConnectionClosed}
 
 module _ {U : Type 0} where
@@ -56,14 +55,9 @@ module _ {T U C : Type 0} (kind : Kind) (sends : T → Queue → Result ℕ IoFa
   pub lands_killed : (c : Core U C) (made : List (Deed U)) (e : Core U C) (reason : DisconnectReason) → kind.kills reason → Lands c made e
       → Lands c made (killed e reason)
   lands_killed c made e reason may lands = record {
-    moves = λ l. followed (lands.moves l) (moved (ended reason may refl refl)) (noted (doings_in made) e.is_killed e.ended lands.calm);
+    moves = λ l. followed (lands.moves l) (moved (ended reason may refl refl)) (grind (arith, append-nil, append_assoc, e.is_killed, lands.calm));
     calm = λ live. absurd (true≢false live);
   }
-    where
-      noted : (d : Doings U) (b : Bool) (o : Option DisconnectReason) → (b ≡ false → o ≡ None)
-          → joined d (noting (notes_in (end_deeds {U = U} (if b then o else Some reason))))
-          ≡ joined (joined d (noting (notes_in (end_deeds {U = U} o)))) (noting (end_notes b reason))
-      noted d b o none = grind (arith, append-nil, append_assoc, b, o)
 
   -- ---- a verdict
 
@@ -73,6 +67,12 @@ module _ {T U C : Type 0} (kind : Kind) (sends : T → Queue → Result ℕ IoFa
       (made : List (Deed U)) × Lands c made v.core × ((e : Core U C) → e.store ≡ v.core.store → told_deeds (v.events e) ≡ made) × IsQuiet made
       × ((v.last ≡ (λ d. d)) ⊎ ((reason : DisconnectReason) × kind.kills reason × (v.last ≡ (λ d. killed d reason))))
       × ((v.starved ≡ closed_down v.core) ⊎ ((v.starved ≡ c) × (told_deeds (v.events c) ≡ [])))
+
+  -- and hands out nothing that is a deed
+  pub comes_silently : (c : Core U C) (v : Verdict (Core U C) (Told U)) → Lands c [] v.core → ((e : Core U C) → told_deeds (v.events e) ≡ [])
+      → (v.last ≡ (λ d. d)) ⊎ ((reason : DisconnectReason) × kind.kills reason × (v.last ≡ (λ d. killed d reason)))
+      → v.starved ≡ closed_down v.core → Comes c v
+  comes_silently c v lands silent last over = ([], lands, λ e same. silent e, (refl, refl), last, inl over)
 
   flushes : (c : Core U C) (b : Bool) (before after : LinkState T) (es : List Sending) (lacked : Bool) → FlushesOut sends b before es lacked after
       → Go (at c before) (sending es) (at c after)
@@ -99,42 +99,42 @@ module _ {T U C : Type 0} (kind : Kind) (sends : T → Queue → Result ℕ IoFa
     closed = lands_killed c comes.0 v.core ConnectionClosed kind.closes comes.1
 
     landed_starved : Landed v.starved
-    landed_starved = elim comes.5 [ inl is ↦ rw is (landed_by (closed_down v.core) closed refl) | inr (is, nothing) ↦ rw (is, nothing) (lands_not c none, (refl, refl)) ]
+    landed_starved =
+        elim comes.5 [
+          | inl is ↦ rw is (landed_by (closed_down v.core) closed refl)
+          | inr (is, nothing) ↦ rw (is, nothing) (lands_not c none, (refl, refl))
+        ]
 
     landed : (wrote : Result (Unit {0}) IoFault) → Landed (came_to reader v wrote)
     landed (Ok u) = landed_last v.core comes.1 refl
     landed (Err fault.OutOfMemory) = landed_starved
     landed (Err f) = rw (came_to, breaks v.core f) (landed_last (closed_down v.core) closed refl)
 
-    module _ (link : LinkState T) (es : List Sending) (gave : List (Given (Told U))) (after : ReaderState T (Core U C)) where
+    module _ (link : LinkState T) (es : List Sending) (gave : List (Given (Told U))) (end : Core U C) (after : LinkState T) where
       -- what it did, carried out over a link
       abbrev Carried : Type 0
-      Carried = Go (at c link) (doings_in (deeds_of (map Sent es) gave after.core)) (part_of after) × IsCalm after.core × IsQuiet (deeds_in gave)
+      Carried = Go (at c link) (doings_in (deeds_of (map Sent es) gave end)) (at end after) × IsCalm end × IsQuiet (deeds_in gave)
 
-      came_over : (e : Core U C) (put : List Said) → Go (at c link) (putting es put) (at c after.link) → Landed e → gave ≡ put_and_gave put (v.events e)
-          → after.core ≡ e → Carried
-      came_over e put spoken (lands, quiet) given is = rw given (grind (arith, at_end))
-        where
-          at_end : Go (at c link) (doings_in (deeds_of (map Sent es) (put_and_gave put (v.events e)) e)) (at e after.link)
-              × IsCalm e × IsQuiet (deeds_in (put_and_gave put (v.events e)))
-          at_end = (
-            same_doings _ _ _ _ (verdict_done es put (v.events e) e) (followed spoken (lands.moves after.link) refl),
-            lands.calm,
-            quiet_given put (v.events e) quiet,
-          )
+      came_over : (e : Core U C) (put : List Said) → Go (at c link) (putting es put) (at c after) → Landed e → gave ≡ put_and_gave put (v.events e)
+          → end ≡ e → Carried
+      came_over e put spoken (lands, quiet) given is =
+          rw (given, is)
+          (let moves = same_doings _ _ _ _ (verdict_done es put (v.events e) e) (followed spoken (lands.moves after) refl) in
+          (moves, lands.calm, quiet_given put (v.events e) quiet))
 
-      pub carried : (refused : Bool) → CarriesOut sends reader v link es gave refused after → Carried
+      pub carried : (refused : Bool) → CarriesOut sends reader v link es gave refused (record { core = end; link = after }) → Carried
       carried refused (inl (first, others, put, wrote, mid, lacked, puts, flushed_so, sent, core, given, is)) =
           came_over (came_to reader v wrote) put
-          (followed (moved (told v.puts first put wrote mid puts refl refl)) (flushes c v.flushes mid after.link others lacked flushed_so)
+          (followed (moved (told v.puts first put wrote mid puts refl refl)) (flushes c v.flushes mid after others lacked flushed_so)
           (grind (arith, append-nil, putting, sending, sent))) (landed wrote) given core
       carried refused (inr (asks, is, nothing, given, same)) =
           came_over v.starved []
-          (stayed (ap (λ (l : List Sending). putting {U = U} l []) nothing) (ap (λ (a : ReaderState T (Core U C)). at c a.link) same)) landed_starved given
+          (stayed (ap (λ (l : List Sending). putting {U = U} l []) nothing)
+          (ap (λ (a : ReaderState T (Core U C)). at c a.link) same)) landed_starved given
           (ap (λ (a : ReaderState T (Core U C)). a.core) same)
 
   -- what is told to a client: a verdict on its part, and its deeds
   pub tells_moves : (p : Part T U C) (v : Verdict (Core U C) (Told U)) (refused : Bool) (did : List (Deed U)) (after : Part T U C) → Comes (core_of p) v
       → Tells sends v p.link refused did after → Go p (doings_in did) after
   tells_moves p v refused did after comes (es, gave, end, by, is, same) =
-      rw (is, same) (carried speaker (λ d f. refl) (core_of p) v comes refl p.link es gave end refused by).0
+      rw (is, same) (carried speaker (λ d f. refl) (core_of p) v comes refl p.link es gave end.core end.link refused by).0

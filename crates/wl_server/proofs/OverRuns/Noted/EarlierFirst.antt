@@ -4,7 +4,7 @@ use mathlib.Core.Logic.{inl, inr}
 use Rattle.std.specs.Global.{Global}
 use Rattle.std.specs.List.{sum_by}
 use Rattle.std.specs.Option.{option_map}
-use Rattle.std.specs.Prelude.{◌⊎◌, ◌==◌, if◌then◌else◌}
+use Rattle.std.specs.Prelude.{◌⊎◌, ◌==◌}
 use Rattle.std.proofs.lemmas.Bool.{eq-eqb, eqb-true, false≢true}
 use Rattle.std.proofs.lemmas.List.{append_cancel_left, length-append, map-append}
 use Rattle.std.proofs.lemmas.List.Sums.{sum_by-cons}
@@ -35,9 +35,9 @@ use Rattle.wl_server.proofs.OverRuns.Alone.IsolationLaw.{numbered, other_call}
 use Rattle.wl_server.proofs.OverRuns.Moves.BaseMoves.{Doings, Goes, Kind, Moves, any, followed, handed_out, moved, notes_taken, stayed, taken_out, unfelt, within}
 use Rattle.wl_server.proofs.OverRuns.Moves.BaseMovesLaw.{any_moves, call_goes}
 use Rattle.wl_server.proofs.OverRuns.Noted.NotesInOrder.{Takes, begins_so, id_of, made_of, note_is, one_client, own_first, slot_is, takes_of, told_so}
-use Rattle.wl_server.proofs.OverRuns.Noted.PlacesInOrder.{IsOf, earlier_first, kind_of, of_kind, of_made, only, parted, sorted_of}
+use Rattle.wl_server.proofs.OverRuns.Noted.PlacesInOrder.{IsOf, earlier_first, kind_of, of_kind, of_made, only, parted, sorted_of, in_slot}
 use Rattle.wl_server.proofs.OverRuns.Outcome.SameNotes.{fronts_one}
-use Rattle.wl_server.proofs.OverRuns.Outcome.ShareLaws.{same_client_is}
+use Rattle.wl_server.proofs.OverRuns.Outcome.WholeLaws.{same_client_is}
 
 -- ---- lists
 
@@ -66,12 +66,7 @@ whole notes made waited ends one two three = grind (arith, append_assoc)
 
 none_parts : {A : Type 0} (a b c : List A) → a ++ (b ++ c) ≡ [] → (a ≡ []) × (b ≡ [])
 none_parts [] [] c is = (refl, refl)
-none_parts [] (y ∷ b) c is = absurd cc
-none_parts (x ∷ a) b c is = absurd cc
-
-sum_map : {A B : Type 0} (g : B → ℕ) (f : A → B) (xs : List A) → sum_by g (map f xs) ≡ sum_by (λ x. g (f x)) xs
-sum_map g f [] = refl
-sum_map g f (x ∷ xs) = omega (arith, sum_by-cons g (f x) (map f xs), sum_by-cons (λ x. g (f x)) x xs, sum_map g f xs)
+none_parts a b c is = absurd cc
 
 sum_ones : {A : Type 0} (xs : List A) → sum_by (λ x. 1) xs ≡ length xs
 sum_ones [] = refl
@@ -150,31 +145,29 @@ module _ {T U G C : Type 0} where
 
 -- ---- what a cleanup gathers
 
-abbrev one_at : ℕ → ℕ → ℕ
-one_at slot k = if k == slot then 1 else 0
-
 module _ {T U C : Type 0} (clients : List (Option (Stored T U C))) where
   -- only stored clients are told of
   abbrev IsOfStored : List (Note U) → Type 0
   IsOfStored m = (id : ClientParts) → client_at id clients ≡ None → notes_of id m ≡ []
 
-  -- as many notes are told of a client as are of its slot
-  slot_count : (id : ClientParts) (m : List (Note U)) → is_some (client_at id clients) ≡ true → IsOfStored m
-      → length (notes_of id m) ≡ sum_by (one_at id.slot) (map slot_of m)
-  slot_count id [] here none = refl
-  slot_count id (n ∷ m) here none = step (slot_count id m here (λ j gone. behind j (none j gone)))
+  -- as many notes are told of a client as its slot has places
+  slot_count : (id : ClientParts) (m : List (Note U)) (ps : List NotePlace) → map slot_of m ≡ slots_of ps → is_some (client_at id clients) ≡ true
+      → IsOfStored m → length (notes_of id m) ≡ sum_by (in_slot id.slot (λ p. 1)) ps
+  slot_count id [] [] along here none = refl
+  slot_count id (n ∷ m) (p ∷ ps) along here none = step (slot_count id m ps (cc) here (λ j gone. behind j (none j gone)))
     where
       behind : (j : ClientParts) → notes_of j (n ∷ m) ≡ [] → notes_of j m ≡ []
       behind j is = grind (arith, told_of, notes_of)
 
-      step : length (notes_of id m) ≡ sum_by (one_at id.slot) (map slot_of m)
-          → length (notes_of id (n ∷ m)) ≡ sum_by (one_at id.slot) (map slot_of (n ∷ m))
+      step : length (notes_of id m) ≡ sum_by (in_slot id.slot (λ p. 1)) ps → length (notes_of id (n ∷ m)) ≡ sum_by (in_slot id.slot (λ p. 1)) (p ∷ ps)
       step rest =
-          let count = sum_by-cons (one_at id.slot) (slot_of n) (map slot_of m) in
+          let count = sum_by-cons (in_slot id.slot (λ p. 1)) p ps in
+          let at : slot_of n ≡ p.slot = cc in
           let own = own_first n m in
           let stored = one_client clients (id_of n) id in
           let gone = none (id_of n) in
-          grind (arith, count, own, stored, gone, eqb-true, client_at (id_of n) clients, slot_is n, note_is n, same_slots, told_of, slot_of n == id.slot)
+          grind (arith, count, at, own, stored, gone, eqb-true, client_at (id_of n) clients, slot_is n, note_is n, same_slots, told_of, slot_of n == id.slot)
+  slot_count id m ps along here none = absurd cc
 
 module _ {T U G C : Type 0} where
   -- the notes of a client among those of one kind
@@ -189,8 +182,8 @@ module _ {T U G C : Type 0} where
       at : (o : Option (Stored T U C)) → client_at id s.clients ≡ o → length (notes_of id m) ≡ length (held_of v id s)
       at None gone = grind (arith, none id gone, v, made_of, seen)
       at (Some c) here =
-          slot_count s.clients id m (ap is_some here) none ∙ (ap (sum_by (one_at id.slot)) along ∙ (sum_map (one_at id.slot) (λ p. p.slot) order
-          ∙ (of.counts (λ p. 1) id.slot ∙ (sum_ones (numbers_of v s id.slot) ∙ numbers c here))))
+          slot_count s.clients id m order along (ap is_some here) none ∙
+          (of.counts (λ p. 1) id.slot ∙ (sum_ones (numbers_of v s id.slot) ∙ numbers c here))
 
   -- what a cleanup gathers; the notes that were made, and those that waited, are in order of time
   record Gathers (s t : ServerState T U G C) : Type 0 where

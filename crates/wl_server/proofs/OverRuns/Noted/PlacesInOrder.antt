@@ -1,5 +1,5 @@
 -- Places in order of time, and those of one kind among them: those of an earlier point come first among those of a later one.
-use Rattle.std.proofs.Common.{◌≡◌, ◌∙◌, ℕ, zero, suc, ◌+◌, ◌<◌, ◌≤◌, Bool, true, false, not, get_or, List, [], ◌∷◌, ◌++◌, map, refl, sym, ap, subst, arith}
+use Rattle.std.proofs.Common.{◌≡◌, ◌∙◌, ℕ, zero, suc, ◌+◌, ◌<◌, ◌≤◌, Bool, true, false, not, get_or, List, [], ◌∷◌, ◌++◌, map, refl, sym, ap, subst, arith, append-nil}
 use Rattle.std.specs.List.{AllByRecursion, sum_by}
 use Rattle.std.specs.Prelude.{◌==◌, if◌then◌else◌, IsPermutation}
 use Rattle.std.proofs.lemmas.Bool.{eqb-true, eq-eqb, false≢true, ne_eqb}
@@ -46,11 +46,11 @@ abbrev as_one : Bool → ℕ
 as_one b = if b then 1 else 0
 
 -- one of the same kind and number counts for one
-abbrev like : NotePlace → NotePlace → ℕ
+abbrev pub like : NotePlace → NotePlace → ℕ
 like q p = if as_one p.waits == as_one q.waits then as_one (p.number == q.number) else 0
 
 -- how often a place is there
-abbrev often : NotePlace → List NotePlace → ℕ
+abbrev pub often : NotePlace → List NotePlace → ℕ
 often q ps = sum_by (in_slot q.slot (like q)) ps
 
 often_cons : (q p : NotePlace) (ps : List NotePlace) → often q (p ∷ ps) ≡ in_slot q.slot (like q) p + often q ps
@@ -79,6 +79,16 @@ early_first (x ∷ a) (y ∷ b) (after_x, up) (after_y, up') same =
     let (rest, behind) = early_first a b up up' (λ q r less some.
     omega (arith, often_cons q x a, often_cons q y b, ap (in_slot q.slot (like q)) is, same q r less (omega (arith, some, often_cons r x a)))) in
     (rest, ap (λ (p : NotePlace). p ∷ b) is ∙ ap (λ (l : List NotePlace). x ∷ l) behind)
+
+-- two orders of the same places are one
+pub one_order : (a b : List NotePlace) → Sorted a → Sorted b → ((q : NotePlace) → often q a ≡ often q b) → a ≡ b
+one_order a b up up' same =
+    let (rest, is) = early_first a b up up' (λ q r less some. same q) in
+    sym (is ∙ (ap (λ (l : List NotePlace). a ++ l) (none rest (λ q. sym (ap (often q) is) ∙ sym (same q))) ∙ append-nil a))
+  where
+    none : (rest : List NotePlace) → ((q : NotePlace) → often q (a ++ rest) ≡ often q a) → rest ≡ []
+    none [] more = refl
+    none (p ∷ rest) more = absurd (omega (arith, more p, sum_by-append (in_slot p.slot (like p)) a (p ∷ rest), there_first p rest))
 
 -- ---- the places of one kind: of notes that were made, or of those that wait
 

@@ -17,16 +17,16 @@ use Rattle.wl_server.specs.declared.runs.step.Step.{Step}
 use Rattle.wl_server.specs.declared.runs.step.Step.TheVariants as step
 use Rattle.wl_server.specs.Backend.{BackendState}
 use Rattle.wl_server.specs.Deeds.{handed}
-use Rattle.wl_server.specs.Dispatch.{Answering, Answers, EachIsDispatched, EndsDispatch, Handles, IsDispatched, Last, Round, Rounds, cleaned, dispatched, fault_of_end, fault_of_reading, more, no_action, none, not_ended, refusal_in, total_with}
+use Rattle.wl_server.specs.Dispatch.{Answering, Answers, EachIsDispatched, EndsDispatch, IsDispatched, Last, Round, Rounds, cleaned, dispatched, fault_of_end, fault_of_reading, more, no_action, none, not_ended, refusal_in, total_with}
 use Rattle.wl_server.specs.Outcome.Dispatches.{DispatchesHaveOneOutcome, HandledSame, IsDeterministic, IsDeterministicIfSpared, ManyDispatchesHaveOneOutcome, ManySparedDispatchesHaveOneOutcome, SameBackend, SparedDispatchesHaveOneOutcome}
 use Rattle.wl_server.specs.Ids.{ClientParts}
 use Rattle.wl_server.specs.Outcome.{SameReply}
 use Rattle.wl_server.specs.PartStep.{share_of, Asked, World}
-use Rattle.wl_server.specs.Reading.{action_content, new_reading}
+use Rattle.wl_server.specs.Reading.{new_reading}
 use Rattle.wl_server.specs.Server.{ServerState}
 use Rattle.wl_server.specs.Steps.{Entry, OneStep}
 use Rattle.wl_server.specs.Outcome.Whole.{SameServer, WholeReply}
-use Rattle.wl_server.proofs.OverRuns.Outcome.Determined.{IsDetermined}
+use Rattle.wl_server.proofs.OverRuns.Outcome.MoveLaws.{IsDetermined}
 use Rattle.wl_server.proofs.OverRuns.Outcome.WholeRuns.{entry_one}
 
 -- memory was refused in neither
@@ -55,10 +55,9 @@ module _ {T U : Type 0} where
 
 module _ {T U G C : Type 0} (w : World T G C) (known : IsDetermined w) (ordered : Bool) where
   -- the same step was made twice
-  step_one : {s t x y : ServerState T U G C} (e f : Entry T U G C) (k : Step T U G C) (p q : Reply T U) → SameServer ordered s t
-      → e.call ≡ Asked k p → f.call ≡ Asked k q → e.refused ≡ false → f.refused ≡ false → OneStep w s e x → OneStep w t f y
-      → SameReply any p q × SameServer ordered x y
-  step_one {s} {t} {x} {y} e f k p q same call call' calm calm' by by' =
+  step_one : {s t x y : ServerState T U G C} {e f : Entry T U G C} {k : Step T U G C} {p q : Reply T U} → SameServer ordered s t → e.call ≡ Asked k p
+      → f.call ≡ Asked k q → e.refused ≡ false → f.refused ≡ false → OneStep w s e x → OneStep w t f y → SameReply any p q × SameServer ordered x y
+  step_one {s} {t} {x} {y} {e} {f} {k} {p} {q} same call call' calm calm' by by' =
       let one = entry_one w known s t x y e f ordered same (grind (arith, e.call, f.call)) calm calm' by by' in
       (whole_any ordered p q (grind (arith, e.call, f.call, one.0)), one.2)
 
@@ -80,28 +79,7 @@ module _ {H T U G C : Type 0} (w : World T G C) (known : IsDetermined w) (ordere
     answered_one h h1 h2 b c x y (action.Bind _ _) (action.Bind _ _) end end' same actions is is' p q = grind (arith)
     answered_one h h1 h2 b c x y a a' end end' same actions is is' p q = absurd cc
 
-    -- the same action was handled
-    handles_one : {h h1 h2 : H} {b c : BackendState T U G C} {a a' : Action} {run run' : Calls} {l m : Bool} {why why' : Option FinishError}
-        {x y : Server} → SameBackend ordered b c → handed a ≡ handed a' → l ≡ false → m ≡ false → spared h1 ≡ true → spared h2 ≡ true
-        → Handles w answers id h b a run l why h1 x → Handles w answers id h c a' run' m why' h2 y
-        → (why ≡ why') × (h1 ≡ h2) × SameServer ordered x y
-    handles_one {h} {h1} {h2} {b} {c} {a} {a'} same actions calm calm' is is' p q =
-        let one = answered_one h h1 h2 b c p.left q.left a a' p.end q.end same actions is is' p.answers_so q.answers_so in
-        let made = step_one w known ordered p.ended q.ended p.end p.answer q.answer one.2 p.ended_is (grind (arith, q.ended_is, one.0))
-        (sym p.lacked_is ∙ calm) (sym q.lacked_is ∙ calm') p.ends q.ends in
-        (p.why_is ∙ refusal_same p.answer q.answer made.0 ∙ sym q.why_is, one.1, made.1)
-
     -- ---- a turn: a reading, and what became of the action that it handed out, if it did
-
-    read_one : {r r1 r2 : Reading} {s t x y : Server} (e f : Entry T U G C) (a a' : Result Action ActionError) → SameServer ordered s t
-        → e.refused ≡ false → f.refused ≡ false → OneStep w s e x → OneStep w t f y
-        → e.call ≡ Asked (step.NextActionWithin id r) (reply.NextActionWithin a r1)
-        → f.call ≡ Asked (step.NextActionWithin id r) (reply.NextActionWithin a' r2)
-        → (action_content a ≡ action_content a') × (r1 ≡ r2) × SameServer ordered x y
-    read_one {r} {r1} {r2} e f a a' same calm calm' by by' call call' =
-        let made = step_one w known ordered e f (step.NextActionWithin id r) (reply.NextActionWithin a r1) (reply.NextActionWithin a' r2) same
-        call call' calm calm' by by' in
-        (made.0.0, made.0.1, made.1)
 
     abbrev Ending : Type 0
     Ending = Result (Option FinishError) ActionError
@@ -115,22 +93,26 @@ module _ {H T U G C : Type 0} (w : World T G C) (known : IsDetermined w) (ordere
 
     turn_one : {h h1 h2 : H} {r r1 r2 : Reading} {s t x y : Server} {o o' : Ending} → SameServer ordered s t → Turn h r s o h1 r1 x
         → Turn h r t o' h2 r2 y → (o ≡ o') × (h1 ≡ h2) × (r1 ≡ r2) × SameServer ordered x y
-    turn_one same (ended why run l o_is calm is p) (ended why' run' m o_is' calm' is' q) =
+    turn_one {h} {h1} {h2} same (ended why run l o_is calm is p) (ended why' run' m o_is' calm' is' q) =
         let c = both_calm p.read.refused p.end_lacked (sym p.lacked_is ∙ calm) in
         let d = both_calm q.read.refused q.end_lacked (sym q.lacked_is ∙ calm') in
-        let one = read_one p.read q.read (Ok p.handed) (Ok q.handed) same c.0 d.0 p.reads q.reads p.read_is q.read_is in
-        let backend : SameBackend ordered p.found q.found = record { server = one.2; refused = p.found_is ∙ c.0 ∙ sym (q.found_is ∙ d.0) } in
-        let done = handles_one backend (grind (arith, handed p.handed, handed q.handed, one.0)) c.1 d.1 is is' p.handles q.handles in
-        (o_is ∙ ap Ok done.0 ∙ sym o_is', done.1, one.1, done.2)
+        let read = step_one w known ordered same p.read_is q.read_is c.0 d.0 p.reads q.reads in
+        let backend : SameBackend ordered p.found q.found = record { server = read.1; refused = p.found_is ∙ c.0 ∙ sym (q.found_is ∙ d.0) } in
+        let a = p.handles in
+        let b = q.handles in
+        let done = answered_one h h1 h2 p.found q.found a.left b.left p.handed q.handed a.end b.end backend
+        (grind (arith, handed p.handed, handed q.handed, read.0)) is is' a.answers_so b.answers_so in
+        let last = step_one w known ordered done.2 a.ended_is (rw (← done.0) at b.ended_is) (sym a.lacked_is ∙ c.1) (sym b.lacked_is ∙ d.1) a.ends b.ends in
+        (o_is ∙ ap Ok (a.why_is ∙ refusal_same a.answer b.answer last.0 ∙ sym b.why_is) ∙ sym o_is', done.1, read.0.1, last.1)
     turn_one same (ended why run l o_is calm is p) (unread error f o_is' calm' is' kept by call) =
         let c = both_calm p.read.refused p.end_lacked (sym p.lacked_is ∙ calm) in
-        let told = (read_one p.read f (Ok p.handed) (Err error) same c.0 calm' p.reads by p.read_is call).0 in absurd cc
+        let told = (step_one w known ordered same p.read_is call c.0 calm' p.reads by).0.0 in absurd cc
     turn_one same (unread error e o_is calm is kept by call) (ended why run l o_is' calm' is' q) =
         let d = both_calm q.read.refused q.end_lacked (sym q.lacked_is ∙ calm') in
-        let told = (read_one e q.read (Err error) (Ok q.handed) same calm d.0 by q.reads call q.read_is).0 in absurd cc
+        let told = (step_one w known ordered same call q.read_is calm d.0 by q.reads).0.0 in absurd cc
     turn_one same (unread error e o_is calm is kept by call) (unread error' f o_is' calm' is' kept' by' call') =
-        let one = read_one e f (Err error) (Err error') same calm calm' by by' call call' in
-        let told = one.0 in (cc, kept ∙ sym kept', one.1, one.2)
+        let one = step_one w known ordered same call call' calm calm' by by' in
+        let told = one.0.0 in (cc, kept ∙ sym kept', one.0.1, one.1)
 
     turn_back : {h h' : H} {r r' : Reading} {s s' : Server} {o : Ending} → Turn h r s o h' r' s' → spared h ≡ true
     turn_back {h} {h'} {r} {r'} {s} {s'} (ended why run l o_is calm is p) = grind (arith)
@@ -224,7 +206,7 @@ module _ {H T U G C : Type 0} (w : World T G C) (known : IsDetermined w) (ordere
       let c = both_calm l p.cleanup.refused (sym p.refused ∙ calm) in
       let d = both_calm m q.cleanup.refused (sym q.refused ∙ calm') in
       let (answered, kept, same) = before c.0 d.0 in
-      let one = step_one w known ordered p.cleanup q.cleanup step.Cleanup p.out q.out same p.cleanup_is q.cleanup_is c.1 d.1 p.cleans q.cleans in
+      let one = step_one w known ordered same p.cleanup_is q.cleanup_is c.1 d.1 p.cleans q.cleans in
       (p.result_is ∙ ap (cleaned p.out) answered ∙ cleaned_same answer' p.out q.out one.0 ∙ sym q.result_is, kept, one.1)
 
   pub spared_dispatch_one : SparedDispatchesHaveOneOutcome ordered w answers spared

@@ -1,11 +1,24 @@
--- What a program does to a transport by script follows from the script's value; another transport it does not move.
+-- When the answers of a transport follow from its value; and that they do over transports by script.
+use Rattle.std.specs.Prelude.{◌≡◌, false}
+use Rattle.wl_link.specs.Exchange.{IsFunction, IsReceiveFunction, Queue}
+use Rattle.wl_server.specs.Moves.{Move, Moved}
+use Rattle.wl_server.specs.PartStep.{World, lacks_move, over, over_scripts}
 use Rattle.std.proofs.Common.{ℕ, Result, true≢false, arith}
 use Rattle.wl_wire.specs.declared.error.IoFault.{IoFault}
-use Rattle.wl_link.specs.Exchange.{Queue, IsFunction, IsReceiveFunction}
 use Rattle.wl_link.proofs.Calls.OneScript.{script_receives_function, script_sends_function}
 use Rattle.wl_server.specs.Ids.{ClientParts, GlobalParts}
-use Rattle.wl_server.proofs.OverRuns.Outcome.Determined.{IsDetermined}
-use Rattle.wl_server.specs.PartStep.{over, over_scripts}
+
+-- two moves of one kind, neither refused for want of memory, have one answer and leave one value
+abbrev pub IsMoveFunction : {T : Type 0} → (T → Move → Moved → T → Type 0) → Type 0
+IsMoveFunction {T = T} moves =
+    (before : T) (m : Move) (one two : Moved) (after after' : T)
+    → moves before m one after → moves before m two after' → lacks_move one ≡ false → lacks_move two ≡ false → (one ≡ two) × (after ≡ after')
+
+-- what a transport answers and becomes follows from its value
+pub record IsDetermined {T G C : Type 0} (w : World T G C) : Type 0 where
+  pub sends : IsFunction w.sends
+  pub receives : IsReceiveFunction w.receives
+  pub moves : IsMoveFunction w.moves
 
 -- so all that stands outside a server over scripts is determined
 pub scripts_determined : {G C : Type 0} (views : G → ClientParts → C → GlobalParts → _) → IsDetermined (over_scripts {G = G} {C = C} views)

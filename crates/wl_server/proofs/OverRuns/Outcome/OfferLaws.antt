@@ -12,6 +12,7 @@ use Rattle.wl_server.specs.declared.runs.step.Step.TheVariants as step
 use Rattle.wl_server.specs.Globals.{Offer, with_table, name_range}
 use Rattle.wl_server.specs.Ids.{ClientParts, GlobalParts}
 use Rattle.wl_server.proofs.OverRuns.Alone.IsolationLaw.{offer_run}
+use Rattle.wl_server.proofs.OverRuns.Outcome.PartOutcome.{Ample}
 use Rattle.wl_server.proofs.OverRuns.Alone.OwnRuns.{are_mine}
 use Rattle.wl_server.specs.Outcome.{AreAmple, AreNumbered, AreOwn, OffersHaveOneOutcome, SameCall, SameSteps, SharedAnswer, SharedSame}
 use Rattle.wl_server.specs.PartStep.{Asked, Call, Changed, Grown, World}
@@ -42,9 +43,6 @@ module _ {T U G C : Type 0} where
   Answered _ = Unit {0}
 
   module _ (id : ClientParts) (offer : Offer G) where
-    abbrev Ample : Step T U G C → Reply T U → Type 0
-    Ample s answer = lacks_growth (Asked s answer) ≡ false
-
     -- a client's own calls and the shared ones are answered alike, where their answers tell what all clients share
     pub shared_same : (s : Step T U G C) (p q : Reply T U) → is_about id s ≡ true → Ample s p → Ample s q → AnswersShared offer (Asked s p) → AnswersShared offer (Asked s q)
         → Answered (Asked s p) → Answered (Asked s q) → SharedSame s p q

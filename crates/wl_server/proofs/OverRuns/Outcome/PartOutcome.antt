@@ -1,5 +1,6 @@
--- That each call on what is one client's has one outcome, where memory is not refused to it.
-use Rattle.std.proofs.Common.{◌≡◌, ℕ, Bool, false, List, [], map, Option, None, Some, Result, Ok, Err, sym, ap, ◌∙◌, true≢false, arith, ◌≢◌, true, ◌∷◌, is_ok, refl}
+-- That each call on what is one client's has one outcome, where memory is not refused to it and what a transport answers and
+-- becomes follows from its value.
+use Rattle.std.proofs.Common.{◌≡◌, ℕ, Bool, false, List, [], map, Option, None, Some, Result, Ok, Err, sym, ap, subst, ◌∙◌, true≢false, arith, ◌≢◌, true, ◌∷◌, is_ok, refl, ap₂}
 use Rattle.std.specs.Prelude.{◌==◌, MatchBool, MatchOption, slice_get}
 use mathlib.Core.Logic.{inl, inr}
 use Rattle.wl_wire.specs.declared.error.IoFault.{IoFault}
@@ -24,20 +25,32 @@ use Rattle.wl_server.specs.declared.error.ActionError.{ActionError}
 use Rattle.wl_server.specs.declared.objects.Kept.{Kept}
 use Rattle.wl_server.specs.Deeds.{Deed, Handed}
 use Rattle.wl_server.specs.Errors.{PostsError, posts}
-use Rattle.wl_server.specs.Events.{SendsEvent, SendsGranted, SentAs, SessionMessage, ends_closed, ends_sender, event_check, said, wire_message}
-use Rattle.wl_server.specs.Felt.{FlushedTo, Hears}
+use Rattle.wl_server.specs.Events.{SendsEvent, SendsGranted, SentAs, SessionMessage, ends_closed, ends_sender, event_check, said, wire_message, session_content}
+use Rattle.wl_server.specs.Felt.{FlushedTo, Hears, objects_leave}
 use Rattle.wl_server.specs.Finish.{FinishesOpen, FinishesRequest, ends_request, refusal}
-use Rattle.wl_server.specs.Ids.{ClientParts, IdParts}
-use Rattle.wl_server.specs.Moves.{Move, Moved}
-use Rattle.wl_link.proofs.Calls.NumberLaws.{full_not_absent, least_absent_one, limit_set_one}
+use Rattle.wl_server.specs.Ids.{ClientParts, IdParts, same_client}
+use Rattle.wl_server.specs.Moves.{Move, Moved, nothing_taken, taken}
+use Rattle.wl_link.proofs.Calls.NumberLaws.{full_not_absent, least_absent_one, limit_set_one, fresh_one}
 use Rattle.wl_server.specs.Objects.{Creates, DataSet, Destroys, destroyable, destroys, new_object}
-use Rattle.wl_server.proofs.OverRuns.Outcome.Determined.{IsMoveFunction}
+use Rattle.wl_server.proofs.OverRuns.Outcome.MoveLaws.{IsMoveFunction, IsDetermined}
 use Rattle.wl_server.specs.Part.{Part, with_link}
-use Rattle.wl_server.specs.PartStep.{Quietly, WithTransport, lacks_create, lacks_move}
-use Rattle.wl_server.specs.Reading.{Around, NextAction, answered, exchanges_in, read_on, server}
+use Rattle.wl_server.specs.PartStep.{Quietly, WithTransport, lacks_create, lacks_move, Asked, Call, Changed, Grown, InsertedAs, OfClient, OnPart, PartCall, PartStep, Unfelt, World, around, share_of}
+use Rattle.wl_server.specs.Reading.{Around, NextAction, answered, exchanges_in, read_on, server, action_content, new_reading}
 use Rattle.wl_server.specs.Telling.{Core, Tells, Told, core_of, deeds_of, part_of, reader_part, speaker, tells}
 use Rattle.wl_link.specs.Served.{Finds}
 use Rattle.wl_link.proofs.Calls.ReadLaws.{one_read_lem}
+use Rattle.wl_server.specs.declared.error.EventError.TheVariants as event
+use Rattle.wl_server.specs.declared.error.InsertClientError.{InsertClientError}
+use Rattle.wl_server.specs.declared.error.ScriptError.{ScriptError}
+use Rattle.wl_server.specs.declared.runs.step.Reply.{Reply}
+use Rattle.wl_server.specs.declared.runs.step.Reply.TheVariants as reply
+use Rattle.wl_server.specs.declared.runs.step.Step.{Step}
+use Rattle.wl_server.specs.declared.runs.step.Step.TheVariants as step
+use Rattle.wl_server.specs.Globals.{Offer}
+use Rattle.wl_server.specs.Outcome.{SameCall, SameOutcome, SameReply, SameStep, SharedAnswer, SharedSame}
+use Rattle.wl_server.specs.Runs.{is_about}
+use Rattle.wl_server.specs.Server.{Seen}
+use Rattle.wl_server.specs.Steps.{lacks_growth}
 
 module _ {T : Type 0} (sends : T → Queue → Result ℕ IoFault → T → Type 0) (function : IsFunction sends) where
   -- ---- messages that are put
@@ -64,25 +77,23 @@ module _ {T : Type 0} (sends : T → Queue → Result ℕ IoFault → T → Type
         → Lacks sends reader p × (left ≡ 0)
     ends left p out on ample stops' = grind (arith, true≢false)
 
-    abbrev FoundBy : Type 1
-    FoundBy = ReaderState T Core → Verdict Core Event → LinkState T → Type 0
-
     -- two verdicts that were carried out, and what follows them
-    then_same : (Found Found' : FoundBy) (p : ReaderState T Core)
-        → ((v : Verdict Core Event) (l : LinkState T) → Found p v l → Finds sends reader p v l) → ((v : Verdict Core Event) (l : LinkState T) → Found' p v l → Finds sends reader p v l)
-        → (es fs : List Sending) (o o' : Gives Event) (on on' : ReaderState T Core → Gives Event → Type 0) (P : Type 0) → o.refused ≡ false → o'.refused ≡ false
-        → Then sends reader Found p es o on → Then sends reader Found' p fs o' on'
-        → ((mid : ReaderState T Core) (r r' : Gives Event) → r.refused ≡ false → r'.refused ≡ false → on mid r → on' mid r' → P)
-        → (es ≡ fs) × P
-    then_same Found Found' p finds finds' es fs o o' on on' P ample ample' (reads, (v, link, first, lacked, mid, rest, found, carried, split, more)) (reads', (w, link', first', lacked', mid', rest', found', carried', split', more')) goes =
-        let one = finds_one sends function reader p v w link link' (finds v link found) (finds' w link' found') in
+    then_same : (Found : ReaderState T Core → Verdict Core Event → LinkState T → Type 0) (mk : List Sending → Turn) (p : ReaderState T Core)
+        → ((v : Verdict Core Event) (l : LinkState T) → Found p v l → Finds sends reader p v l) → (es fs : List Sending) (turns turns' : List Turn)
+        (o o' : Gives Event) (on on' : ReaderState T Core → Gives Event → Type 0) → o.refused ≡ false → o'.refused ≡ false
+        → Then sends reader Found p es o on → Then sends reader Found p fs o' on'
+        → ((mid : ReaderState T Core) (r r' : Gives Event) → r.refused ≡ false → r'.refused ≡ false → on mid r → on' mid r' → turns ≡ turns')
+        → mk es ∷ turns ≡ mk fs ∷ turns'
+    then_same Found mk p finds es fs turns turns' o o' on on' ample ample' (reads, (v, link, first, lacked, mid, rest, found, carried, split, more))
+        (reads', (w, link', first', lacked', mid', rest', found', carried', split', more')) goes =
+        let one = finds_one sends function reader p v w link link' (finds v link found) (finds w link' found') in
         let ok = both_false lacked rest.refused (sym ample ∙ ap refused_of split) in
         let ok' = both_false lacked' rest'.refused (sym ample' ∙ ap refused_of split') in
         let known = rw ok.0 at carried in
-        let known' = rw (← one.0, ← one.1, ok'.0) at carried' in (
-          carries_sends v link mid mid' es fs first first' known known',
-          goes mid rest rest' ok.1 ok'.1 more (rw (← (carries_one sends function reader v link mid mid' es fs first first' known known').after) at more'),
-        )
+        let known' = rw (← one.0, ← one.1, ok'.0) at carried' in
+        let ends = carries_one sends function reader v link mid mid' es fs first first' known known' in
+        ap₂ (λ (z : List Sending) (l : List Turn). mk z ∷ l) (carries_sends v link mid mid' es fs first first' known known')
+        (goes mid rest rest' ok.1 ok'.1 more (rw (← ends.after) at more'))
 
     module _ (receives : T → ℕ → Result Queue IoFault → T → Type 0) (receives_function : IsReceiveFunction receives) where
       pub reads_turns : (left : ℕ) (p x y : ReaderState T Core) (turns turns' : List Turn) (o o' : Gives Event) → o.refused ≡ false → o'.refused ≡ false
@@ -90,13 +101,9 @@ module _ {T : Type 0} (sends : T → Queue → Result ℕ IoFault → T → Type
       reads_turns left p x y [] [] o o' ample ample' h h' = refl
       reads_turns left p x y (Received r ∷ turns) (Received r' ∷ turns') o o' ample ample' (on, lacks, (n, is, (link, filled, finds, a))) (on', lacks', (n', is', (link', filled', finds', b))) = grind (arith, counted_answer, count_of, true≢false, is_ok, not_lacked, refused_of, one_fill_lem, both_result, with_link_read, reads_turns n (with_link_read p link) x y turns turns' o o' ample ample')
       reads_turns left p x y (Handled es ∷ turns) (Handled fs ∷ turns') o o' ample ample' h h' =
-          let one = then_same (Takes sends reader) (Takes sends reader) p (λ v l t. inl t) (λ v l t. inl t) es fs o o' _ _ (turns ≡ turns') ample ample' h h'
-          (λ mid r r' ok ok' a b. reads_turns left mid x y turns turns' r r' ok ok' a b) in
-          ap (λ (z : List Sending). Handled z ∷ turns) one.0 ∙ ap (λ (z : List Turn). Handled fs ∷ z) one.1
+          then_same (Takes sends reader) Handled p (λ v l t. inl t) es fs turns turns' o o' _ _ ample ample' h h' (λ mid. reads_turns left mid x y turns turns')
       reads_turns left p x y (Unread es ∷ turns) (Unread fs ∷ turns') o o' ample ample' h h' =
-          let one = then_same (Leaves sends reader) (Leaves sends reader) p (λ v l t. inr t) (λ v l t. inr t) es fs o o' _ _ (turns ≡ turns') ample ample' h h'
-          (λ mid r r' ok ok' a b. reads_turns left mid x y turns turns' r r' ok ok' a b) in
-          ap (λ (z : List Sending). Unread z ∷ turns) one.0 ∙ ap (λ (z : List Turn). Unread fs ∷ z) one.1
+          then_same (Leaves sends reader) Unread p (λ v l t. inr t) es fs turns turns' o o' _ _ ample ample' h h' (λ mid. reads_turns left mid x y turns turns')
       reads_turns left p x y turns turns' o o' ample ample' h h' = absurd (grind (arith, ends, one_read_lem, true≢false, is_ok))
 
 -- ---- the same choice is made in both of two cases
@@ -207,8 +214,7 @@ module _ {T U C : Type 0} where
           → IsOne (SentAs sends client s m sender ends wrote link)
       sent_as_one m sender ends (Ok u) link a b d e x y (more, told, is, did) (more', told', is', did') =
           let one = tells_one (ends_sender client (core_of s) m sender ends) link more more' x y told told' in grind (arith, said)
-      sent_as_one m sender ends (Err fault.OutOfMemory) link a b d e x y h g = absurd (true≢false (sym h.1))
-      sent_as_one m sender ends (Err other) link a b d e x y h g = grind (arith, answered_too, tells_one, ends_closed, core_of)
+      sent_as_one m sender ends (Err f) link a b d e x y h g = grind (arith, true≢false, answered_too, tells_one, ends_closed, core_of)
 
       sends_granted_one : (m : SessionMessage) (sender : Object (Kept U)) (ends : Bool) → IsOne (SendsGranted sends client s m sender ends)
       sends_granted_one m sender ends a b d e x y (inl (asks, is, lacked, did, same)) other = absurd (true≢false (sym lacked))
@@ -244,3 +250,93 @@ module _ {T U C : Type 0} where
         (a b : Result Handed ActionError) (left left' : Reading) (d e : List (Deed U)) (x y : Part T U C) where
       pub next_action_one : NextAction sends receives around r s a left false d x → NextAction sends receives around r s b left' false e y → SameEnd a b d e x y × (left ≡ left')
       next_action_one h1 h2 = grind (arith, both_option, same_end, both_bool, reads_one, server, reader_part, reads_turns, answered, deeds_of, exchanges_in, part_of, read_on, handled_in)
+
+-- ---- replies
+
+nothing_taken_one : (a b : Result (Unit {0}) ScriptError) → nothing_taken a ≡ nothing_taken b → a ≡ b
+nothing_taken_one a b same = grind (arith, a, b)
+
+module _ {T U : Type 0} where
+  -- two replies are the same where what they are is
+  pub same_reply : (id : ClientParts) (p q p' q' : Reply T U) → p ≡ p' → q ≡ q' → SameReply id p' q' → SameReply id p q
+  same_reply id p q p' q' is is' same = subst (λ r. SameReply id r q) (sym is) (subst (λ r. SameReply id p' r) (sym is') same)
+
+-- ---- what is held of a client
+
+module _ {T U C : Type 0} (before : Seen T U C) (d e : List (Deed U)) (x y : Seen T U C) where
+  unfelt_one : Unfelt before false d x → Unfelt before false e y → SameFelt d e x y
+  unfelt_one (unlacked, did, same) (unlacked', did', same') = same_felt did did' same same'
+
+  -- a step of the part
+  on_one : {P : Type 0} (R R' : Part T U C → Part T U C → Type 0) (missing missing' : Type 0) → (missing → missing' → P)
+      → ((p q q' : Part T U C) → R p q → R' p q' → SameFelt d e q q' × P) → OnPart before R missing false d x → OnPart before R' missing' false e y
+      → SameFelt d e x y × P
+  on_one R R' missing missing' absent each h g = grind (arith, unfelt_one)
+
+  -- a step about this client or about another
+  of_one : {P : Type 0} (b : Bool) (R R' : Part T U C → Part T U C → Type 0) (missing missing' : Type 0) → (missing → missing' → P)
+      → ((p q q' : Part T U C) → R p q → R' p q' → SameFelt d e q q' × P) → OfClient b before R missing false d x → OfClient b before R' missing' false e y
+      → SameFelt d e x y × (b ≡ true → P)
+  of_one h1 h2 h3 missing missing' absent each h g = grind (arith, on_one, unfelt_one, true≢false)
+
+-- the answers apart
+with_answer : {A U S : Type 0} {a b : A} {d e : List (Deed U)} {x y : S} → SameEnd a b d e x y → SameFelt d e x y × (a ≡ b)
+with_answer one = (record { did = one.did; after = one.after }, one.answer)
+
+with_none : {U S : Type 0} {d e : List (Deed U)} {x y : S} → SameFelt d e x y → SameFelt d e x y × (Unit {0})
+with_none one = (one, tt)
+
+-- ---- a step
+
+ruleset part_forms = (of_one, on_one, unfelt_one, with_answer, with_none, same_felt, same_end, same_reply, true≢false, both_bool, not_lacked, map)
+
+ruleset part_calls = (sets_one, creates_one, destroys_one, posts_error_one, hears_one, next_action_one, finishes_request_one, moves_one, flushed_one)
+
+ruleset part_words = (same_client, action_content, around, new_reading, nothing_taken, nothing_taken_one, taken, objects_leave, share_of, with_link)
+
+-- memory was not refused for what belongs to no client
+abbrev pub Ample : {T U G C : Type 0} → Step T U G C → Reply T U → Type 0
+Ample s answer = lacks_growth (Asked s answer) ≡ false
+
+module _ {T U G C : Type 0} (w : World T G C) (known : IsDetermined w) (id : ClientParts) (offer : Offer G) (before : Seen T U C) (d e : List (Deed U)) (x y : Seen T U C) where
+  -- two outcomes of a step are the same to a client
+  abbrev Same : Bool → Reply T U → Reply T U → Type 0
+  Same own p q = SameFelt d e x y × (own ≡ true → SameReply id p q)
+
+  inserted_one : (transport : T) (client_data : C) (r : Result ClientParts InsertClientError) → InsertedAs w id offer transport client_data r before false d x
+      → InsertedAs w id offer transport client_data r before false e y → SameFelt d e x y
+  inserted_one transport client_data (Ok new) h g =
+      by_bool (same_client new id) h g (λ new new'. grind (arith, fresh_one transport (Some offer.default_limit) new.0 new'.0 new.1 new'.1, same_felt)) (unfelt_one before d e x y)
+  inserted_one transport client_data (Err f) h g = unfelt_one before d e x y h g
+
+  -- each step has one outcome
+  pub step_one : (s : Step T U G C) (p q : Reply T U) → Ample s p → Ample s q → SharedSame s p q
+      → PartStep w id offer s p before false d x → PartStep w id offer s q before false e y → Same (is_about id s) p q
+  step_one (step.SendEvent m) p q _ _ _ (r, is, h) (r', is', g) =
+      let one = of_one before d e x y (same_client m.sender_id.client id) _ _ _ _ (λ a b. a ∙ sym b)
+      (λ s q q' f f'. with_answer (sends_event_one w.sends known.sends id s offer.table (session_content m) r r' d e q q' f f')) h g in
+      (one.0, λ own. same_reply id p q _ _ is is' (ap reply.SendEvent (one.1 own)))
+  step_one (step.SetClientMaxBufferSize target limit) p q _ _ _ (is, h) (is', g) =
+      let one = of_one before d e x y (same_client target id) _ _ _ _ (λ _ _. tt) (λ s q q' f f'. with_none (limits_one s limit d e q q' f f')) h g in
+      (one.0, λ own. same_reply id p q reply.SetClientMaxBufferSize reply.SetClientMaxBufferSize is is' refl)
+  step_one s p q ample ample' shared h g = grind (arith, part_forms, part_calls, part_words, inserted_one, lacks_create, one_flush_lem)
+
+  -- what a step does, another does that is the same
+  pub part_as : (s s' : Step T U G C) (q : Reply T U) → SameStep s s' → PartStep w id offer s' q before false e y → PartStep w id offer s q before false e y
+  part_as (step.SendEvent m) (step.SendEvent m') q same h =
+      subst (λ (c : SessionMessage). (r : _) × (q ≡ reply.SendEvent r)
+      × OfClient (same_client c.sender.client id) before (λ s t. SendsEvent w.sends id offer.table s c r false e t) (r ≡ Err event.InvalidId) false e y) (sym same) h
+  part_as (step.SendEvent m) s' q same h = absurd same
+  part_as (step.Arrive target bytes tokens) s' q same h = grind (arith, nothing_taken)
+  part_as s s' q same h = subst (λ (z : Step T U G C). PartStep w id offer z q before false e y) (sym same) h
+
+  -- so has each call
+  pub call_one : (call call' : Call T U G C) → SameCall call call' → lacks_growth call ≡ false → lacks_growth call' ≡ false → SharedAnswer call call'
+      → PartCall w id offer call before false d x → PartCall w id offer call' before false e y
+      → SameOutcome id call call' d e x y
+  call_one (Asked s p) (Asked s' q) same ample ample' shared h g =
+      let one = step_one s p q ample ample' shared h (part_as s s' q same g) in record { reply = one.1; deeds = one.0.did; held = one.0.after }
+  call_one (Changed target t) (Changed target' t') (same, same_value) ample ample' shared h g = grind (arith, of_one, with_none)
+  call_one (Grown rows p) (Grown rows' q) same ample ample' shared h g =
+      let one = unfelt_one before d e x y h g in record { reply = λ own. shared; deeds = one.did; held = one.after }
+  call_one _ _ same ample ample' shared h g = absurd same

@@ -7,9 +7,9 @@ use Rattle.wl_server.proofs.OverRuns.Alone.IsolationLaw.{each_alone, offer_over_
 use Rattle.wl_server.proofs.OverRuns.Alone.OwnRuns.{are_mine}
 use Rattle.wl_link.proofs.Calls.NumberLaws.{fresh_one}
 use Rattle.wl_server.proofs.OverRuns.Outcome.OfferLaws.{mine_numbered, shared_call}
-use Rattle.wl_server.proofs.OverRuns.Outcome.Determined.{IsDetermined}
+use Rattle.wl_server.proofs.OverRuns.Outcome.MoveLaws.{IsDetermined}
 use Rattle.wl_server.specs.Outcome.{AreNumbered, AreOwn, ClientsHaveOneOutcome, HasMemory, InsertsAs, SameRun, SameSteps}
-use Rattle.wl_server.proofs.OverRuns.Outcome.OutcomeLaws.{call_one}
+use Rattle.wl_server.proofs.OverRuns.Outcome.PartOutcome.{call_one}
 use Rattle.wl_server.specs.PartStep.{World}
 use Rattle.wl_server.specs.Runs.{Alone, Leads, Own, just_inserted, mine, offer_over}
 use Rattle.wl_server.specs.Server.{Seen, ServerState, new_server, seen}

@@ -1,14 +1,12 @@
 -- That servers that are the same, and make the same calls, have the same notes in the same order.
 use Rattle.std.proofs.Common.{◌≡◌, ◌∙◌, ℕ, zero, suc, ◌+◌, ◌<◌, ◌≤◌, Bool, true, false, List, [], ◌∷◌, ◌++◌, length, map, take, drop, Option, None, Some, is_some, Ok, Err, Vec, refl, sym, ap, ap₂, subst, arith, append-nil, append_assoc, true≢false}
 use Rattle.std.specs.Global.{Global}
-use Rattle.std.specs.List.{AllByRecursion, sum_by}
 use Rattle.std.specs.Option.{option_map_or}
-use Rattle.std.specs.Prelude.{◌==◌, IsPermutation, if◌then◌else◌, nat_lt}
+use Rattle.std.specs.Prelude.{IsPermutation, nat_lt}
 use Rattle.std.proofs.lemmas.Bool.{eq-eqb, eqb-true, false≢true, ltb-false, ltb-true}
 use Rattle.std.proofs.Math.Seq.{drop-append_seam, take-append_seam}
 use Rattle.std.proofs.lemmas.List.{append_cancel_left, length-append, length-map, map-append}
 use Rattle.std.proofs.lemmas.List.Sorted.{sum_by-IsPermutation}
-use Rattle.std.proofs.lemmas.List.Sums.{sum_by-cons}
 use Rattle.wl_server.specs.declared.notes.Happening.{Happening}
 use Rattle.wl_server.specs.declared.notes.Note.{Note}
 use Rattle.wl_server.specs.declared.notes.queues.NoteNumbers.{NoteNumbers}
@@ -18,7 +16,7 @@ use Rattle.wl_server.specs.declared.runs.step.Reply.TheVariants as reply
 use Rattle.wl_server.specs.declared.runs.step.Step.TheVariants as step
 use Rattle.wl_server.specs.Deeds.{Deed}
 use Rattle.wl_server.specs.Ids.{ClientParts}
-use Rattle.wl_server.specs.NoteOrder.{AllNumbered, AllTakeFirst, InTurn, IsNoLater, Rise, RiseFromSlot, all_places, number_past, numbers_from, places_of, slot_of, times_at, times_of}
+use Rattle.wl_server.specs.NoteOrder.{AllNumbered, AllTakeFirst, InTurn, Rise, RiseFromSlot, all_places, number_past, numbers_from, places_of, slot_of, times_at, times_of}
 use Rattle.wl_server.specs.Outcome.{SameCall}
 use Rattle.wl_server.specs.Outcome.Whole.{OrdersSame}
 use Rattle.wl_server.specs.PartStep.{Asked, Call, PartCall, World}
@@ -27,7 +25,7 @@ use Rattle.wl_server.specs.Steps.{Entry, GathersNotes, HandsOutNotes, MakesNotes
 use Rattle.wl_server.proofs.CallSteps.Numbering.{gives_none, times_stored}
 use Rattle.wl_server.proofs.CleanupSteps.Gathering.{notes_append}
 use Rattle.wl_server.proofs.OverRuns.Noted.NotesInOrder.{Takes, begins_so, happening_of, id_of, made_of, note_is, one_client, own_first, slot_is, told_so}
-use Rattle.wl_server.proofs.OverRuns.Noted.PlacesInOrder.{Sorted, later_refl, sorted_of}
+use Rattle.wl_server.proofs.OverRuns.Noted.PlacesInOrder.{sorted_of, in_slot, like, often, one_order}
 use Rattle.wl_server.proofs.OverRuns.Outcome.WholeLaws.{found, slot_same, told_at}
 use Rattle.wl_server.proofs.CallSteps.Slots.{same_slots}
 
@@ -50,41 +48,6 @@ no_end (x ∷ xs) ys is = absurd cc
 
 -- ---- places in order
 
-abbrev kind : Bool → ℕ
-kind true = 1
-kind false = 0
-
-abbrev is_at : NotePlace → NotePlace → ℕ
-is_at q p = if kind p.waits == kind q.waits then (if p.number == q.number then (if p.slot == q.slot then 1 else 0) else 0) else 0
-
--- how often a place is there
-abbrev often_at : NotePlace → List NotePlace → ℕ
-often_at q ps = sum_by (is_at q) ps
-
-at_itself : (q : NotePlace) → is_at q q ≡ 1
-at_itself q = grind (arith, eq-eqb (kind q.waits) (kind q.waits) refl, eq-eqb q.number q.number refl, eq-eqb q.slot q.slot refl)
-
--- what holds of all places holds of one that is there
-holds_there : (P : NotePlace → Type 0) (q : NotePlace) (ps : List NotePlace) → AllByRecursion P ps → 1 ≤ often_at q ps → P q
-holds_there P q [] all some = absurd (omega (arith, some))
-holds_there P q (p ∷ ps) (here, all) some = grind (arith, kind, sum_by-cons, is_at, eqb-true, holds_there P q ps all)
-
--- a place that is no later than another, and no earlier
-one_place : (p q : NotePlace) → IsNoLater p q → IsNoLater q p → p ≡ q
-one_place p q first second = grind (arith, false≢true)
-
--- two orders of the same places are one
-one_order : (a b : List NotePlace) → Sorted a → Sorted b → ((q : NotePlace) → often_at q a ≡ often_at q b) → a ≡ b
-one_order [] [] up up' same = refl
-one_order [] (y ∷ b) up up' same = absurd (omega (arith, at_itself y, sum_by-cons (is_at y) y b, same y))
-one_order (x ∷ a) [] up up' same = absurd (omega (arith, at_itself x, sum_by-cons (is_at x) x a, same x))
-one_order (x ∷ a) (y ∷ b) (after_x, up) (after_y, up') same = ap (λ (p : NotePlace). p ∷ a) is ∙ ap (λ (l : List NotePlace). y ∷ l)
-    (one_order a b up up' (λ q. omega (arith, sum_by-cons (is_at q) x a, sum_by-cons (is_at q) y b, ap (is_at q) is, same q)))
-  where
-    is : x ≡ y
-    is = one_place x y (holds_there (IsNoLater x) y (x ∷ a) (later_refl x, after_x) (omega (arith, at_itself y, sum_by-cons (is_at y) y b, same y)))
-        (holds_there (IsNoLater y) x (y ∷ b) (later_refl y, after_y) (omega (arith, at_itself x, sum_by-cons (is_at x) x a, same x)))
-
 no_places : (waits : Bool) (slot : ℕ) → places_of waits slot no_times ≡ []
 no_places h1 slot = grind (arith)
 
@@ -98,8 +61,8 @@ orders_one : (waits : Bool) (ts us : List NoteTimes) (a b : List NotePlace) → 
     → ((k : ℕ) → times_at k ts ≡ times_at k us) → a ≡ b
 orders_one waits ts us a b up moved up' moved' same =
     one_order a b (sorted_of a up) (sorted_of b up')
-    (λ q. sum_by-IsPermutation (is_at q) (all_places waits 0 ts) a moved
-    ∙ (ap (often_at q) (places_one waits 0 ts us same) ∙ sym (sum_by-IsPermutation (is_at q) (all_places waits 0 us) b moved')))
+    (λ q. sum_by-IsPermutation (in_slot q.slot (like q)) (all_places waits 0 ts) a moved
+    ∙ (ap (often q) (places_one waits 0 ts us same) ∙ sym (sum_by-IsPermutation (in_slot q.slot (like q)) (all_places waits 0 us) b moved')))
 
 -- ---- numbers in turn
 
@@ -117,8 +80,7 @@ module _ (of : NoteTimes → List ℕ) where
   turn_on zero n ts a ts' b others turn = let none : n ≡ zero + n = omega arith in subst (λ (m : ℕ). InTurn of m ts a ts' b) none turn
   turn_on (suc j) n ts a ts' b others turn =
       let next : suc (j + n) ≡ suc j + n = omega arith in
-      let still : times_at (j + n) ts' ≡ times_at (j + n) ts = others (j + n) (omega arith) in
-      grind (arith, times_at, gives_none, turn_on j n ts a ts' b others turn)
+      grind (arith, times_at, gives_none, others (j + n) (omega arith), turn_on j n ts a ts' b others turn)
 
   turns_one : (n m : ℕ) (ts us ts' us' : List NoteTimes) (a c b d : ℕ) → ((k : ℕ) → times_at k ts ≡ times_at k us)
       → ((k : ℕ) → length (of (times_at k ts')) ≡ length (of (times_at k us'))) → a ≡ c → ((k : ℕ) → n ≤ k → times_at k ts' ≡ times_at k ts)

@@ -1,9 +1,9 @@
--- What is the same to each client is the same to the program: the slots that are free, whether memory was refused, and
--- replies.
-use Rattle.std.proofs.Common.{arith, ◌≡◌, ℕ, Bool, true, false, List, Option, None, Some, is_some, Result, Ok, Err, Vec, refl, sym, ap, subst, ◌∙◌, true≢false}
+-- What is the same to each client is the same to the program: the slots that are free, whether memory was refused, replies,
+-- and what look-ups answer.
+use Rattle.std.proofs.Common.{arith, ◌≡◌, ℕ, Bool, true, false, List, Option, None, Some, is_some, Result, Ok, Err, Vec, refl, sym, ap, subst, ◌∙◌, true≢false, suc, ◌+◌, ◌<◌, ◌≤◌, [], ◌∷◌, length}
 use Rattle.std.specs.Global.{Global}
-use Rattle.std.specs.Prelude.{IsTrue, option_map}
-use Rattle.std.proofs.lemmas.Bool.{eq-eqb, eqb-true}
+use Rattle.std.specs.Prelude.{IsTrue, option_map, slice_index_or}
+use Rattle.std.proofs.lemmas.Bool.{eq-eqb, eqb-true, false≢true}
 use Rattle.wl_server.specs.declared.error.InsertClientError.{InsertClientError}
 use Rattle.wl_server.specs.declared.notes.Note.{Note}
 use Rattle.wl_server.specs.declared.runs.step.Reply.{Reply}
@@ -12,17 +12,76 @@ use Rattle.wl_server.specs.declared.runs.step.Step.{Step}
 use Rattle.wl_server.specs.declared.runs.step.Step.TheVariants as step
 use Rattle.wl_server.specs.Deeds.{Deed}
 use Rattle.wl_server.specs.Globals.{Offer}
-use Rattle.wl_server.specs.Ids.{ClientParts}
+use Rattle.wl_server.specs.Ids.{ClientParts, same_client, IdParts}
 use Rattle.wl_server.proofs.OverRuns.Alone.IsolationLaw.{same_self}
 use Rattle.wl_server.specs.Outcome.{SameReply, SharedSame}
-use Rattle.wl_server.proofs.OverRuns.Outcome.OutcomeLaws.{same_reply}
-use Rattle.wl_server.specs.PartStep.{Asked, PartStep, World}
+use Rattle.wl_server.proofs.OverRuns.Outcome.PartOutcome.{Ample, same_reply}
+use Rattle.wl_server.specs.PartStep.{Asked, PartStep, World, share_of}
 use Rattle.wl_server.specs.Runs.{is_about}
-use Rattle.wl_server.specs.Part.{Part}
+use Rattle.wl_server.specs.Part.{Part, named}
 use Rattle.wl_server.specs.Server.{Seen, ServerState, Stored, if_serial, seen, stored_at}
-use Rattle.wl_server.proofs.OverRuns.Outcome.ShareLaws.{shares_one}
-use Rattle.wl_server.specs.Steps.{Entry, InsertsNext, IsLeastFree, IsRefused, RisesBySlot, lacks_growth}
+use Rattle.wl_server.specs.Steps.{Entry, InsertsNext, IsLeastFree, IsRefused, RisesBySlot, lacks_growth, RiseBySlot}
 use Rattle.wl_server.specs.Outcome.Whole.{HoldsSame, WholeReply}
+use Rattle.wl_server.proofs.CallSteps.Slots.{same_parts}
+use Rattle.wl_server.specs.Lookups.{and_then, client_of, id_if_stored, live_from, object_of}
+
+-- ---- what a cleanup hands out, by the share that each client has in it
+
+pub same_client_is : (a b : ClientParts) → same_client a b ≡ true → a ≡ b
+same_client_is a b same = same_parts a b (grind (arith, eqb-true, true≢false)) (grind (arith, eqb-true, false≢true))
+
+-- the slots rise, from this one on
+abbrev RiseFrom : {T : Type 0} → ℕ → List (ClientParts × T) → Type 0
+RiseFrom low [] = Unit {0}
+RiseFrom low (e ∷ rest) = (low ≤ e.0.slot) × RiseFrom (e.0.slot + 1) rest
+
+module _ {T : Type 0} where
+  rise_from : (low : ℕ) (out : List (ClientParts × T)) → RiseBySlot out
+      → ((j : ℕ) (d : ClientParts × T) → j < length out → low ≤ (slice_index_or out j d).0.slot) → RiseFrom low out
+  rise_from low [] rises above = tt
+  rise_from low (e ∷ rest) rises above = (
+    above 0 e (omega arith),
+    rise_from (e.0.slot + 1) rest (λ i j d less within. rises (suc i) (suc j) d (omega (arith, less)) (omega (arith, within)))
+        (λ j d within. let up = rises 0 (suc j) d (omega arith) (omega (arith, within)) in omega (arith, up)),
+  )
+
+  -- a client that has a share stands no lower
+  shared_above : (low : ℕ) (id : ClientParts) (out : List (ClientParts × T)) (t : T) (ts : List T) → RiseFrom low out → share_of id out ≡ t ∷ ts → low ≤ id.slot
+  shared_above low id [] t ts rises is = absurd cc
+  shared_above low id (e ∷ rest) t ts (first, rises) is = grind (arith, eqb-true, shared_above (e.0.slot + 1) id rest t ts rises)
+
+  own_share : (e : ClientParts × T) (rest : List (ClientParts × T)) → share_of e.0 (e ∷ rest) ≡ e.1 ∷ share_of e.0 rest
+  own_share e rest = rw (same_self e.0) refl
+
+  one_from : (low low' : ℕ) (out out' : List (ClientParts × T)) → RiseFrom low out → RiseFrom low' out' → ((id : ClientParts) → share_of id out ≡ share_of id out')
+      → out ≡ out'
+  one_from low low' [] [] up up' shares = refl
+  one_from low low' [] (f ∷ rest') up up' shares = absurd (grind (arith, shares f.0, own_share f rest'))
+  one_from low low' (e ∷ rest) [] up up' shares = absurd (grind (arith, shares e.0, own_share e rest))
+  one_from low low' (e ∷ rest) (f ∷ rest') (first, up) (first', up') shares = grind (arith, own_share, same, one_from (e.0.slot + 1) (f.0.slot + 1) rest rest' up up' later)
+    where
+      e_there : share_of e.0 (f ∷ rest') ≡ e.1 ∷ share_of e.0 rest
+      e_there = sym (shares e.0) ∙ own_share e rest
+
+      f_there : share_of f.0 (e ∷ rest) ≡ f.1 ∷ share_of f.0 rest'
+      f_there = shares f.0 ∙ own_share f rest'
+
+      ids : f.0 ≡ e.0
+      ids =
+          let up_e = shared_above f.0.slot e.0 (f ∷ rest') e.1 (share_of e.0 rest) (omega arith, up') e_there in
+          let up_f = shared_above e.0.slot f.0 (e ∷ rest) f.1 (share_of f.0 rest') (omega arith, up) f_there in
+          grind (arith, same_client_is, shared_above (f.0.slot + 1) e.0 rest' e.1 (share_of e.0 rest) up', e_there)
+
+      same : e ≡ f
+      same = grind (arith, ids, e_there, own_share f rest')
+
+      later : (id : ClientParts) → share_of id rest ≡ share_of id rest'
+      later id = grind (arith, same, shares id)
+
+  -- the shares determine the list
+  pub shares_one : (out out' : List (ClientParts × T)) → RiseBySlot out → RiseBySlot out' → ((id : ClientParts) → share_of id out ≡ share_of id out') → out ≡ out'
+  shares_one out out' rises rises' shares =
+      one_from 0 0 out out' (rise_from 0 out rises (λ j d within. omega arith)) (rise_from 0 out' rises' (λ j d within. omega arith)) shares
 
 -- ---- slots
 
@@ -76,14 +135,13 @@ module _ {T U : Type 0} where
   same_whole ordered p q p' q' is is' same = subst (λ r. WholeReply ordered r q) (sym is) (subst (λ r. WholeReply ordered p' r) (sym is') same)
 
 module _ {T U G C : Type 0} (ordered : Bool) (w : World T G C) (any : ClientParts) (offer : Offer G) (before : Seen T U C) (d e : List (Deed U)) (x y : Seen T U C) where
-  abbrev Ample : Step T U G C → Reply T U → Type 0
-  Ample s answer = lacks_growth (Asked s answer) ≡ false
-
   abbrev Rises : Step T U G C → Reply T U → Type 0
   Rises s answer = RisesBySlot (Asked s answer)
 
-  cleanup_one : (r r' : _) → Ample step.Cleanup (reply.Cleanup r) → Ample step.Cleanup (reply.Cleanup r') → Rises step.Cleanup (reply.Cleanup r) → Rises step.Cleanup (reply.Cleanup r')
-      → ((id : ClientParts) → SameReply {T = T} {U = U} id (reply.Cleanup r) (reply.Cleanup r')) → WholeReply {T = T} {U = U} ordered (reply.Cleanup r) (reply.Cleanup r')
+  cleanup_one : (r r' : _) → Ample {T = T} {U = U} {G = G} {C = C} step.Cleanup (reply.Cleanup r) → Ample {T = T} {U = U} {G = G} {C = C} step.Cleanup (reply.Cleanup r')
+      → Rises step.Cleanup (reply.Cleanup r) → Rises step.Cleanup (reply.Cleanup r')
+      → ((id : ClientParts) → SameReply {T = T} {U = U} id (reply.Cleanup r) (reply.Cleanup r'))
+      → WholeReply {T = T} {U = U} ordered (reply.Cleanup r) (reply.Cleanup r')
   cleanup_one (Err f) r' ample ample' rises rises' same = absurd (true≢false ample)
   cleanup_one (Ok out) (Err f) ample ample' rises rises' same = absurd (true≢false ample')
   cleanup_one (Ok out) (Ok out') ample ample' rises rises' same = shares_one out.items out'.items rises rises' same
@@ -113,3 +171,19 @@ module _ {T U G C : Type 0} (ordered : Bool) (w : World T G C) (any : ClientPart
   whole_one (step.AcceptFault target f) p q one _ _ _ _ _ _ h g = grind (arith, same_whole, same_reply, one target (same_self target))
   whole_one (step.TakeSent target) p q one _ _ _ _ _ _ h g = grind (arith, same_whole, same_reply, one target (same_self target))
   whole_one s p q one shared _ _ _ _ _ h g = grind (arith, same_whole, same_reply)
+
+-- ---- look-ups
+
+-- the live clients by slot, of lists that tell the same in each slot
+pub live_one : {T U C : Type 0} (slot : ℕ) (xs ys : List (Option (Stored T U C))) → SameSlots xs ys → live_from slot xs ≡ live_from slot ys
+live_one slot [] [] same = refl
+live_one slot [] (y ∷ ys) same = grind (arith, same 0, id_if_stored, live_one (slot + 1) [] ys (λ k. same (suc k)))
+live_one slot (x ∷ xs) [] same = grind (arith, same 0, id_if_stored, live_one (slot + 1) xs [] (λ k. same (suc k)))
+live_one slot (x ∷ xs) (y ∷ ys) same = grind (arith, same 0, id_if_stored, live_one (slot + 1) xs ys (λ k. same (suc k)))
+
+module _ {T U G C : Type 0} (s t : ServerState T U G C) (same : HoldsSame s t) where
+  pub client_one : (id : ClientParts) → client_of s id ≡ client_of t id
+  client_one id = ap (λ (z : Seen T U C). z.part) (same.each id)
+
+  pub object_one : (id : IdParts) → object_of s id ≡ object_of t id
+  object_one id = ap (λ (c : Option (Part T U C)). and_then c (λ p. named p.store id)) (client_one id.client)

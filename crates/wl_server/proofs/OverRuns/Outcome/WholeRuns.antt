@@ -11,9 +11,9 @@ use Rattle.wl_server.specs.Deeds.{Deed}
 use Rattle.wl_server.specs.Globals.{Offer, with_table}
 use Rattle.wl_server.specs.Ids.{ClientParts}
 use Rattle.wl_server.proofs.OverRuns.Outcome.NumberLaws.{inserts_next_one}
-use Rattle.wl_server.proofs.OverRuns.Outcome.Determined.{IsDetermined}
+use Rattle.wl_server.proofs.OverRuns.Outcome.MoveLaws.{IsDetermined}
 use Rattle.wl_server.specs.Outcome.{SameAnswer, SameCall, SameOutcome, SharedAnswer, SharedSame}
-use Rattle.wl_server.proofs.OverRuns.Outcome.OutcomeLaws.{call_one, part_as}
+use Rattle.wl_server.proofs.OverRuns.Outcome.PartOutcome.{Ample, call_one, part_as}
 use Rattle.wl_server.specs.PartStep.{Asked, Call, Changed, Grown, PartCall, PartStep, World}
 use Rattle.wl_server.proofs.OverRuns.Outcome.OfferLaws.{growth_same, offer_one, shared_same}
 use Rattle.wl_server.specs.Runs.{concerns}
@@ -34,9 +34,6 @@ module _ {T U G C : Type 0} where
 
   module _ (w : World T G C) (known : IsDetermined w) (ordered : Bool) (s t : ServerState T U G C) (same_server : HoldsSame s t)
       (any : ClientParts) (d e : List (Deed U)) (x y : Seen T U C) where
-    abbrev Ample : Step T U G C → Reply T U → Type 0
-    Ample step answer = lacks_growth (Asked step answer) ≡ false
-
     -- what is shared determines the answers that tell it
     whole_shared : (k : Step T U G C) (p q : Reply T U) → Ample k p → Ample k q → NumbersClient s (Asked k p) → NumbersClient t (Asked k q)
         → AnswersShared s.offer (Asked k p) → AnswersShared s.offer (Asked k q) → PartStep w any s.offer k p (seen any s) false d x

@@ -1,4 +1,4 @@
-use Rattle.wl_server.proofs.OverRuns.Cut.CuttingLaws.{histories_cut}
+use Rattle.wl_server.proofs.OverRuns.Cut.CuttingLaws.{histories_cut, holds_at, run_holds}
 use Rattle.wl_server.specs.PartStep.{over, around}
 use Rattle.wl_server.proofs.laws.cutting_does_not_matter_to_a_client.Goals as goal
 use Rattle.wl_link.proofs.Readings.CuttingLaws.{finish_law, reading_law}
@@ -9,7 +9,6 @@ use Rattle.wl_server.specs.Reading.{server}
 use Rattle.std.proofs.Common.{arith}
 use Rattle.wl_server.proofs.OverRuns.Alone.IsolationLaw.{is_isolated}
 use Rattle.wl_server.proofs.OverRuns.Alone.OwnRuns.{are_mine}
-use Rattle.wl_server.proofs.OverRuns.Cut.BufferLaws.{holds_at, run_holds}
 use Rattle.wl_server.specs.Globals.{new_offer}
 use Rattle.wl_server.specs.Runs.{just_inserted, mine, offer_over}
 use Rattle.wl_server.specs.Server.{seen}

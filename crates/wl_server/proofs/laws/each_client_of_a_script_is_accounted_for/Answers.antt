@@ -4,9 +4,10 @@ use Rattle.wl_server.proofs.laws.each_client_of_a_script_is_accounted_for.Goals 
 use Rattle.wl_server.proofs.OverRuns.Alone.IsolationLaw.{performed}
 use Rattle.wl_server.specs.Server.{new_server}
 
-pub returns-clause-history : goal.returns-clause-history
-returns-clause-history g c = λ table run after leads. is_accounted_for _ (record { law = script_within_offer }) table run after leads
-
-pub returns-clause-steps : goal.returns-clause-steps
-returns-clause-steps g c = λ table steps after performs. (let (run, are, leads) = performed _ (new_server table) after steps performs in
-    (run, are, leads, is_accounted_for _ (record { law = script_within_offer }) table run after leads))
+pub returns : goal.returns
+returns g c = record {
+  history = is_accounted_for _ (record { law = script_within_offer });
+  steps = λ table steps after performs.
+      let (run, are, leads) = performed _ (new_server table) after steps performs in
+      (run, are, leads, is_accounted_for _ (record { law = script_within_offer }) table run after leads);
+}

@@ -17,9 +17,9 @@ lacked T U G C rows r refused is = sym is
 pub returns-clause-call : goal.returns-clause-call
 returns-clause-call g c = rw (← c.self.view_is, c.extend-answer.ensures.table)
     (is_growth _ _ _ _ _ (makes_unfelt _ _ _ (record { last = refl; client = λ b. tt; order = tt; room = λ b. tt; notes = λ b a h. h })
-    c.lacks_memory-self-inside.result _ refl c.extend-answer.ensures.answer
-    (lacked g.row.T.Denot g.row.U.Denot g.row.G.Denot g.row.C.Denot (interface_rows c.args.interfaces.items) c.extend-answer.result _ c.lacks_memory-self-inside.ensures)
-    (λ id b. (refl, refl, refl)) c.self.invariant.2))
+    c.lacks_memory-self-inside.result _ refl c.extend-answer.ensures.answer (lacked g.row.T.Denot g.row.U.Denot g.row.G.Denot g.row.C.Denot
+    (interface_rows c.args.interfaces.items) c.extend-answer.result _ c.lacks_memory-self-inside.ensures) (λ id b. (refl, refl, refl))
+    c.self.invariant.2))
 
 pub returns-clause-answer : goal.returns-clause-answer
 returns-clause-answer g c = rw (← c.self.view_is) c.extend-answer.ensures.answer

@@ -4,7 +4,7 @@ use Rattle.wl_server.proofs.CallSteps.Kept.{with_plain}
 use Rattle.wl_server.proofs.CallSteps.Numbering.{numbers_left, waiting_anew}
 use Rattle.wl_server.proofs.CleanupSteps.CleaningUp.{cleaned_up, cleanup_starved}
 use Rattle.wl_server.proofs.CleanupSteps.Taken.{none_taken}
-use Rattle.wl_server.proofs.Plain.Cleanup.{cleans_up}
+use Rattle.wl_server.proofs.Plain.Clients.{cleans_up}
 use Rattle.wl_server.proofs.Touched.Gathered.{quiet_cleaned, sent_cleaned}
 use Rattle.wl_server.proofs.backend.Backend.cleanup.Goals as goal
 
@@ -17,19 +17,21 @@ memory_for-requires-clause-quiet g c = rw c.deref.ensures.value c.self.invariant
 pub returns-in-Ok : goal.returns-in-Ok
 returns-in-Ok g c =
     let all = c.clean_up-self-inside.ensures in
-    with_plain (cleans_up _) (rw (← c.self.view_is)
-    (cleaned_up _ _ _ _ _ c.clean_up-self-inside.new.memory.given _ refl (rw c.memory_for.ensures.items at all.cleaned) c.clean_up-self-inside.new.numbers
-    all.first all.none_waits (all.numbered c.self.invariant.2) all.numbers))
+    with_plain (cleans_up _) (rw (← c.self.view_is) (cleaned_up _ _ _ _ _ c.clean_up-self-inside.new.memory.given _ refl
+    (rw c.memory_for.ensures.items at all.cleaned) c.clean_up-self-inside.new.numbers all.first all.none_waits (all.numbered c.self.invariant.2)
+    all.numbers))
 
 pub returns-in-Err : goal.returns-in-Err
 returns-in-Err g c = with_plain (cleans_up _) (rw (← c.self.view_is)
-    (cleanup_starved _ _ _ c.memory_for.new.notes.items c.memory_for.ensures.items (rw c.deref.ensures.value at c.in-Err.ensures.some) c.self.invariant.2))
+    (cleanup_starved _ _ _ c.memory_for.new.notes.items c.memory_for.ensures.items (rw c.deref.ensures.value at c.in-Err.ensures.some)
+    c.self.invariant.2))
 
 pub invariant_of-self : goal.invariant_of-self
 invariant_of-self g c =
     let all = c.clean_up-self-inside.ensures in
     let by = all.cleaned in
-    let same = ap length by.stay ∙ (length-map by.left _ ∙ (sym (length-map by.left _) ∙ (ap length by.gathers.rest ∙ (length-map by.flushed _ ∙ by.flushes.len)))) in
+    let same = ap length by.stay ∙ (length-map by.left _ ∙ (sym (length-map by.left _) ∙ (ap length by.gathers.rest ∙ (length-map by.flushed _
+    ∙ by.flushes.len)))) in
     let within = c.self.invariant.0.within in (
       record { within = omega (arith, same, c.self.inside.clients.ok.0, c.clean_up-self-inside.new.clients.ok.0, within); taken = none_taken _ },
       rw all.numbers (waiting_anew _ _ all.none_waits (numbers_left _ _ _ all.first c.self.invariant.1)),
@@ -42,4 +44,5 @@ invariant_of-self g c =
 
 pub invariant_of-self-in-Err : goal.invariant_of-self-in-Err
 invariant_of-self-in-Err g c =
-    (c.self.invariant.0, c.self.invariant.1, c.self.invariant.2, record { sent = c.self.invariant.3.sent; quiet = rw c.deref.ensures.value at c.memory_for.ensures.quiet })
+    let quiet = rw c.deref.ensures.value at c.memory_for.ensures.quiet in
+    (c.self.invariant.0, c.self.invariant.1, c.self.invariant.2, record { sent = c.self.invariant.3.sent; quiet = quiet })

@@ -1,12 +1,13 @@
 use Rattle.std.proofs.Common.{refl}
 use Rattle.wl_server.proofs.CallSteps.Kept.{kept_written, with_plain}
 use Rattle.wl_server.proofs.CallSteps.OneClient.{done_to, none_stored}
-use Rattle.wl_server.proofs.Plain.Destruction.{destroys_object}
+use Rattle.wl_server.proofs.Plain.Objects.{destroys_object}
 use Rattle.wl_server.proofs.backend.Backend.destroy_object.Goals as goal
 
 pub returns-in_default : goal.returns-in_default
 returns-in_default g c = with_plain (destroys_object _ _) (rw (← c.self.view_is)
-    (none_stored _ _ _ _ refl c.args.id.now.client _ _ (λ i l d b a h. (_, refl, h)) _ c.client-client.ensures c.in_default.ensures.value refl c.self.invariant.2))
+    (none_stored _ _ _ _ refl c.args.id.now.client _ _ (λ i l d b a h. (_, refl, h)) _ c.client-client.ensures c.in_default.ensures.value refl
+    c.self.invariant.2))
 
 pub returns : goal.returns
 returns g c = with_plain (destroys_object _ _) (rw (← c.self.view_is, c.lacks_memory-self-inside.ensures)

@@ -1,11 +1,10 @@
 use Rattle.std.proofs.Common.{false, refl, ap}
+use Rattle.wl_server.proofs.CallSteps.Numbering.{in_time_same}
+use Rattle.wl_server.proofs.OverRuns.Cut.CuttingLaws.{histories_cut}
+use Rattle.wl_server.proofs.CallSteps.OneClient.{done_to, none_stored}
+use Rattle.wl_server.proofs.Plain.Actions.{ends_bind, bind_returns}
 use Rattle.wl_server.specs.Server.{Stored}
 use Rattle.wl_server.proofs.CallSteps.Kept.{kept_written, with_data}
-use Rattle.wl_server.proofs.CallSteps.Numbering.{in_time_same}
-use Rattle.wl_server.proofs.CallSteps.OneClient.{done_to, none_stored}
-use Rattle.wl_server.proofs.OverRuns.Cut.CuttingLaws.{histories_cut}
-use Rattle.wl_server.proofs.Plain.Finishing.{ends_bind}
-use Rattle.wl_server.proofs.Plain.Returning.{bind_returns}
 use Rattle.wl_server.proofs.backend.Backend.finish_bind_returning.Goals as goal
 
 pub returns-in_default : goal.returns-in_default
@@ -14,12 +13,11 @@ returns-in_default g c = with_data (ends_bind _ _ _) (λ call. (call.step, histo
 
 pub returns : goal.returns
 returns g c = rw (← c.self.view_is)
-    (with_data (ends_bind _ _ _) (λ call. (call.step, histories_cut _ _ _ _))
-    (bind_returns _ _ c.args.client.now c.in-Some.stored.now c.finish_bind.new.self c.in-Some.ensures.value
-    (ap (λ (s : Stored _ _ _). s.serial) c.finish_bind.ensures.done.3) refl
-    c.args.user_data c.finish_bind.result c.finish_bind.ensures.back)
-    (done_to _ _ _ _ refl c.args.client.now _ _ (λ i l d b a h. (_, refl, h)) _ c.in-Some.stored.now c.finish_bind.new.self false refl c.in-Some.ensures.value
-    c.finish_bind.ensures.done _ (in_time_same _ _ _ _ c.finish_bind.ensures.times refl) c.finish_bind.ensures.numbered c.self.invariant.2))
+    (with_data (ends_bind _ _ _) (λ call. (call.step, histories_cut _ _ _ _)) (bind_returns _ _ c.args.client.now c.in-Some.stored.now
+    c.finish_bind.new.self c.in-Some.ensures.value (ap (λ (s : Stored _ _ _). s.serial) c.finish_bind.ensures.done.3) refl c.args.user_data
+    c.finish_bind.result c.finish_bind.ensures.back) (done_to _ _ _ _ refl c.args.client.now _ _ (λ i l d b a h. (_, refl, h)) _ c.in-Some.stored.now
+    c.finish_bind.new.self false refl c.in-Some.ensures.value c.finish_bind.ensures.done _ (in_time_same _ _ _ _ c.finish_bind.ensures.times refl)
+    c.finish_bind.ensures.numbered c.self.invariant.2))
 
 pub invariant_of-self : goal.invariant_of-self
 invariant_of-self g c = (c.self.invariant.0, c.self.invariant.1, c.self.invariant.2, c.in_default.ensures.touched c.self.invariant.3)

@@ -1,10 +1,9 @@
 use Rattle.std.proofs.Common.{refl, ap}
+use Rattle.wl_server.proofs.OverRuns.Cut.CuttingLaws.{histories_cut}
+use Rattle.wl_server.proofs.CallSteps.OneClient.{done_to, none_stored}
+use Rattle.wl_server.proofs.Plain.Actions.{ends_open_request, request_returns}
 use Rattle.wl_server.specs.Server.{Stored}
 use Rattle.wl_server.proofs.CallSteps.Kept.{kept_written, with_data}
-use Rattle.wl_server.proofs.CallSteps.OneClient.{done_to, none_stored}
-use Rattle.wl_server.proofs.OverRuns.Cut.CuttingLaws.{histories_cut}
-use Rattle.wl_server.proofs.Plain.Requests.{ends_open_request}
-use Rattle.wl_server.proofs.Plain.Returning.{request_returns}
 use Rattle.wl_server.proofs.backend.Backend.finish_request_returning.Goals as goal
 
 pub returns-in_default : goal.returns-in_default
@@ -15,10 +14,10 @@ pub returns : goal.returns
 returns g c = rw (← c.self.view_is, c.lacks_memory-self-inside.ensures)
     (with_data (ends_open_request _ _ _ _ _ _) (λ call. (call.step, histories_cut _ _ _ _))
     (request_returns _ _ c.args.client.now c.in-Some.stored.now c.finish_request-answer.new.self c.in-Some.ensures.value
-    (ap (λ (s : Stored _ _ _). s.serial) c.finish_request-answer.ensures.done.3) refl
-    c.args.user_data c.finish_request-answer.result c.finish_request-answer.ensures.back)
-    (done_to _ _ _ _ refl c.args.client.now _ _ (λ i l d b a h. (_, refl, h)) _ c.in-Some.stored.now c.finish_request-answer.new.self _ refl c.in-Some.ensures.value
-    c.finish_request-answer.ensures.done _ c.finish_request-answer.ensures.in_time c.finish_request-answer.ensures.numbered c.self.invariant.2))
+    (ap (λ (s : Stored _ _ _). s.serial) c.finish_request-answer.ensures.done.3) refl c.args.user_data c.finish_request-answer.result
+    c.finish_request-answer.ensures.back) (done_to _ _ _ _ refl c.args.client.now _ _ (λ i l d b a h. (_, refl, h)) _ c.in-Some.stored.now
+    c.finish_request-answer.new.self _ refl c.in-Some.ensures.value c.finish_request-answer.ensures.done _ c.finish_request-answer.ensures.in_time
+    c.finish_request-answer.ensures.numbered c.self.invariant.2))
 
 pub invariant_of-self : goal.invariant_of-self
 invariant_of-self g c = (c.self.invariant.0, c.self.invariant.1, c.self.invariant.2, c.in_default.ensures.touched c.self.invariant.3)

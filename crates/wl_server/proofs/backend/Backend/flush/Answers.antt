@@ -3,7 +3,7 @@ use Rattle.wl_server.proofs.CallSteps.Feeling.{felt_call}
 use Rattle.wl_server.proofs.CallSteps.Kept.{kept_felt, kept_written, with_plain}
 use Rattle.wl_server.proofs.CallSteps.Numbering.{all_same, in_time_same}
 use Rattle.wl_server.proofs.CallSteps.OneClient.{done_to, none_stored}
-use Rattle.wl_server.proofs.Plain.Sending.{flushes_clients}
+use Rattle.wl_server.proofs.Plain.Clients.{flushes_clients}
 use Rattle.wl_server.proofs.backend.Backend.flush.Goals as goal
 
 pub returns-in_default : goal.returns-in_default
@@ -24,8 +24,9 @@ returns-in_default-stored_mut g c = with_plain (flushes_clients _ _) (rw (← c.
 
 pub returns : goal.returns
 returns g c = with_plain (flushes_clients _ _) (rw (← c.self.view_is, c.in-Some.is, c.is_out_of_memory-self-inside.ensures)
-    (done_to _ _ _ _ refl c.in-Some.id _ _ (λ i l d b a h. (_, refl, h)) _ c.in-Some-stored_mut.client.now c.flush-answer.new.self _ refl c.in-Some-stored_mut.ensures.value
-    c.flush-answer.ensures.flushed _ (in_time_same _ _ _ _ c.flush-answer.ensures.times refl) c.flush-answer.ensures.numbered c.self.invariant.2))
+    (done_to _ _ _ _ refl c.in-Some.id _ _ (λ i l d b a h. (_, refl, h)) _ c.in-Some-stored_mut.client.now c.flush-answer.new.self _ refl
+    c.in-Some-stored_mut.ensures.value c.flush-answer.ensures.flushed _ (in_time_same _ _ _ _ c.flush-answer.ensures.times refl)
+    c.flush-answer.ensures.numbered c.self.invariant.2))
 
 pub invariant_of-self-in_default-stored_mut : goal.invariant_of-self-in_default-stored_mut
 invariant_of-self-in_default-stored_mut g c = (c.self.invariant.0, c.self.invariant.1, c.self.invariant.2, c.in_default-stored_mut.ensures.touched c.self.invariant.3)

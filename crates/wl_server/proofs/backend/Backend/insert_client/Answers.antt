@@ -1,7 +1,7 @@
 use Rattle.wl_server.proofs.CallSteps.Kept.{with_plain}
 use Rattle.wl_server.proofs.ObjectCalls.Inserting.{inserted, insertion_starved, least_within, not_inserted}
 use Rattle.wl_server.proofs.CleanupSteps.Taken.{taken_put}
-use Rattle.wl_server.proofs.Plain.Insertion.{inserts_client}
+use Rattle.wl_server.proofs.Plain.Clients.{inserts_client}
 use Rattle.wl_server.proofs.backend.Backend.insert_client.Goals as goal
 
 pub returns-in_default : goal.returns-in_default
@@ -28,7 +28,11 @@ returns-in-Err g c =
 pub invariant_of-self-in-Ok : goal.invariant_of-self-in-Ok
 invariant_of-self-in-Ok g c =
     let (s, is, put) = c.in-Ok.ensures.put in (
-      record { within = c.put_new.ensures.slots c.self.invariant.0.within; taken = rw c.slot.ensures (taken_put _ _ _ s c.in-Some.ensures.next.0 put) },
+      record {
+        within = c.put_new.ensures.slots c.self.invariant.0.within;
+        taken = rw c.slot.ensures (taken_put _ _ _ s
+            c.in-Some.ensures.next.0 put);
+      },
       (c.put_new.ensures.in_time c.in-Some.ensures.next.0.free).1.keeps c.self.invariant.1,
       c.put_new.ensures.numbered c.self.invariant.2,
       c.put_new.ensures.touched c.self.invariant.3,

@@ -8,7 +8,8 @@ returns-then-self g c = rw (← c.self.view_is) (record { next = inr c.if-self.t
 
 pub returns-clause-given : goal.returns-clause-given
 returns-clause-given g c =
-    rw (← c.self.view_is, c.from_parts.ensures) (client_is_as_told _ _ (Some _) (rw c.deref.ensures.value at c.in_ok-slot.ensures, omega (arith, c.if-self.false), refl))
+    rw (← c.self.view_is, c.from_parts.ensures) (client_is_as_told _ _ (Some _)
+    (rw c.deref.ensures.value at c.in_ok-slot.ensures, omega (arith, c.if-self.false), refl))
 
 pub returns-in_err-slot-clause-given : goal.returns-in_err-slot-clause-given
 returns-in_err-slot-clause-given g c = grind (arith, stored_at, client_is_as_told)

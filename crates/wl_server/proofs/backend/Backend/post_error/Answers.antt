@@ -6,7 +6,7 @@ use Rattle.wl_server.specs.Posted.{PostsOn}
 use Rattle.wl_server.proofs.CallSteps.Kept.{kept_written}
 use Rattle.wl_server.proofs.CallSteps.OneClient.{done_to, none_stored}
 use Rattle.wl_server.proofs.ObjectCalls.Told.{at_slot}
-use Rattle.wl_server.proofs.Plain.Errors.{kills_for_error}
+use Rattle.wl_server.proofs.Plain.Clients.{kills_for_error}
 use Rattle.wl_server.proofs.backend.Backend.post_error.Goals as goal
 
 exactly_too : {A B E : Type 0} → (A → B) → E → A → record { call : A; plain : B; exactly : E }
@@ -18,15 +18,13 @@ returns-in_default g c = exactly_too (kills_for_error _ _ _) (grind (arith, comm
 
 pub returns : goal.returns
 returns g c = exactly_too (kills_for_error _ _ _)
-    (rw (← c.self.view_is)
-    (at_slot (λ p q. PostsOn g.T.Transport.sends p c.args.id.now c.args.code c.args.text c.post_error-self-inside.result q) c.self.inside.clients.items c.args.id.now.client
-    _ c.in-Some.client.now c.post_error-self-inside.new.self
+    (rw (← c.self.view_is) (at_slot (λ p q. PostsOn g.T.Transport.sends p c.args.id.now c.args.code c.args.text c.post_error-self-inside.result q)
+    c.self.inside.clients.items c.args.id.now.client _ c.in-Some.client.now c.post_error-self-inside.new.self
     (λ p did q. PostsError g.T.Transport.sends c.self.inside.protocol p c.args.id.now c.args.code c.args.text c.post_error-self-inside.result did q)
     c.client-client.ensures c.in-Some.ensures.value c.post_error-self-inside.ensures.does c.post_error-self-inside.ensures.exactly))
-    (rw (← c.self.view_is)
-    (done_to _ _ _ _ refl c.args.id.now.client _ _ (λ i l d b a h. (refl, h)) _ c.in-Some.client.now c.post_error-self-inside.new.self c.post_error-self-inside.result
-    c.client-client.ensures c.in-Some.ensures.value c.post_error-self-inside.ensures.does
-    _ c.post_error-self-inside.ensures.in_time c.post_error-self-inside.ensures.numbered c.self.invariant.2))
+    (rw (← c.self.view_is) (done_to _ _ _ _ refl c.args.id.now.client _ _ (λ i l d b a h. (refl, h)) _ c.in-Some.client.now
+    c.post_error-self-inside.new.self c.post_error-self-inside.result c.client-client.ensures c.in-Some.ensures.value
+    c.post_error-self-inside.ensures.does _ c.post_error-self-inside.ensures.in_time c.post_error-self-inside.ensures.numbered c.self.invariant.2))
 
 pub invariant_of-self : goal.invariant_of-self
 invariant_of-self g c = (c.self.invariant.0, c.self.invariant.1, c.self.invariant.2, c.in_default.ensures.touched c.self.invariant.3)

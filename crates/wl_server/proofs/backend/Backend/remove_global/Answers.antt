@@ -10,11 +10,11 @@ use Rattle.wl_server.proofs.backend.Backend.remove_global.Goals as goal
 pub returns-then-was_enabled : goal.returns-then-was_enabled
 returns-then-was_enabled g c =
     let told = rw c.deref_mut.ensures.value at c.tell_loss-self-inside.ensures in
-    with_plain (removes_global _) (rw (← c.self.view_is, with_items_is c.self.inside.clients c.tell_loss-self-inside.new.clients (told.felt.len ∙ sym c.self.inside.clients.ok.0))
-    (felt_call _ _ _ _ (record { last = refl; client = λ b. tt; order = tt; room = λ b. tt; notes = λ b a h. h }) _ c.tell_loss-self-inside.result _ _ _
-    (with_globals _ _ _ _ (c.remove.ensures c.self.inside.last_global)) tt refl
-    (λ i l d b a h. (refl, at_true _ _ (sym c.is_enabled-was_enabled.ensures ∙ c.if-was_enabled.true) h)) (rw c.name.ensures at told.felt) told.in_time
-    (told.numbered c.self.invariant.2)))
+    with_plain (removes_global _) (rw (← c.self.view_is, with_items_is c.self.inside.clients _ (told.felt.len ∙ sym c.self.inside.clients.ok.0))
+    (felt_call _ _ _ _ (record { last = refl; client = λ b. tt; order = tt; room = λ b. tt; notes = λ b a h. h }) _ c.tell_loss-self-inside.result _ _
+    _ (with_globals _ _ _ _ (c.remove.ensures c.self.inside.last_global)) tt refl
+    (λ i l d b a h. (refl, at_true _ _ (sym c.is_enabled-was_enabled.ensures ∙ c.if-was_enabled.true) h)) (rw c.name.ensures at told.felt)
+    told.in_time (told.numbered c.self.invariant.2)))
 
 pub returns-else-was_enabled : goal.returns-else-was_enabled
 returns-else-was_enabled g c = with_plain (removes_global _) (rw (← c.self.view_is)
@@ -25,6 +25,5 @@ returns-else-was_enabled g c = with_plain (removes_global _) (rw (← c.self.vie
 pub invariant_of-self : goal.invariant_of-self
 invariant_of-self g c =
     let told = rw c.deref_mut.ensures.value at c.tell_loss-self-inside.ensures in
-    rw (with_items_is c.self.inside.clients c.tell_loss-self-inside.new.clients (told.felt.len ∙ sym c.self.inside.clients.ok.0))
-    (kept_felt _ _ _ _ _ _ _ _ _ _ _ refl told.felt told.in_time told.numbered (λ are. all_touched _ _ c.insert_all.ensures.to_send c.insert_all.ensures.to_note)
-    c.self.invariant)
+    rw (with_items_is c.self.inside.clients _ (told.felt.len ∙ sym c.self.inside.clients.ok.0)) (kept_felt _ _ _ _ _ _ _ _ _ _ _ refl told.felt
+    told.in_time told.numbered (λ are. all_touched _ _ c.insert_all.ensures.to_send c.insert_all.ensures.to_note) c.self.invariant)

@@ -11,7 +11,8 @@ returns-in-Some g c = some_end _ _ c.args.id.now c.in-Some.fault c.loop-fault.in
 
 pub returns-then-reading-left : goal.returns-then-reading-left
 returns-then-reading-left g c =
-    some_rounds _ _ c.args.id.now (so_far_more _ _ c.args.id.now c.loop-fault.invariant.so_far c.serve_action.ensures c.in_default.is) c.if-reading-left.true
+    some_rounds _ _ c.args.id.now (so_far_more _ _ c.args.id.now c.loop-fault.invariant.so_far c.serve_action.ensures c.in_default.is)
+    c.if-reading-left.true
 
 pub loop-fault-preserved : goal.loop-fault-preserved
 loop-fault-preserved g c = grind (arith, common_steps, so_far_more)

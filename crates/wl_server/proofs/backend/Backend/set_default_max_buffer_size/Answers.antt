@@ -1,7 +1,7 @@
 use Rattle.std.proofs.Common.{refl}
 use Rattle.wl_server.proofs.CallSteps.Feeling.{unfelt_call}
 use Rattle.wl_server.proofs.CallSteps.Kept.{with_plain}
-use Rattle.wl_server.proofs.Plain.Insertion.{sets_default_limit}
+use Rattle.wl_server.proofs.Plain.Clients.{sets_default_limit}
 use Rattle.wl_server.proofs.backend.Backend.set_default_max_buffer_size.Goals as goal
 
 pub returns : goal.returns

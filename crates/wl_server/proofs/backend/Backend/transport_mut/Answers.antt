@@ -57,6 +57,7 @@ invariant_of-self-lent g c = λ w.
       numbered_at _ _ _ _ c.in-Some.ensures.value (λ is. is) c.self.invariant.2,
       record {
         sent = out_set HasSent _ _ _ _ _ here (λ sent. sent) c.self.invariant.3.sent;
-        quiet = out_set IsQuiet _ _ _ _ _ here (λ calm. record { live = calm.live; made = calm.made; waiting = calm.waiting; times = calm.times }) c.self.invariant.3.quiet;
+        quiet = out_set IsQuiet _ _ _ _ _ here (λ calm. record { live = calm.live; made = calm.made; waiting = calm.waiting; times = calm.times })
+            c.self.invariant.3.quiet;
       },
     )

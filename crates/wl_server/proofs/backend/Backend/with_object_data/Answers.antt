@@ -2,7 +2,7 @@ use Rattle.std.proofs.Common.{refl}
 use Rattle.wl_server.proofs.CallSteps.Kept.{kept_written, with_plain}
 use Rattle.wl_server.proofs.CallSteps.Numbering.{in_time_none}
 use Rattle.wl_server.proofs.ObjectCalls.LendingData.{lends_none, lends_stored}
-use Rattle.wl_server.proofs.Plain.Data.{sets_what_is_left}
+use Rattle.wl_server.proofs.Plain.Objects.{sets_what_is_left}
 use Rattle.wl_server.proofs.backend.Backend.with_object_data.Goals as goal
 
 pub invariant_of-self : goal.invariant_of-self
@@ -10,7 +10,8 @@ invariant_of-self g c = (c.self.invariant.0, c.self.invariant.1, c.self.invarian
 
 pub invariant_of-self-2 : goal.invariant_of-self-2
 invariant_of-self-2 g c =
-    kept_written _ _ _ _ _ _ _ _ _ _ (rw (← c.stored.view_is) at c.in-Some.ensures.value) (in_time_none _ _) (λ is. is) c.in-Some.ensures.touched c.self.invariant
+    kept_written _ _ _ _ _ _ _ _ _ _ (rw (← c.stored.view_is) at c.in-Some.ensures.value) (in_time_none _ _) (λ is. is) c.in-Some.ensures.touched
+    c.self.invariant
 
 pub returns-in_default : goal.returns-in_default
 returns-in_default g c = with_plain (sets_what_is_left _ _ _ c.args.id.now _ _)

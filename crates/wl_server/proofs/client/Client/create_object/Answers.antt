@@ -14,20 +14,23 @@ returns-then-is_none-clause-does g c =
 
 pub returns-in_default-clause-does : goal.returns-in_default-clause-does
 returns-in_default-clause-does g c = rw (← c.self.view_is)
-    (lacks_serial _ _ (record { serial = _; part = _; made = _; times = no_times }) c.args.interface _ _ (row_found _ _ _ _ c.get.ensures.interface c.is_none.ensures ∙ ap not c.if-is_none.false)
-    (search rules) c.in_default.ensures _ c.without_serial.ensures)
+    (lacks_serial _ _ (record { serial = _; part = _; made = _; times = no_times }) c.args.interface _ _ (row_found _ _ _ _ c.get.ensures.interface
+    c.is_none.ensures ∙ ap not c.if-is_none.false) (search rules) c.in_default.ensures _ c.without_serial.ensures)
 
 pub returns-in-Ok-clause-does : goal.returns-in-Ok-clause-does
 returns-in-Ok-clause-does g c = rw (← c.self.view_is, c.from_parts.ensures)
-    (created _ _ (record { serial = _; part = _; made = _; times = no_times }) c.args.interface _ _ (row_found _ _ _ _ c.get.ensures.interface c.is_none.ensures ∙ ap not c.if-is_none.false)
-    c.in-Some.ensures.0 c.in-Ok.number c.in-Some.serial _ _ c.in-Some.ensures.1 c.fresh_object-object.ensures c.in-Ok.ensures.inserts)
+    (created _ _ (record { serial = _; part = _; made = _; times = no_times }) c.args.interface _ _ (row_found _ _ _ _ c.get.ensures.interface
+    c.is_none.ensures ∙ ap not c.if-is_none.false) c.in-Some.ensures.0 c.in-Ok.number c.in-Some.serial _ _ c.in-Some.ensures.1
+    c.fresh_object-object.ensures c.in-Ok.ensures.inserts)
 
 pub returns-in-Err-IdsExhausted-clause-does : goal.returns-in-Err-IdsExhausted-clause-does
 returns-in-Err-IdsExhausted-clause-does g c = rw (← c.self.view_is)
-    (exhausted _ _ (record { serial = _; part = _; made = _; times = no_times }) c.args.interface _ _ (row_found _ _ _ _ c.get.ensures.interface c.is_none.ensures ∙ ap not c.if-is_none.false)
-    c.in-Some.ensures.0 _ c.fresh_object-object.result _ c.in-Err-IdsExhausted.field-0-is c.in-Err-IdsExhausted.ensures.inserts)
+    (exhausted _ _ (record { serial = _; part = _; made = _; times = no_times }) c.args.interface _ _ (row_found _ _ _ _ c.get.ensures.interface
+    c.is_none.ensures ∙ ap not c.if-is_none.false) c.in-Some.ensures.0 _ c.fresh_object-object.result _ c.in-Err-IdsExhausted.field-0-is
+    c.in-Err-IdsExhausted.ensures.inserts)
 
 pub returns-in-Err-OutOfMemory-clause-does : goal.returns-in-Err-OutOfMemory-clause-does
 returns-in-Err-OutOfMemory-clause-does g c = rw (← c.self.view_is)
-    (no_memory _ _ (record { serial = _; part = _; made = _; times = no_times }) c.args.interface _ _ (row_found _ _ _ _ c.get.ensures.interface c.is_none.ensures ∙ ap not c.if-is_none.false)
-    c.in-Some.ensures.0 _ c.fresh_object-object.result _ c.in-Err-OutOfMemory.field-0-is c.in-Err-OutOfMemory.ensures.inserts)
+    (no_memory _ _ (record { serial = _; part = _; made = _; times = no_times }) c.args.interface _ _ (row_found _ _ _ _ c.get.ensures.interface
+    c.is_none.ensures ∙ ap not c.if-is_none.false) c.in-Some.ensures.0 _ c.fresh_object-object.result _ c.in-Err-OutOfMemory.field-0-is
+    c.in-Err-OutOfMemory.ensures.inserts)

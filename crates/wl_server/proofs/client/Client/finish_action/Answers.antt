@@ -1,4 +1,4 @@
-use Rattle.wl_server.proofs.Plain.Returning.{given_held}
+use Rattle.wl_server.proofs.Plain.Actions.{given_held}
 use Rattle.wl_server.proofs.client.Client.finish_action.Goals as goal
 
 pub returns-in-Some-Some-clause-back : goal.returns-in-Some-Some-clause-back

@@ -15,8 +15,10 @@ returns-in_default-clause-done g c =
 pub returns-in-Bind-clause-done : goal.returns-in-Bind-clause-done
 returns-in-Bind-clause-done g c =
     is_open c.args.self.now c.args.user_data (λ a p answer refused did q. FinishesOpenBind p a c.args.user_data answer refused did q)
-    (opened.Bind c.in-Bind.object) (Ok tt) false c.finish_action.new.self (rw (← c.self.view_is) (sym c.get.ensures ∙ c.in-Some.is ∙ ap (λ a. Some a) c.in-Bind.is))
-    (rw c.finish_action.ensures.finished (does_quietly c.args.self.now (λ p did q. FinishesOpenBind p (opened.Bind c.in-Bind.object) c.args.user_data (Ok tt) false did q) (part_finished c.args.self.now.part (Some c.in-Bind.object) (Some c.args.user_data)) (refl, refl, refl, refl)))
+    (opened.Bind c.in-Bind.object) (Ok tt) false c.finish_action.new.self
+    (rw (← c.self.view_is) (sym c.get.ensures ∙ c.in-Some.is ∙ ap (λ a. Some a) c.in-Bind.is))
+    (rw c.finish_action.ensures.finished (does_quietly c.args.self.now (λ p did q. FinishesOpenBind p (opened.Bind c.in-Bind.object) c.args.user_data
+    (Ok tt) false did q) (part_finished c.args.self.now.part (Some c.in-Bind.object) (Some c.args.user_data)) (refl, refl, refl, refl)))
 
 pub returns-in-Request-clause-done : goal.returns-in-Request-clause-done
 returns-in-Request-clause-done g c =

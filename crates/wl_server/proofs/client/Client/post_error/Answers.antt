@@ -18,13 +18,13 @@ null_is false n h = ne_eqb n 0 (λ zero. false≢true (h.1 zero))
 
 pub returns-then-is_null-clause-does : goal.returns-then-is_null-clause-does
 returns-then-is_null-clause-does g c =
-    does_quietly c.args.self.now
-    (λ p did q. PostsError g.T.Transport.sends c.args.protocol.now p c.args.id.now c.args.code c.args.text false did q) c.args.self.now.part (rw (null_is true _ c.if-is_null.ensures) (refl, refl, refl))
+    does_quietly c.args.self.now (λ p did q. PostsError g.T.Transport.sends c.args.protocol.now p c.args.id.now c.args.code c.args.text false did q)
+    c.args.self.now.part (rw (null_is true _ c.if-is_null.ensures) (refl, refl, refl))
 
 pub returns-clause-does : goal.returns-clause-does
 returns-clause-does g c =
-    let (did, q, does, is) = tells_carried g.T.Transport.sends (posts c.args.protocol.now (core_of c.args.self.now.part) c.args.id.now c.args.code c.args.text)
-    c.args.self.now c.tell_error_and_kill.new.self c.tell_error_and_kill.result c.tell_error_and_kill.ensures.carried in
+    let (did, q, does, is) = tells_carried g.T.Transport.sends (posts c.args.protocol.now (core_of c.args.self.now.part) c.args.id.now c.args.code
+    c.args.text) c.args.self.now c.tell_error_and_kill.new.self c.tell_error_and_kill.result c.tell_error_and_kill.ensures.carried in
     (did, q, at_false _ _ (null_is false _ c.if-is_null.ensures) does, is)
 
 pub returns-then-is_null-clause-exactly : goal.returns-then-is_null-clause-exactly

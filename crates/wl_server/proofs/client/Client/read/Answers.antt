@@ -21,8 +21,8 @@ returns-in-Some-receive-clause-ends g c =
     let waited = c.in_default.ensures.waited in
     let left : c.handle_waiting.new.reading.turns_left ≡ suc (c.handle_waiting.new.reading.turns_left - 1) = omega (arith, c.if-reading-eq0.false) in
     let so = goes_goes _ _ _ _ _ _ _ _ _ c.loop-end.invariant.goes waited.0 in
-    goes_ends _ _ _ _ _ _ _ _ _ _ so
-    (fills_ends _ _ _ _ _ _ waited.0.live (goes_within _ _ _ _ _ _ _ so) waited.2 left refl c.in-Some-receive.end c.receive.new.self c.in-Some-receive.ensures.fills)
+    goes_ends _ _ _ _ _ _ _ _ _ _ so (fills_ends _ _ _ _ _ _ waited.0.live (goes_within _ _ _ _ _ _ _ so) waited.2 left refl c.in-Some-receive.end
+    c.receive.new.self c.in-Some-receive.ensures.fills)
 
 pub loop-end-preserved : goal.loop-end-preserved
 loop-end-preserved g c =
@@ -33,7 +33,8 @@ loop-end-preserved g c =
       place = c.handle_waiting.ensures.place;
       kept = c.in_default.ensures.kept ∙ c.loop-end.invariant.kept;
       goes = goes_goes _ _ _ _ _ _ _ _ _ so
-          (fills_goes _ _ _ _ _ _ waited.0.live (goes_within _ _ _ _ _ _ _ so) waited.2 left refl c.receive.new.self c.in_default-receive.ensures.fills);
+          (fills_goes _ _ _ _ _ _ waited.0.live (goes_within _ _ _ _ _ _ _ so) waited.2 left refl c.receive.new.self
+          c.in_default-receive.ensures.fills);
       in_time = in_time_both _ _ _ _ _ _ (in_time_both _ _ _ _ _ _ c.loop-end.invariant.in_time c.handle_waiting.ensures.in_time) c.receive.ensures.in_time;
       numbered = λ is. c.receive.ensures.numbered (c.handle_waiting.ensures.numbered (c.loop-end.invariant.numbered is));
     }

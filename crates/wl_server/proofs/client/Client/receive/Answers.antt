@@ -1,8 +1,8 @@
 use Rattle.std.proofs.Common.{refl}
-use Rattle.wl_wire.specs.declared.error.IoFault.TheVariants as fault
-use Rattle.wl_server.proofs.Readings.OneMessage.{fault_fills, fault_stays}
+use Rattle.wl_server.proofs.Readings.OneMessage.{fault_fills}
 use Rattle.wl_server.proofs.client.Client.receive.Goals as goal
 use Rattle.wl_server.specs.Server.{no_times}
+use Rattle.wl_server.proofs.Readings.Notes.{made_end}
 
 pub returns-in_default-clause-fills : goal.returns-in_default-clause-fills
 returns-in_default-clause-fills g c = rw (← c.self.view_is) (c.in_default.ensures.filled, c.fill_incoming_buffers.ensures.doubled, refl)
@@ -10,12 +10,14 @@ returns-in_default-clause-fills g c = rw (← c.self.view_is) (c.in_default.ensu
 pub returns-in-WouldBlock-clause-fills : goal.returns-in-WouldBlock-clause-fills
 returns-in-WouldBlock-clause-fills g c =
     rw (← c.self.view_is, c.in-WouldBlock.is)
-    (fault_stays g.T.Transport.receives (record { serial = _; part = _; made = _; times = no_times }) c.fill_incoming_buffers.new.self fault.WouldBlock refl (rw c.in-WouldBlock.is at c.in-Err.ensures.filled) c.fill_incoming_buffers.ensures.doubled)
+    (let filled = rw c.in-WouldBlock.is at c.in-Err.ensures.filled in
+    (c.fill_incoming_buffers.new.self, filled, c.fill_incoming_buffers.ensures.doubled, refl, made_end _ _ _))
 
 pub returns-in-OutOfMemory-clause-fills : goal.returns-in-OutOfMemory-clause-fills
 returns-in-OutOfMemory-clause-fills g c =
     rw (← c.self.view_is, c.in-OutOfMemory.is)
-    (fault_stays g.T.Transport.receives (record { serial = _; part = _; made = _; times = no_times }) c.fill_incoming_buffers.new.self fault.OutOfMemory refl (rw c.in-OutOfMemory.is at c.in-Err.ensures.filled) c.fill_incoming_buffers.ensures.doubled)
+    (let filled = rw c.in-OutOfMemory.is at c.in-Err.ensures.filled in
+    (c.fill_incoming_buffers.new.self, filled, c.fill_incoming_buffers.ensures.doubled, refl, made_end _ _ _))
 
 pub returns-in_default-fault-clause-fills : goal.returns-in_default-fault-clause-fills
 returns-in_default-fault-clause-fills g c =

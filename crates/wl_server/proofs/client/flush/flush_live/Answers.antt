@@ -1,4 +1,4 @@
-use Rattle.std.proofs.Common.{◌∙◌, ◌+◌, arith, length, refl, sym}
+use Rattle.std.proofs.Common.{◌∙◌, arith, refl, sym}
 use Rattle.std.specs.Prelude.{slice_set}
 use Rattle.std.proofs.lemmas.List.{length-set}
 use Rattle.std.proofs.lemmas.Option.{slice_get_read}
@@ -16,8 +16,7 @@ loop-slot-init g c =
     let ends = c.len-end.ensures ∙ c.args.clients.now.ok.0 in
     let next = c.next_from-slot.ensures in
     record {
-      felt = felt_on g.T.Transport.sends _ 0 c.next_from-slot.result c.args.clients.now.items c.args.clients.now.items c.args.to_send.now.words.items next.from (omega (arith, next.within, ends))
-          next.skipped c.requires (none_felt _ _);
+      felt = felt_on g.T.Transport.sends _ 0 _ _ _ _ next.from (omega (arith, next.within, ends)) next.skipped c.requires (none_felt _ _);
       within = next.within;
       ends = ends;
       times = refl;
@@ -33,12 +32,12 @@ loop-slot-preserved g c =
     let next = c.next_from-slot-in-loop-slot.ensures in
     let now = slice_set c.loop-slot.clients.items c.loop-slot.slot c.flush_at-refused.new.client in
     let long = length-set c.loop-slot.clients.items c.loop-slot.slot c.flush_at-refused.new.client in
-    let read = slice_get_read now (length now) c.loop-slot.slot c.index.result.now refl (omega (arith, c.loop-slot-test.true, long, inv.ends, inv.felt.len)) c.index.ensures in
-    let sent = out_taken HasSent _ c.remove_if.new.self.words.items now c.loop-slot.slot c.index.result.now c.has_sent.result c.remove_if.ensures read c.has_sent.ensures
-    (out_set HasSent _ c.loop-slot.clients.items c.loop-slot.slot _ c.flush_at-refused.new.client here c.flush_at-refused.ensures.sent inv.sent) in
+    let read = slice_get_read now _ c.loop-slot.slot c.index.result.now refl (omega (arith, c.loop-slot-test.true, long, inv.ends, inv.felt.len)) c.index.ensures in
+    let sent = out_taken HasSent _ _ now c.loop-slot.slot _ _ c.remove_if.ensures read c.has_sent.ensures
+    (out_set HasSent _ _ _ _ _ here c.flush_at-refused.ensures.sent inv.sent) in
     record {
-      felt = felt_on g.T.Transport.sends _ (c.loop-slot.slot + 1) c.next_from-slot-in-loop-slot.result c.args.clients.now.items now _ next.from (omega (arith, next.within, long, inv.ends, inv.felt.len))
-          next.skipped sent (one_more_felt _ _ _ _ _ _ _ _ inv.felt here (c.flush_at-refused.ensures.felt c.loop-slot.slot));
+      felt = felt_on g.T.Transport.sends _ _ _ _ now _ next.from (omega (arith, next.within, long, inv.ends, inv.felt.len)) next.skipped sent
+          (one_more_felt _ _ _ _ _ _ _ _ inv.felt here (c.flush_at-refused.ensures.felt c.loop-slot.slot));
       within = next.within;
       ends = inv.ends;
       times = map_set times_of _ _ _ _ here c.flush_at-refused.ensures.times ∙ inv.times;

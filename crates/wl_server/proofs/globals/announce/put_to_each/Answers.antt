@@ -10,8 +10,9 @@ returns-in-Err g c =
     let wrote = wrote_by _ _ c.write_message.new.self c.registry-item.result _ _ _ _ _ _ _ (ap (λ (r : Id). r.number) c.registry.view_is)
     c.loop-registry.invariant.opcode c.loop-registry.invariant.args c.in-Err.is c.write_message.ensures.wrote in
     let failed = λ (makes : Id → Bool).
-    first_failed g.T.Transport.sends (λ r. making (makes r) (by_object r c.args.message.now.opcode c.args.message.now.args.items)) _ _ _ _ c.in-Err.fault
-    (first_more _ _ _ _ _ _ _ _ (Err c.in-Err.fault) c.loop-registry-test.true c.registry-item.is (c.loop-registry.invariant.puts makes) wrote) in
+    first_failed g.T.Transport.sends (λ r. making (makes r) (by_object r c.args.message.now.opcode c.args.message.now.args.items)) _ _ _ _
+    c.in-Err.fault (first_more _ _ _ _ _ _ _ _ (Err c.in-Err.fault) c.loop-registry-test.true c.registry-item.is
+    (c.loop-registry.invariant.puts makes) wrote) in
     record {
       puts = failed (λ r. false);
       news = failed (λ r. is_first c.args.registries.now r);
@@ -32,8 +33,8 @@ loop-registry-preserved g c =
 pub returns : goal.returns
 returns g c =
     let all = λ (makes : Id → Bool).
-    first_all g.T.Transport.sends (λ r. making (makes r) (by_object r c.args.message.now.opcode c.args.message.now.args.items)) _ _ c.args.registries.now
-    _ (omega (arith, c.loop-registry-test.false)) (c.loop-registry.invariant.puts makes) in
+    first_all g.T.Transport.sends (λ r. making (makes r) (by_object r c.args.message.now.opcode c.args.message.now.args.items)) _ _
+    c.args.registries.now _ (omega (arith, c.loop-registry-test.false)) (c.loop-registry.invariant.puts makes) in
     record {
       puts = all (λ r. false);
       news = all (λ r. is_first c.args.registries.now r);

@@ -1,4 +1,4 @@
-use Rattle.std.proofs.Common.{length, map}
+use Rattle.std.proofs.Common.{map}
 use Rattle.std.specs.List.{FoldsTo}
 use Rattle.wl_server.specs.Part.{id_at}
 use Rattle.wl_server.specs.Inside.Walks.{ids_of}
@@ -9,6 +9,3 @@ invariant-loop-number g l =
     goal.F-IsAlwaysCallable g l.f
     × ((last : _) → FoldsTo (λ p x q. goal.F-step g p x tt q) l.f (map (λ e. id_at l.client e.0 e.1) l.all) last
     → FoldsTo (λ p x q. goal.F-step g p x tt q) l.fn.f (ids_of l.client l.objects.store) last)
-
-abbrev pub decreases-loop-number : goal.decreases-loop-number
-decreases-loop-number g l = length l.all

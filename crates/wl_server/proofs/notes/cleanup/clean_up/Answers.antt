@@ -26,7 +26,8 @@ returns-then-capacity-eq0-clause-cleaned g c =
 
 pub gather-requires-2-clause-order : goal.gather-requires-2-clause-order
 gather-requires-2-clause-order g c =
-    rw c.deref-2.ensures.value (flushed_order g.T.Transport.sends _ _ _ _ c.flush_killed-refused.ensures.felt c.flush_killed-refused.ensures.times c.requires.order)
+    rw c.deref-2.ensures.value (flushed_order g.T.Transport.sends _ _ _ _ c.flush_killed-refused.ensures.felt c.flush_killed-refused.ensures.times
+    c.requires.order)
 
 pub gather-requires-2-clause-room : goal.gather-requires-2-clause-room
 gather-requires-2-clause-room g c = omega (arith, (flushed_counts g.T.Transport.sends _ _ _ c.flush_killed-refused.ensures.felt).0, c.requires.notes)
@@ -51,7 +52,8 @@ pub returns-then-capacity-eq0-clause-none_waits : goal.returns-then-capacity-eq0
 returns-then-capacity-eq0-clause-none_waits g c = none_waits _ _ c.gather.ensures.no_numbers (λ k. takes_none (times_at k _))
 
 pub returns-clause-none_waits : goal.returns-clause-none_waits
-returns-clause-none_waits g c = rw c.leave_all.ensures.stay (none_waits _ _ c.gather-2.ensures.no_numbers (all_take_leave c.gather-2.new.clients.items))
+returns-clause-none_waits g c = rw c.leave_all.ensures.stay (none_waits _ _ c.gather-2.ensures.no_numbers
+    (all_take_leave c.gather-2.new.clients.items))
 
 pub returns-clause-numbered : goal.returns-clause-numbered
 returns-clause-numbered g c all = rw c.leave_all.ensures.stay

@@ -35,17 +35,21 @@ loop-slot-preserved g c =
     let inv = c.loop-slot.invariant in
     let next = c.next_from-slot-in-loop-slot.ensures in
     let here = slice_get_read c.args.clients.now _ c.loop-slot.slot c.index-clients-slot.result refl c.loop-slot-test.true c.index-clients-slot.is in
-    let quiet = out_taken IsQuiet _ c.remove_if.new.self.words.items c.args.clients.now c.loop-slot.slot _ _ c.remove_if.ensures here c.is_quiet.ensures inv.quiet in
+    let quiet = out_taken IsQuiet _ c.remove_if.new.self.words.items c.args.clients.now c.loop-slot.slot _ _ c.remove_if.ensures here
+    c.is_quiet.ensures inv.quiet in
     let notes = counted _ _ _ _ next.from next.within next.skipped quiet _ _ (counts_notes true c.args.clients.now) _ _ refl here in
     let places = counted _ _ _ _ next.from next.within next.skipped quiet _ _ (counts_places true c.args.clients.now) _ _ refl here in
-    let given = counted _ _ _ _ next.from next.within next.skipped quiet _ _ (counts_collected given_at quiet_given c.args.clients.now) _ _ refl here in
+    let given = counted _ _ _ _ next.from next.within next.skipped quiet _ _ (counts_collected given_at quiet_given c.args.clients.now) _
+    _ refl here in
     let ends = counted _ _ _ _ next.from next.within next.skipped quiet _ _ (counts_collected ends_at quiet_ends c.args.clients.now) _ _ refl here in
     record {
       gathered = at_least _ _ _ _ _ _ _ notes c.saturating_add-gathered.ensures (λ below. omega (arith, c.count_of.ensures.notes)) inv.gathered;
       places = at_least _ _ _ _ _ _ _ places c.saturating_add-gathered.ensures (λ below. omega (arith, c.count_of.ensures.places)) inv.places;
       few_gathered = at_most _ _ _ _ _ _ _ notes c.saturating_add-gathered.ensures (omega (arith, c.count_of.ensures.notes)) inv.few_gathered;
-      leaving = at_least _ _ _ _ _ _ _ given c.saturating_add-leaving.ensures (λ below. omega (arith, c.count_given_at.ensures c.loop-slot.slot)) inv.leaving;
-      few_leaving = at_most _ _ _ _ _ _ _ given c.saturating_add-leaving.ensures (omega (arith, c.count_given_at.ensures c.loop-slot.slot)) inv.few_leaving;
+      leaving = at_least _ _ _ _ _ _ _ given c.saturating_add-leaving.ensures
+          (λ below. omega (arith, c.count_given_at.ensures c.loop-slot.slot)) inv.leaving;
+      few_leaving = at_most _ _ _ _ _ _ _ given c.saturating_add-leaving.ensures
+          (omega (arith, c.count_given_at.ensures c.loop-slot.slot)) inv.few_leaving;
       ends = at_least _ _ _ _ _ _ _ ends c.saturating_add-ends.ensures (c.count_ends_at.ensures c.loop-slot.slot) inv.ends;
       quiet = quiet;
       within = next.within;

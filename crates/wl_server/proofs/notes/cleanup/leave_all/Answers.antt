@@ -9,20 +9,23 @@ pub leave_at-requires-clause-notes : goal.leave_at-requires-clause-notes
 leave_at-requires-clause-notes g c =
     let here = slice_get_read c.loop-slot.clients.items _ c.loop-slot.slot c.index_mut.result.now c.loop-slot.invariant.ends c.loop-slot-test.true c.index_mut.ensures.value in
     let there = sym (c.loop-slot.invariant.leave.rest c.loop-slot.slot (omega arith)) ∙ here in
-    leave_room ends_at c.loop-slot.slot c.args.clients.now.items _ _ _ _ _ _ _ c.loop-slot.invariant.leave.noted there c.args.notes.now.ok.0 c.loop-slot.notes.ok.0 c.requires.notes c.loop-slot.invariant.notes
+    leave_room ends_at c.loop-slot.slot c.args.clients.now.items _ _ _ _ _ _ _ c.loop-slot.invariant.leave.noted there c.args.notes.now.ok.0
+    c.loop-slot.notes.ok.0 c.requires.notes c.loop-slot.invariant.notes
 
 pub leave_at-requires-clause-given : goal.leave_at-requires-clause-given
 leave_at-requires-clause-given g c =
     let here = slice_get_read c.loop-slot.clients.items _ c.loop-slot.slot c.index_mut.result.now c.loop-slot.invariant.ends c.loop-slot-test.true c.index_mut.ensures.value in
     let there = sym (c.loop-slot.invariant.leave.rest c.loop-slot.slot (omega arith)) ∙ here in
-    leave_room given_at c.loop-slot.slot c.args.clients.now.items _ _ _ _ _ _ _ c.loop-slot.invariant.leave.gave there c.args.given.now.ok.0 c.loop-slot.given.ok.0 c.requires.given c.loop-slot.invariant.given
+    leave_room given_at c.loop-slot.slot c.args.clients.now.items _ _ _ _ _ _ _ c.loop-slot.invariant.leave.gave there c.args.given.now.ok.0
+    c.loop-slot.given.ok.0 c.requires.given c.loop-slot.invariant.given
 
 pub loop-slot-preserved : goal.loop-slot-preserved
 loop-slot-preserved g c =
     let here = slice_get_read c.loop-slot.clients.items _ c.loop-slot.slot c.index_mut.result.now c.loop-slot.invariant.ends c.loop-slot-test.true c.index_mut.ensures.value in
     let long = length-set c.loop-slot.clients.items c.loop-slot.slot c.leave_at.new.place in
     record {
-      leave = leave_one _ _ _ _ _ _ _ _ _ _ _ c.loop-slot.invariant.leave here c.leave_at.ensures.stays c.leave_at.ensures.noted c.leave_at.ensures.given;
+      leave = leave_one _ _ _ _ _ _ _ _ _ _ _ c.loop-slot.invariant.leave here c.leave_at.ensures.stays c.leave_at.ensures.noted
+          c.leave_at.ensures.given;
       notes = c.leave_at.ensures.notes_room ∙ c.loop-slot.invariant.notes;
       given = c.leave_at.ensures.given_room ∙ c.loop-slot.invariant.given;
       ends = c.loop-slot.invariant.ends ∙ sym long;

@@ -18,7 +18,8 @@ pub returns-then-count-eq0-clause-order : goal.returns-then-count-eq0-clause-ord
 returns-then-count-eq0-clause-order g c =
     let none : c.count_work-work.result.gathered ≡ 0 = omega (arith, c.saturating_add-count.ensures, c.if-count-eq0.true) in
     let notes = none_of c.count_work-work.result.gathered (count_leaving true c.args.clients.now) none c.count_work-work.ensures.gathered in
-    let places = none_of c.count_work-work.result.gathered (count_places true (map times_of c.args.clients.now)) none c.count_work-work.ensures.places in
+    let places = none_of c.count_work-work.result.gathered (count_places true
+    (map times_of c.args.clients.now)) none c.count_work-work.ensures.places in
     none_order true c.args.clients.now c.new.result.items c.new.ensures.items (none_leaving true c.args.clients.now notes) places
 
 pub returns-clause-notes : goal.returns-clause-notes

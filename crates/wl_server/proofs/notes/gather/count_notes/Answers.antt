@@ -29,7 +29,8 @@ loop-slot-preserved g c =
     let inv = c.loop-slot.invariant in
     let next = c.next_from-slot-in-loop-slot.ensures in
     let here = slice_get_read c.args.clients.now _ c.loop-slot.slot c.index-clients-slot.result refl c.loop-slot-test.true c.index-clients-slot.is in
-    let quiet = out_taken IsQuiet _ c.remove_if.new.self.words.items c.args.clients.now c.loop-slot.slot _ _ c.remove_if.ensures here c.is_quiet.ensures inv.quiet in
+    let quiet = out_taken IsQuiet _ c.remove_if.new.self.words.items c.args.clients.now c.loop-slot.slot _ _ c.remove_if.ensures here
+    c.is_quiet.ensures inv.quiet in
     let notes = counted _ _ _ _ next.from next.within next.skipped quiet _ _ (counts_notes c.args.waits c.args.clients.now) _ _ refl here in
     let places = counted _ _ _ _ next.from next.within next.skipped quiet _ _ (counts_places c.args.waits c.args.clients.now) _ _ refl here in
     record {

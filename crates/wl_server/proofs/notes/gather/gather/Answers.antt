@@ -33,7 +33,8 @@ loop-place-preserved g c =
     let here = slice_get_read c.loop-place.clients.items _ _ c.index_mut.result.now c.loop-place.clients.ok.0 (omega (arith, within, c.loop-place.clients.ok.0)) c.index_mut.ensures.value in
     record {
       gathered =
-          let more = gathers_at c.args.waits c.loop-place.clients.items c.loop-place.notes.items c.move_note.new.notes.items c.slot-slot.result _ c.move_note.new.client here c.move_note.ensures.moved in
+          let moved = c.move_note.ensures.moved in
+          let more = gathers_at c.args.waits c.loop-place.clients.items c.loop-place.notes.items c.move_note.new.notes.items c.slot-slot.result _ c.move_note.new.client here moved in
           grind (arith, c.loop-place.invariant.gathered, more);
       left = place_left _ _ _ _ _ _ _ _ _ _ c.loop-place-test.true c.slot-slot.ensures here c.move_note.ensures.moved c.loop-place.invariant.left;
       along = along_more _ _ _ _ _ _ _ c.loop-place-test.true c.slot-slot.ensures c.loop-place.invariant.along

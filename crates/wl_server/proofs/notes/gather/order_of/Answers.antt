@@ -33,6 +33,7 @@ loop-slot-preserved g c =
 pub returns : goal.returns
 returns g c = record {
   rise = c.put_in_order.ensures.rise;
-  each = λ k. places_moved k _ _ c.put_in_order.ensures.moved ∙ placed_all _ _ c.loop-slot.slot _ (omega (arith, c.loop-slot-test.false)) c.loop-slot.invariant.placed k;
+  each = λ k. places_moved k _ _ c.put_in_order.ensures.moved ∙ placed_all _ _ c.loop-slot.slot _ (omega (arith, c.loop-slot-test.false))
+      c.loop-slot.invariant.placed k;
   numbers = placed_whole _ _ c.loop-slot.slot _ _ (omega (arith, c.loop-slot-test.false)) c.loop-slot.invariant.numbers c.put_in_order.ensures.moved;
 }

@@ -6,6 +6,3 @@ use Rattle.wl_server.proofs.notes.leaving.count_ending.Given as goal
 abbrev pub invariant-loop-object : goal.invariant-loop-object
 invariant-loop-object g l =
     l.count < 0xFFFFFFFFFFFFFFFF → length (with_data (entries l.objects.store.objects)) ≤ l.count + length (with_data l.all)
-
-abbrev pub decreases-loop-object : goal.decreases-loop-object
-decreases-loop-object g l = length l.all

@@ -1,4 +1,4 @@
-use Rattle.std.proofs.Common.{◌≡◌, ◌++◌, length, map}
+use Rattle.std.proofs.Common.{◌≡◌, ◌++◌, map}
 use Rattle.std.specs.FinMap.{entries}
 use Rattle.std.specs.Vec.{vec_capacity}
 use Rattle.wl_server.specs.Inside.Leaving.{ends_of}
@@ -11,6 +11,3 @@ invariant-loop-number g l = record {
   ending : Ending l.client l.notes.items l.all (l.fn.notes.items ++ map (note_of l.client) (ends_of l.client (entries l.fn.objects.map.store.objects))) (vec_capacity l.fn.notes);
   capacity : vec_capacity l.notes ≡ vec_capacity l.fn.notes;
 }
-
-abbrev pub decreases-loop-number : goal.decreases-loop-number
-decreases-loop-number g l = length l.all

@@ -19,7 +19,8 @@ get_registry-requires-clause-can_register g c = c.requires.can_register (one_new
 
 pub returns-then-message-eq-SYNC-clause-responds : goal.returns-then-message-eq-SYNC-clause-responds
 returns-then-message-eq-SYNC-clause-responds g c c' f args =
-    display_is (around_of g.G.GlobalHandler.views c.args.around.now) (core_with c' c.args.client_data.now c.args.objects.now) c.args.message.now.opcode c.args.message.now.args.items
+    display_is (around_of g.G.GlobalHandler.views c.args.around.now)
+    (core_with c' c.args.client_data.now c.args.objects.now) c.args.message.now.opcode c.args.message.now.args.items
     ∙ rw (sym c.new_id_in.ensures ∙ c.in-Some.is, c.if-message-eq-SYNC.true) (c.sync.ensures.responds c' f args)
 
 pub returns-clause-responds : goal.returns-clause-responds

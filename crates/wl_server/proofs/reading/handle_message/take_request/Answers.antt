@@ -13,7 +13,9 @@ use Rattle.wl_server.proofs.reading.handle_message.take_request.Goals as goal
 pub request-requires-clause-room : goal.request-requires-clause-room
 request-requires-clause-room g c =
     let read = rw c.as_slice-signature.ensures.value at c.in_ok-read_with_signature.ensures.read in
-    omega (arith, as_many _ _ (content c.read_with_signature.new.message) _ read, c.in-Ok.ensures.room (read_there _ _ (content c.read_with_signature.new.message) _ read), ap length c.make_room.ensures.empty)
+    let many = as_many _ _ (content c.read_with_signature.new.message) _ read in
+    let there = read_there _ _ (content c.read_with_signature.new.message) _ read in
+    omega (arith, many, c.in-Ok.ensures.room there, ap length c.make_room.ensures.empty)
 
 pub request-requires-clause-can_make : goal.request-requires-clause-can_make
 request-requires-clause-can_make g c =

@@ -31,9 +31,11 @@ pub returns-in-Some-clause-puts : goal.returns-in-Some-clause-puts
 returns-in-Some-clause-puts g c =
     let a = c.self.inside in
     let news = rw c.in-Some.is at c.self.invariant in
-    rw (← c.self.view_is) (told_each g.T.Transport.sends _ _ a.protocol.now (record { name = a.name; interface = a.interface; version = a.version }) c.args.registries.now _ _ _ news.0 news.1 c.put_to_each.ensures.news)
+    rw (← c.self.view_is) (told_each g.T.Transport.sends _ _ a.protocol.now (record { name = a.name; interface = a.interface; version = a.version })
+    c.args.registries.now _ _ _ news.0 news.1 c.put_to_each.ensures.news)
 
 pub returns-clause-puts : goal.returns-clause-puts
 returns-clause-puts g c =
     let a = c.self.inside in
-    rw (← c.self.view_is) (told_each g.T.Transport.sends _ _ a.protocol.now (record { name = a.name; interface = a.interface; version = a.version }) c.args.registries.now _ _ _ c.in-Ok.ensures.0 c.in-Ok.ensures.1 c.put_to_each-wrote.ensures.news)
+    rw (← c.self.view_is) (told_each g.T.Transport.sends _ _ a.protocol.now (record { name = a.name; interface = a.interface; version = a.version })
+    c.args.registries.now _ _ _ c.in-Ok.ensures.0 c.in-Ok.ensures.1 c.put_to_each-wrote.ensures.news)

@@ -24,7 +24,8 @@ own T U G C id _ answer = refl
 -- the step is that of its script's call, whichever it is
 to : {U G C : Type 0} (views : _) (before : ServerState Script U G C) (target : ClientParts) (x : ScriptCall) (answer : Result (Unit {0}) ScriptError) (id : ClientParts) (lacked : Bool)
     (did : List (Deed U)) (b a : Seen Script U C)
-    → OfClient (same_client target id) b (λ p q. moves (move_of x) (nothing_taken answer) id p lacked did q) (nothing_taken answer ≡ Err refused.InvalidId) lacked did a
+    → OfClient (same_client target id) b (λ p q. moves (move_of x) (nothing_taken answer) id p lacked did q)
+    (nothing_taken answer ≡ Err refused.InvalidId) lacked did a
     → PartStep (over_scripts views) id before.offer (step_of target x) (reply_to x answer) b lacked did a
 to views before target (call.Arrive bytes tokens) answer id lacked did b a h = (answer, refl, h)
 to views before target _ answer id lacked did b a h = (answer, refl, h)
@@ -44,12 +45,16 @@ returns g c =
     let before = held_by i.protocol i.globals.store i.last_global i.default_limit i.last_client i.clients.items i.notes.items i.numbers in
     let answer = c.make_move-answer.result in
     rw (← c.self.view_is, c.lacks_memory-self-inside.ensures)
-    (done_to (over_scripts g.G.GlobalHandler.views) before (step_of c.args.id.now c.args.call) (reply_to c.args.call answer) (own _ _ _ _ _ _ _) c.args.id.now
-    (moves (move_of c.args.call) (nothing_taken answer)) (nothing_taken answer ≡ Err refused.InvalidId) (to g.G.GlobalHandler.views before c.args.id.now c.args.call answer)
+    (done_to (over_scripts g.G.GlobalHandler.views) before (step_of c.args.id.now c.args.call) (reply_to c.args.call answer)
+    (own _ _ _ _ _ _ _) c.args.id.now
+    (moves (move_of c.args.call) (nothing_taken answer)) (nothing_taken answer ≡ Err refused.InvalidId)
+    (to g.G.GlobalHandler.views before c.args.id.now c.args.call answer)
     _ c.in-Some.client.now _ (lacks_move (nothing_taken answer)) refl c.in-Some.ensures.value
     (rw (← c.client.view_is)
-    (moved (move_of c.args.call) (nothing_taken answer) c.args.id.now (record { serial = _; part = _; made = _; times = no_times }) _ c.make_move-answer.new.script refl
-    (subst (λ (t : Script). ScriptMoves t (move_of c.args.call) (nothing_taken answer) c.make_move-answer.new.script) c.transport_mut.ensures.value c.make_move-answer.ensures))) _
+    (moved (move_of c.args.call) (nothing_taken answer) c.args.id.now
+    (record { serial = _; part = _; made = _; times = no_times }) _ c.make_move-answer.new.script refl
+    (subst (λ (t : Script). ScriptMoves t (move_of c.args.call)
+    (nothing_taken answer) c.make_move-answer.new.script) c.transport_mut.ensures.value c.make_move-answer.ensures))) _
     (in_time_same _ _ _ _ (ap (λ (s : Stored _ _ _). s.times) c.client.view_is) refl) (λ is. rw (← c.client.view_is) at is) c.self.invariant.2)
 
 pub invariant_of-self : goal.invariant_of-self

@@ -11,7 +11,8 @@ use Rattle.wl_server.proofs.runs.script.Backend+Memory+U+G+C.take_sent.Goals as 
 
 pub returns-in_default : goal.returns-in_default
 returns-in_default g c = rw (← c.self.view_is)
-    (none_stored _ _ _ _ refl c.args.id.now (moves TakeSent (taken (Err _))) _ (λ i l d b a h. (_, refl, h)) _ refl c.in_default.ensures.value refl c.self.invariant.2)
+    (none_stored _ _ _ _ refl c.args.id.now (moves TakeSent (taken (Err _))) _
+    (λ i l d b a h. (_, refl, h)) _ refl c.in_default.ensures.value refl c.self.invariant.2)
 
 abbrev emptied : Script → Script
 emptied s = record s { sent = [] }
@@ -23,7 +24,8 @@ returns g c =
     (done_to _ _ _ _ refl c.args.id.now (moves TakeSent (taken (Ok c.take_sent.result))) _ (λ i l d b a h. (_, refl, h))
     _ c.in-Some.client.now _ false refl c.in-Some.ensures.value
     (rw (← c.client.view_is)
-    (moved TakeSent (taken (Ok c.take_sent.result)) c.args.id.now (record { serial = _; part = _; made = _; times = no_times }) false c.take_sent.new.self refl
+    (moved TakeSent (taken (Ok c.take_sent.result)) c.args.id.now
+    (record { serial = _; part = _; made = _; times = no_times }) false c.take_sent.new.self refl
     (ap (λ (l : List Queue). let r : Moved = Ok l in r) sent, (c.take_sent.ensures.rest ∙ ap emptied c.transport_mut.ensures.value)))) _
     (in_time_same _ _ _ _ (ap (λ (s : Stored _ _ _). s.times) c.client.view_is) refl) (λ is. rw (← c.client.view_is) at is) c.self.invariant.2)
 

@@ -1,38 +1,88 @@
--- The end of a request.
-use Rattle.wl_link.specs.Reader.{Verdict}
-use Rattle.std.proofs.Common.{◌≡◌, ℕ, Bool, true, false, cond, eqb-true, List, [], ◌++◌, append-nil, Option, None, Some, is_some, Result, Ok, Err, refl, ap, ◌∙◌, true≢false, ◌∷◌, arith}
-use mathlib.Core.Logic.{inl, inr}
-use Rattle.std.specs.Prelude.{◌⊎◌, IsSome, option_map}
-use Rattle.wl_wire.specs.declared.error.IoFault.{IoFault}
+-- The ends of actions, and what becomes of their data.
+use Rattle.std.proofs.Common.{◌≡◌, Bool, false, List, [], None, Some, Result, Ok, Err, refl, arith, append-nil, ℕ, true, cond, eqb-true, ◌++◌, Option, is_some, ap, ◌∙◌, true≢false, ◌∷◌}
+use Rattle.std.specs.Prelude.{option_map, ◌⊎◌, IsSome, IfOk, MatchOption, slice_set}
 use Rattle.wl_link.proofs.Calls.Branches.{either_option}
+use Rattle.wl_server.specs.declared.error.FinishRefused.{FinishRefused}
+use Rattle.wl_server.specs.Backend.{BackendState, Calls}
+use Rattle.wl_server.specs.Deeds.{Deed, notes_in}
+use Rattle.wl_server.specs.Finish.{FinishesBind, data_given, FinishesRequest, ended_by, ends, refusal, store_with_data, HoldsData}
+use Rattle.wl_server.specs.Ids.{ClientParts, IdParts}
+use Rattle.wl_server.specs.Lookups.{and_then}
+use Rattle.wl_server.specs.Part.{Part, id_of, named, same_id, with_user_data, serial_of, end_note, id_at, note_of_end}
+use Rattle.wl_server.specs.PartStep.{World, Asked}
+use Rattle.wl_server.specs.Plain.{BindEndedAs, EndsBind, EndsOpenRequest, IsRefusedWhole, RequestEndedAs, RequestIsEnded, RequestRefusedAs, is_made, with_given, EndIsTold, end_note_of, notes_if_kept, sender_notes, ReturnsBindData, ReturnsRequestData, client_in}
+use Rattle.wl_server.specs.Server.{Seen, seen, Stored, client_at}
+use Rattle.wl_server.proofs.Plain.Base.{IsOfOne, OnOne, became, made_stay, not_stored, nothing_changes, nothing_new, of_one, refine, stored_stay}
+use Rattle.wl_server.proofs.Plain.Naming.{names_so, rewritten_named, rewritten_others, removed_named, removed_others}
+use Rattle.wl_link.specs.Reader.{Verdict}
+use mathlib.Core.Logic.{inl, inr}
+use Rattle.wl_wire.specs.declared.error.IoFault.{IoFault}
 use Rattle.wl_link.specs.declared.object.Object.{Object}
 use Rattle.wl_link.specs.Exchange.{Queue}
 use Rattle.wl_link.specs.Store.{Store, removed}
 use Rattle.wl_server.specs.declared.error.FinishError.{FinishError}
-use Rattle.wl_server.specs.declared.error.FinishError.TheVariants as finish
-use Rattle.wl_server.specs.declared.error.FinishRefused.{FinishRefused}
 use Rattle.wl_server.specs.declared.notes.DisconnectReason.TheVariants.{ConnectionClosed}
 use Rattle.wl_server.specs.declared.notes.Happening.TheVariants.{Disconnected}
 use Rattle.wl_server.specs.declared.objects.Kept.{Kept}
+use Rattle.wl_server.specs.Inside.Carried.{told_notes}
+use Rattle.wl_server.specs.Inside.Finishing.{BindLeaves, DataHeld, RequestLeaves}
+use Rattle.wl_server.specs.Objects.{unless_refused}
+use Rattle.wl_server.specs.Steps.{Makes}
+use Rattle.wl_server.specs.Telling.{core_of, closed_down, end_deeds, Core, Told}
+use Rattle.wl_server.proofs.Plain.Verdicts.{IsTold, told}
+use Rattle.std.specs.Result.{result_and}
+use Rattle.wl_sets.proofs.Lists.{get_set_same}
+use Rattle.wl_server.specs.declared.error.FinishError.TheVariants as finish
 use Rattle.wl_server.specs.declared.reading.action.OpenAction.TheVariants as opened
 use Rattle.wl_server.specs.declared.runs.step.Reply.TheVariants as reply
 use Rattle.wl_server.specs.declared.runs.step.Step.TheVariants as step
-use Rattle.wl_server.specs.Backend.{BackendState, Calls}
-use Rattle.wl_server.specs.Deeds.{Deed, notes_in}
-use Rattle.wl_server.specs.Finish.{FinishesRequest, ended_by, ends, refusal, store_with_data}
-use Rattle.wl_server.specs.Ids.{ClientParts, IdParts}
-use Rattle.wl_server.specs.Inside.Carried.{told_notes}
-use Rattle.wl_server.specs.Lookups.{and_then}
-use Rattle.wl_server.specs.Objects.{unless_refused}
-use Rattle.wl_server.specs.Part.{Part, id_of, named, same_id, serial_of, end_note, id_at, note_of_end, with_user_data}
-use Rattle.wl_server.specs.PartStep.{Asked, World}
-use Rattle.wl_server.specs.Steps.{Makes}
-use Rattle.wl_server.specs.Plain.{EndsOpenRequest, IsRefusedWhole, RequestEndedAs, RequestIsEnded, RequestRefusedAs, is_made, with_given, EndIsTold, end_note_of, notes_if_kept, sender_notes}
-use Rattle.wl_server.specs.Server.{Seen, seen}
-use Rattle.wl_server.specs.Telling.{core_of, closed_down, end_deeds, Core, Told}
-use Rattle.wl_server.proofs.Plain.Base.{IsOfOne, became, refine, nothing_changes, nothing_new, of_one, stored_stay, not_stored}
-use Rattle.wl_server.proofs.Plain.Naming.{names_so, removed_named, removed_others, rewritten_named, rewritten_others}
-use Rattle.wl_server.proofs.Plain.Verdicts.{IsTold, told}
+
+-- ---- the end of a bind
+
+-- what the end of a bind does to its client
+abbrev EndsBindFor : {T U C : Type 0} → U → Result (Unit {0}) (FinishRefused U) → ClientParts → Bool → List (Deed U) → Part T U C → Part T U C → Type 0
+EndsBindFor u answer client lacked did p q = FinishesBind p u answer lacked did q
+
+-- the bind that is ended, and what the client is after it
+record HasBound {T U C : Type 0} (p : Part T U C) (u : U) (did : List (Deed U)) (q : Part T U C) : Type 0 where
+  object : IdParts
+  open_is : p.action ≡ Some (opened.Bind object)
+  did_is : did ≡ []
+  part_is : q ≡ record p { action = None; store = data_given p.store object.number (named p.store object) u }
+
+bound_ok : {T U C : Type 0} (u : U) (lacked : Bool) (did : List (Deed U)) (p q : Part T U C) → FinishesBind p u (Ok tt) lacked did q → HasBound p u did q
+bound_ok u lacked did p q h = grind (arith, either_option)
+
+module _ {T U C : Type 0} (target : ClientParts) (u : U) (s t : Seen T U C) where
+  -- what it leaves_of_bind, by the answer
+  abbrev LeavesOfBind : Result (Unit {0}) (FinishRefused U) → Type 0
+  LeavesOfBind (Ok _) =
+      (object : IdParts) × (and_then s.part (λ p. p.action) ≡ Some (opened.Bind object)) × (and_then t.part (λ p. p.action) ≡ None)
+      × (and_then t.part (λ p. named p.store object) ≡ option_map (with_user_data u) (and_then s.part (λ p. named p.store object)))
+      × ((other : IdParts) → same_id (id_of object) (id_of other) ≡ false → and_then t.part (λ p. named p.store other) ≡ and_then s.part (λ p. named p.store other))
+  LeavesOfBind (Err r) = (r.user_data ≡ u) × (t ≡ s)
+
+  leaves_of_bind : (answer : Result (Unit {0}) (FinishRefused U)) (lacked : Bool) → OnOne (EndsBindFor u answer target) (answer ≡ Err (record { error = finish.InvalidId; user_data = u })) s lacked t → LeavesOfBind answer
+  leaves_of_bind answer lacked h = grind (arith, either_option, bound_ok, and_then, named, option_map, with_user_data, rewritten_named, names_so, rewritten_others, nothing_new, notes_in, append-nil)
+
+module _ {T U G C : Type 0} {w : World T G C} {before after : BackendState T U G C} (target : ClientParts) (u : U) where
+  pub ends_bind : (answer : Result (Unit {0}) (FinishRefused U)) → Calls w before (step.FinishBind target u) (reply.FinishBind answer) after → EndsBind before target u answer after
+  ends_bind answer call = record {
+    bind = ended answer (leaves_of_bind target u _ _ answer after.refused one.own);
+    clients = one.clients;
+    notes = made_stay one (λ did p q r. (grind (arith, either_option, notes_in)));
+    globals = one.globals;
+    memory = elim one.own [ not_stored none is calm same ↦ calm | became p q did there r same ↦ grind (arith, either_option) ];
+  }
+    where
+      one : IsOfOne before after target (EndsBindFor u answer target) (answer ≡ Err (record { error = finish.InvalidId; user_data = u }))
+      one = of_one call.step target (EndsBindFor u answer) _ (λ id s t lacked did (r, is, h). let e : r ≡ answer = cc in rw e at h) refl refl refl
+
+      ended : (r : Result (Unit {0}) (FinishRefused U)) → LeavesOfBind target u (seen target before.server) (seen target after.server) r → BindEndedAs before target u r after
+      ended (Ok ok) left = left
+      ended (Err r) (back, same) = (back, nothing_changes one same)
+
+-- ---- the end of a request
 
 -- ---- two ids of a client that are the same name the same
 
@@ -192,3 +242,35 @@ module _ {T U G C : Type 0} (w : World T G C) (before after : BackendState T U G
 
   pub ends_open_request : (answer : Answer U) → Calls w before (step.FinishRequest target u) (reply.FinishRequest answer) after → EndsOpenRequest before target u answer after
   ends_open_request answer call = request_ends answer call.step
+
+-- ---- what becomes of the data of an action, in the words of the look-ups
+
+-- ---- data that are given
+
+module _ {U : Type 0} where
+  -- the object that is kept has them, or they come back
+  pub given_held : (store after : Store (Kept U)) (id : IdParts) (u : U) (back : Option U) → MatchOption (named store id) (back ≡ Some u) (λ _. back ≡ None)
+      → after ≡ data_given store id.number (named store id) u → HoldsData (named after id) u back
+  given_held store after id u back returned given = grind (arith, named, option_map, with_user_data, rewritten_named, names_so)
+
+-- ---- the open action
+
+module _ {T U C : Type 0} (p q : Part T U C) where
+  pub request_leaves : (u : Option U) (sender : IdParts) (is_destructor : Bool) (created : Option IdParts) (answer : Result (Option U) (FinishRefused (Option U)))
+      → p.action ≡ Some (opened.Request sender is_destructor created) → IfOk answer (λ back. DataHeld q.store created u back) → RequestLeaves p u answer q
+  request_leaves u sender is_destructor created h5 is held = grind (arith)
+
+-- ---- the client that was looked up
+
+module _ {T U G C : Type 0} (before after : BackendState T U G C) (id : ClientParts) (s t : Stored T U C)
+    (there : Some s ≡ client_at id before.server.clients) (same : t.serial ≡ s.serial) (now : after.server.clients ≡ slice_set before.server.clients id.slot (Some t)) where
+  parts : (client_in before id ≡ Some s.part) × (client_in after id ≡ Some t.part)
+  parts = grind (arith, option_map, get_set_same)
+
+  pub bind_returns : (u : U) (answer : Result (Option U) (FinishRefused U)) → BindLeaves s.part u answer t.part → EndsBind before id u (result_and answer (Ok tt)) after
+      → ReturnsBindData before id u answer after
+  bind_returns u answer leaves ends = let (was, is) = parts in grind (arith)
+
+  pub request_returns : (u : Option U) (answer : Result (Option U) (FinishRefused (Option U))) → RequestLeaves s.part u answer t.part
+      → EndsOpenRequest before id u (result_and answer (Ok tt)) after → ReturnsRequestData before id u answer after
+  request_returns u answer leaves ends = let (was, is) = parts in grind (arith)
