@@ -23,7 +23,8 @@ share_append id (e ∷ a) b = grind (arith, share_append id a b)
 module _ {T U C : Type 0} where
   -- ---- of what all slots give, a part that only one slot has
 
-  module _ {A B : Type 0} (part : List A → List B) (give : ℕ → Option (Stored T U C) → List A) (slot : ℕ) (none : part [] ≡ []) (both : (a b : List A) → part (a ++ b) ≡ part a ++ part b)
+  module _ {A B : Type 0} (part : List A → List B) (give : ℕ → Option (Stored T U C) → List A) (slot : ℕ) (none : part [] ≡ [])
+      (both : (a b : List A) → part (a ++ b) ≡ part a ++ part b)
       (other : (n : ℕ) (x : Option (Stored T U C)) → (n == slot) ≡ false → part (give n x) ≡ []) where
     collected_past : (n : ℕ) (clients : List (Option (Stored T U C))) → slot < n → part (collected give n clients) ≡ []
     collected_past n [] past = none
@@ -60,7 +61,8 @@ module _ {T U C : Type 0} where
 
   -- ---- transports
 
-  pub given_for : (id : ClientParts) (clients : List (Option (Stored T U C))) → share_of id (collected given_at 0 clients) ≡ given_in (client_at id clients)
+  pub given_for : (id : ClientParts) (clients : List (Option (Stored T U C)))
+      → share_of id (collected given_at 0 clients) ≡ given_in (client_at id clients)
   given_for id clients =
       collected_at (share_of id) given_at id.slot refl (share_append id) (λ n x h1. grind (arith, id_in, same_slots)) 0 id.slot clients (omega arith)
       ∙ (grind (arith, id_in, given_in, same_parts, same_self, same_serials, slice_get clients id.slot))

@@ -34,7 +34,8 @@ module _ {T U G C : Type 0} (w : World T G C) (before : ServerState T U G C) (ca
       → IsRefused (record { call = call; refused = refused; lacks = lacks; did = did }) → NotesGoOn before call after
       → ((id : ClientParts) → PartCall w id before.offer call (seen id before) (lacks id) (did id) (seen id after))
       → Makes w before call refused after
-  step_by lacks did after offer last client global order room is notes each = (record { call = call; refused = refused; lacks = lacks; did = did }, refl, refl, grind (arith))
+  step_by lacks did after offer last client global order room is notes each =
+      (record { call = call; refused = refused; lacks = lacks; did = did }, refl, refl, grind (arith))
 
   -- memory was refused to no client
   pub step_of : (did : ClientParts → List (Deed U)) (after : ServerState T U G C) → after.offer ≡ offer_after before.offer call
@@ -50,7 +51,8 @@ module _ {T U C : Type 0} (R : Kind T U C) where
 
   -- the client of a slot felt it by its id
   pub place_felt : (slot serial : ℕ) (id : ClientParts) (s s' : Stored T U C) (place : Option (Stored T U C)) (lacked : Bool) → place ≡ Some s
-      → id ≡ record { slot = slot; serial = serial } → serial ≡ s.serial → Does s (λ p did q. R id p lacked did q) s' → PlaceFeels R slot place lacked (Some s')
+      → id ≡ record { slot = slot; serial = serial } → serial ≡ s.serial → Does s (λ p did q. R id p lacked did q) s'
+      → PlaceFeels R slot place lacked (Some s')
   place_felt slot serial id s s' place lacked is known same does = rw is (s', (rw (known, same) at does), refl)
 
   -- the clients of these slots are as they were after it
@@ -121,7 +123,8 @@ module _ {T U C : Type 0} (R : Kind T U C) where
     abbrev pub lacks_of : ClientParts → Bool
     lacks_of id = lacks_in (client_at id start) (all.lacks id.slot)
 
-    pub each_felt : (gathered : List (Happening U)) (id : ClientParts) → FeltBy id gathered (all.lacks id.slot) (slice_get start id.slot) (slice_get now id.slot)
+    pub each_felt : (gathered : List (Happening U)) (id : ClientParts)
+        → FeltBy id gathered (all.lacks id.slot) (slice_get start id.slot) (slice_get now id.slot)
     each_felt gathered id = grind (arith, felt_by, slice_get_past, slice_get, cases_lt id.slot (length start))
 
     pub some_lacks : refused ≡ true → (id : ClientParts) × (lacks_of id ≡ true)
@@ -129,7 +132,8 @@ module _ {T U C : Type 0} (R : Kind T U C) where
       where
         at : (k : ℕ) (x : Option (Option (Stored T U C))) → slice_get start k ≡ x → all.lacks k ≡ true → FeltAt R k x (all.lacks k) (slice_get now k)
             → (id : ClientParts) × (lacks_of id ≡ true)
-        at k (Some (Some s)) here lacks felt = (record { slot = k; serial = s.serial }, rw (client_present (record { slot = k; serial = s.serial }) start s here refl) lacks)
+        at k (Some (Some s)) here lacks felt =
+            (record { slot = k; serial = s.serial }, rw (client_present (record { slot = k; serial = s.serial }) start s here refl) lacks)
         at k _ here lacks felt = grind (arith, true≢false)
 
     pub one_lacks : (id : ClientParts) → lacks_of id ≡ true → refused ≡ true
@@ -149,7 +153,8 @@ pub record IsFelt {T U G C : Type 0} (call : Call T U G C) : Type 0 where
 
 module _ {T U G C : Type 0} (w : World T G C) (before : ServerState T U G C) (call : Call T U G C) (felt : IsFelt call) where
   -- no client made anything of it
-  pub makes_unfelt : (refused : Bool) (offer : Offer G) → offer ≡ offer_after before.offer call → AnswersShared before.offer call → lacks_growth call ≡ refused
+  pub makes_unfelt : (refused : Bool) (offer : Offer G) → offer ≡ offer_after before.offer call → AnswersShared before.offer call
+      → lacks_growth call ≡ refused
       → ((id : ClientParts) (b : Seen T U C) → PartCall w id before.offer call b false [] b) → AllNumbered before.clients
       → Makes w before call refused (record before { offer = offer })
   makes_unfelt refused offer becomes numbers growth to all =
@@ -157,14 +162,17 @@ module _ {T U G C : Type 0} (w : World T G C) (before : ServerState T U G C) (ca
       (felt.client before) numbers felt.order (felt.room before) growth
       (felt.notes before _ (record { gathered = refl; times = all_same _ _ _ refl; numbered = all })) (λ id. to id (seen id before))
 
-module _ {T U G C : Type 0} (w : World T G C) (before : ServerState T U G C) (s : Step T U G C) (answer : Reply T U) (felt : IsFelt (Asked s answer)) where
+module _ {T U G C : Type 0} (w : World T G C) (before : ServerState T U G C) (s : Step T U G C) (answer : Reply T U)
+    (felt : IsFelt (Asked s answer)) where
   -- all clients felt it
   pub felt_call : {was : Bool} (R : Kind T U C) (refused : Bool) (offer : Offer G) (clients : List (Option (Stored T U C))) (numbers' : NoteNumbers)
       → offer ≡ offer_after before.offer (Asked s answer) → AnswersShared before.offer (Asked s answer) → lacks_growth (Asked s answer) ≡ false
       → ((id : ClientParts) (lacked : Bool) (did : List (Deed U)) (b a : Seen T U C) → Feels b (λ p q. R id p lacked did q) lacked did a
       → PartStep w id before.offer s answer b lacked did a)
-      → AllFeel R refused (length before.clients) before.clients clients → AllInTime (map times_of before.clients) before.numbers (map times_of clients) numbers' → AllNumbered clients
-      → Calls w (record { server = before; refused = was }) s answer (record { server = record before { offer = offer; clients = clients; numbers = numbers' }; refused = refused })
+      → AllFeel R refused (length before.clients) before.clients clients
+      → AllInTime (map times_of before.clients) before.numbers (map times_of clients) numbers' → AllNumbered clients
+      → Calls w (record { server = before; refused = was }) s answer
+      (record { server = record before { offer = offer; clients = clients; numbers = numbers' }; refused = refused })
   felt_call R refused offer clients numbers' becomes numbers growth to all times numbered = calls _ _ _ _ _ (
     record { call = Asked s answer; refused = refused; lacks = λ id. lacks_of R refused before.clients clients all id; did = λ id. (by id).0 },
     refl,
@@ -172,12 +180,15 @@ module _ {T U G C : Type 0} (w : World T G C) (before : ServerState T U G C) (s 
     grind (arith, false≢true, felt, to, by, some_lacks R refused before.clients clients all, one_lacks R refused before.clients clients all),
   )
     where
-      by : (id : ClientParts) → FeltBy R id (notes_of id before.notes) (all.lacks id.slot) (slice_get before.clients id.slot) (slice_get clients id.slot)
+      by : (id : ClientParts) → FeltBy R id (notes_of id before.notes) (all.lacks id.slot) (slice_get before.clients id.slot)
+          (slice_get clients id.slot)
       by id = each_felt R refused before.clients clients all (notes_of id before.notes) id
 
   -- no client made anything of it
-  pub unfelt_call : {was : Bool} (refused : Bool) (offer : Offer G) → offer ≡ offer_after before.offer (Asked s answer) → AnswersShared before.offer (Asked s answer)
-      → lacks_growth (Asked s answer) ≡ refused → ((id : ClientParts) (b : Seen T U C) → PartStep w id before.offer s answer b false [] b) → AllNumbered before.clients
+  pub unfelt_call : {was : Bool} (refused : Bool) (offer : Offer G) → offer ≡ offer_after before.offer (Asked s answer)
+      → AnswersShared before.offer (Asked s answer)
+      → lacks_growth (Asked s answer) ≡ refused → ((id : ClientParts) (b : Seen T U C) → PartStep w id before.offer s answer b false [] b)
+      → AllNumbered before.clients
       → Calls w (record { server = before; refused = was }) s answer (record { server = record before { offer = offer }; refused = refused })
   unfelt_call refused offer becomes numbers growth to all =
       calls _ _ _ _ _ (makes_unfelt w before (Asked s answer) felt refused offer becomes numbers growth to all)

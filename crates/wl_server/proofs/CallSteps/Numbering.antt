@@ -24,7 +24,8 @@ rise_lower : (low mid : ℕ) (ns : List ℕ) (next : ℕ) → low ≤ mid → Ri
 rise_lower low mid [] next less is = omega (arith, less, is)
 rise_lower low mid (n ∷ ns) next less (first, rest) = (omega (arith, less, first), rest)
 
-rise_append : (low : ℕ) (ns : List ℕ) (mid : ℕ) (ms : List ℕ) (next : ℕ) → RiseWithin low ns mid → RiseWithin mid ms next → RiseWithin low (ns ++ ms) next
+rise_append : (low : ℕ) (ns : List ℕ) (mid : ℕ) (ms : List ℕ) (next : ℕ) → RiseWithin low ns mid → RiseWithin mid ms next
+    → RiseWithin low (ns ++ ms) next
 rise_append low [] mid ms next is more = rise_lower low mid ms next is more
 rise_append low (n ∷ ns) mid ms next (first, rest) more = (first, rise_append (n + 1) ns mid ms next rest more)
 
@@ -102,7 +103,8 @@ module _ {T U C : Type 0} where
   pub times_stored : (clients : List (Option (Stored T U C))) (k : ℕ) → times_at k (map times_of clients) ≡ times_of (stored_at k clients)
   times_stored clients k = grind (arith, slice_get-map, times_of, no_times, slice_get clients k)
 
-  pub times_there : (clients : List (Option (Stored T U C))) (k : ℕ) (x : Option (Stored T U C)) → slice_get clients k ≡ Some x → times_at k (map times_of clients) ≡ times_of x
+  pub times_there : (clients : List (Option (Stored T U C))) (k : ℕ) (x : Option (Stored T U C)) → slice_get clients k ≡ Some x
+      → times_at k (map times_of clients) ≡ times_of x
   times_there clients k x here = grind (arith, times_stored clients k)
 
   pub times_same : (clients clients' : List (Option (Stored T U C))) (k : ℕ) → slice_get clients' k ≡ slice_get clients k
@@ -144,7 +146,8 @@ module _ (of : NoteTimes → List ℕ) where
           (old, (among 0 (of (times_at k ts)) next n (is.rise k) old).1)
 
   -- the first numbers of clients are gone
-  fewer : (ts ts' : List NoteTimes) (next : ℕ) → ((k : ℕ) → (gone : List ℕ) × (of (times_at k ts) ≡ gone ++ of (times_at k ts'))) → AreInTime of next ts → AreInTime of next ts'
+  fewer : (ts ts' : List NoteTimes) (next : ℕ) → ((k : ℕ) → (gone : List ℕ) × (of (times_at k ts) ≡ gone ++ of (times_at k ts')))
+      → AreInTime of next ts → AreInTime of next ts'
   fewer ts ts' next first is = record {
     rise = λ k. (let (gone, same) = first k in rise_last 0 gone (of (times_at k ts')) next (rw same at (is.rise k)));
     apart = λ j k n a b. is.apart j k n (there j n a) (there k n b);
@@ -167,7 +170,8 @@ module _ (of : NoteTimes → List ℕ) where
   turn_other zero ts next us vs next' same is = is
   turn_other (suc n) ts next us vs next' same (mid, turn, gives) = grind (arith, times_at, turn_other n ts next us vs mid)
 
-  turn_up : (n : ℕ) (ts : List NoteTimes) (next : ℕ) (ts' : List NoteTimes) (next' : ℕ) → InTurn of n ts next ts' next' → next' < last_number → next ≤ next'
+  turn_up : (n : ℕ) (ts : List NoteTimes) (next : ℕ) (ts' : List NoteTimes) (next' : ℕ) → InTurn of n ts next ts' next' → next' < last_number
+      → next ≤ next'
   turn_up zero ts next ts' next' is below = omega (arith, is)
   turn_up (suc n) ts next ts' next' (mid, turn, gives) below =
       let more = within (of (times_at n ts)) mid (of (times_at n ts')) next' gives in
@@ -242,13 +246,15 @@ module _ {T U C : Type 0} where
       (i + 1, next_in_time (map times_of clients) clients i x x' a a b (none_yet i (map times_of clients) (map times_of clients) a refl) here gives)
 
   -- the numbers that a server has, after its client of an id was written
-  pub numbers_set : (clients : List (Option (Stored T U C))) (id : ClientParts) (s s' : Stored T U C) (a b : NoteNumbers) → Some s ≡ client_at id clients
+  pub numbers_set : (clients : List (Option (Stored T U C))) (id : ClientParts) (s s' : Stored T U C) (a b : NoteNumbers)
+      → Some s ≡ client_at id clients
       → NotesInTime s.times a s'.times b → HasNumbers a (map times_of clients) → HasNumbers b (map times_of (slice_set clients id.slot (Some s')))
   numbers_set clients id s s' a b is gives has = (set_in_time clients id.slot (Some s) (Some s') a b
       (slot_of_client clients id s is).0 gives).1.keeps has
 
   -- the same where no note was made
-  pub numbers_stay : (clients : List (Option (Stored T U C))) (id : ClientParts) (s s' : Stored T U C) (a : NoteNumbers) → Some s ≡ client_at id clients
+  pub numbers_stay : (clients : List (Option (Stored T U C))) (id : ClientParts) (s s' : Stored T U C) (a : NoteNumbers)
+      → Some s ≡ client_at id clients
       → s'.times ≡ s.times → HasNumbers a (map times_of clients) → HasNumbers a (map times_of (slice_set clients id.slot (Some s')))
   numbers_stay clients id s s' a is same has = numbers_set clients id s s' a a is (in_time_same s.times s'.times a a same refl) has
 
@@ -318,7 +324,8 @@ module _ {T U C : Type 0} where
   take_set clients i x x' here first k = at (k == i) refl
     where
       at : (b : Bool) → (k == i) ≡ b → TakesFirst (times_at k (map times_of clients)) (times_at k (map times_of (slice_set clients i x')))
-      at true same = rw (eqb-true k i same, times_there clients i x here, times_there (slice_set clients i x') i x' (get_set_same clients i x x' here)) first
+      at true same =
+          rw (eqb-true k i same, times_there clients i x here, times_there (slice_set clients i x') i x' (get_set_same clients i x x' here)) first
       at false other = rw (times_same clients (slice_set clients i x') k (get_set_other clients i k x' (λ e. other_of k i other (sym e))))
           (takes_none _)
 

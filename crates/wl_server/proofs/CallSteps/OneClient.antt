@@ -46,7 +46,8 @@ is_own step.TakeNotes answer = false
 is_own s answer = not (lacks_growth (Asked s answer))
 
 -- a server of these values
-abbrev pub held_by : {T U G C : Type 0} → List InterfaceRow → Store (KeptGlobal G) → ℕ → ℕ → ℕ → List (Option (Stored T U C)) → List (Note U) → NoteNumbers → ServerState T U G C
+abbrev pub held_by : {T U G C : Type 0} → List InterfaceRow → Store (KeptGlobal G) → ℕ → ℕ → ℕ → List (Option (Stored T U C)) → List (Note U)
+    → NoteNumbers → ServerState T U G C
 held_by table globals last_global default_limit last_client clients notes numbers = record {
   offer = record { table = table; globals = record { store = globals; last_serial = last_global }; default_limit = default_limit };
   last_client = last_client;
@@ -102,7 +103,8 @@ module _ {T U G C : Type 0} (w : World T G C) (before : ServerState T U G C) (s 
       (record { server = record before { clients = slice_set before.clients read.slot (Some c'); numbers = numbers' }; refused = lacked })
   done_to read c c' lacked same is does numbers' times numbered all =
       let has = slot_of_client before.clients target c (rw same at is) in
-      calls _ _ _ _ _ (rw same (own_call w before (Asked s answer) own_step target R missing to c c' lacked has.0 has.1 does numbers' times numbered all))
+      calls _ _ _ _ _ (rw same (own_call w before
+      (Asked s answer) own_step target R missing to c c' lacked has.0 has.1 does numbers' times numbered all))
 
   pub none_stored : {was : Bool} (read : ClientParts) → read ≡ target → None ≡ client_at read before.clients → missing → AllNumbered before.clients
       → Calls w (record { server = before; refused = was }) s answer (record { server = before; refused = false })

@@ -40,16 +40,23 @@ by_script views = over ScriptSends ScriptReceives views
 module _ {U G C : Type 0} (views : G → ClientParts → C → GlobalParts → Bool) where
   module _ (id : ClientParts) (offer : Offer G) where
     -- no other transport makes the moves of a script: but those that name nobody are alike
-    moved : (target : ClientParts) (m : Move) (answer : Moved) (before : Seen Script U C) (lacked : Bool) (did : List (Deed U)) (after : Seen Script U C)
-        → MovedFor (by_script views) id offer target m answer before lacked did after → MovedFor (over_scripts views) id offer target m answer before lacked did after
+    moved : (target : ClientParts) (m : Move) (answer : Moved) (before : Seen Script U C) (lacked : Bool) (did : List (Deed U))
+        (after : Seen Script U C)
+        → MovedFor (by_script views) id offer target m answer before lacked did after
+        → MovedFor (over_scripts views) id offer target m answer before lacked did after
     moved target m answer before lacked did after h = grind (arith, over_scripts)
 
-    part_step : (s : Step Script U G C) (answer : Reply Script U) (before : Seen Script U C) (lacked : Bool) (did : List (Deed U)) (after : Seen Script U C)
-        → PartStep (by_script views) id offer s answer before lacked did after → PartStep (over_scripts views) id offer s answer before lacked did after
-    part_step (step.Arrive target bytes tokens) answer before lacked did after (r, is, h) = (r, is, moved target (Arrive (record { bytes = bytes.items; tokens = tokens.items })) _ before lacked did after h)
-    part_step (step.ArriveFault target f) answer before lacked did after (r, is, h) = (r, is, moved target (ArriveFault f) _ before lacked did after h)
+    part_step : (s : Step Script U G C) (answer : Reply Script U) (before : Seen Script U C) (lacked : Bool) (did : List (Deed U))
+        (after : Seen Script U C)
+        → PartStep (by_script views) id offer s answer before lacked did after
+        → PartStep (over_scripts views) id offer s answer before lacked did after
+    part_step (step.Arrive target bytes tokens) answer before lacked did after (r, is, h) =
+        (r, is, moved target (Arrive (record { bytes = bytes.items; tokens = tokens.items })) _ before lacked did after h)
+    part_step (step.ArriveFault target f) answer before lacked did after (r, is, h) =
+        (r, is, moved target (ArriveFault f) _ before lacked did after h)
     part_step (step.Accept target n) answer before lacked did after (r, is, h) = (r, is, moved target (Accept n) _ before lacked did after h)
-    part_step (step.AcceptFault target f) answer before lacked did after (r, is, h) = (r, is, moved target (AcceptFault f) _ before lacked did after h)
+    part_step (step.AcceptFault target f) answer before lacked did after (r, is, h) =
+        (r, is, moved target (AcceptFault f) _ before lacked did after h)
     part_step (step.TakeSent target) answer before lacked did after (r, is, h) = (r, is, moved target TakeSent _ before lacked did after h)
     part_step s answer before lacked did after h = h
 
@@ -62,7 +69,8 @@ module _ {U G C : Type 0} (views : G → ClientParts → C → GlobalParts → B
   run_over_script before [] after same = same
   run_over_script before (e ∷ run) after (mid, one, leads) = (mid, one_over_script before e mid one, run_over_script mid run after leads)
 
-  pub step_over_script : (before : ServerState Script U G C) (s : Step Script U G C) (answer : Reply Script U) (refused : Bool) (after : ServerState Script U G C)
+  pub step_over_script : (before : ServerState Script U G C) (s : Step Script U G C) (answer : Reply Script U) (refused : Bool)
+      (after : ServerState Script U G C)
       → StepOf (by_script views) before s answer refused after → StepOf (over_scripts views) before s answer refused after
   step_over_script before s answer refused after (e, call, is, one) = (e, call, is, one_over_script before e after one)
 
@@ -81,10 +89,12 @@ module _ {U G C : Type 0} (views : G → ClientParts → C → GlobalParts → B
   Stands e = (other : Entry Script U G C) × StandsFor e other × OneStep (by_script views) before other after
 
   abbrev IsSet : ClientParts → Script → Bool → ClientParts → List (Deed U) → Type 0
-  IsSet target t b id did = OfClient b (seen id before) (λ p q. Quietly {U = U} false did (WithTransport (λ _ t'. t' ≡ t) p q)) (Unit {0}) false did (seen id after)
+  IsSet target t b id did =
+      OfClient b (seen id before) (λ p q. Quietly {U = U} false did (WithTransport (λ _ t'. t' ≡ t) p q)) (Unit {0}) false did (seen id after)
 
   module _ (e : Entry Script U G C) (target : ClientParts) (m : Move)
-      (moves : (id : ClientParts) → (answer : Moved) × MovedFor (over_scripts views) id before.offer target m answer (seen id before) (e.lacks id) (e.did id) (seen id after)) where
+      (moves : (id : ClientParts) → (answer : Moved)
+      × MovedFor (over_scripts views) id before.offer target m answer (seen id before) (e.lacks id) (e.did id) (seen id after)) where
     -- what the move makes of the transport of its client, if there is one
     becomes : (t : Script) × IsSet target t true target (e.did target)
     becomes = of (seen target before).part refl (rw (same_self target) at (moves target).1)
@@ -98,11 +108,13 @@ module _ {U G C : Type 0} (views : G → ClientParts → C → GlobalParts → B
     each_set : (id : ClientParts) → IsSet target becomes.0 (same_client target id) id (e.did id)
     each_set id = on (same_client target id) refl (moves id).1
       where
-        on : (b : Bool) → same_client target id ≡ b → OfMoved (over_scripts views) b (moves id).0 m (seen id before) (e.lacks id) (e.did id) (seen id after)
+        on : (b : Bool) → same_client target id ≡ b
+            → OfMoved (over_scripts views) b (moves id).0 m (seen id before) (e.lacks id) (e.did id) (seen id after)
             → IsSet target becomes.0 b id (e.did id)
         on h1 same h = grind (arith, becomes, same_is)
 
-    stands : after.offer ≡ before.offer → after.last_client ≡ before.last_client + 0 → MakesNotes before after → IsChangeFor e.call (Changed target becomes.0) → Stands e
+    stands : after.offer ≡ before.offer → after.last_client ≡ before.last_client + 0 → MakesNotes before after
+        → IsChangeFor e.call (Changed target becomes.0) → Stands e
     stands offer last notes is = (
       record { call = Changed target becomes.0; refused = false; lacks = λ id. false; did = e.did },
       inr (is, refl, refl),
@@ -117,13 +129,16 @@ module _ {U G C : Type 0} (views : G → ClientParts → C → GlobalParts → B
 
       on : (call : Call Script U G C) → OneStep (over_scripts views) before (with_call call) after → Stands (with_call call)
       on (Asked (step.Arrive target bytes tokens) answer) one =
-          stands (with_call (Asked (step.Arrive target bytes tokens) answer)) target (Arrive (record { bytes = bytes.items; tokens = tokens.items })) (λ id. (_, (one.each id).2)) one.offer one.last one.notes refl
+          stands (with_call (Asked (step.Arrive target bytes tokens) answer)) target (Arrive (record { bytes = bytes.items; tokens = tokens.items }))
+          (λ id. (_, (one.each id).2)) one.offer one.last one.notes refl
       on (Asked (step.ArriveFault target f) answer) one =
-          stands (with_call (Asked (step.ArriveFault target f) answer)) target (ArriveFault f) (λ id. (_, (one.each id).2)) one.offer one.last one.notes refl
+          stands (with_call (Asked (step.ArriveFault target f) answer)) target (ArriveFault f)
+          (λ id. (_, (one.each id).2)) one.offer one.last one.notes refl
       on (Asked (step.Accept target n) answer) one =
           stands (with_call (Asked (step.Accept target n) answer)) target (Accept n) (λ id. (_, (one.each id).2)) one.offer one.last one.notes refl
       on (Asked (step.AcceptFault target f) answer) one =
-          stands (with_call (Asked (step.AcceptFault target f) answer)) target (AcceptFault f) (λ id. (_, (one.each id).2)) one.offer one.last one.notes refl
+          stands (with_call (Asked (step.AcceptFault target f) answer)) target (AcceptFault f)
+          (λ id. (_, (one.each id).2)) one.offer one.last one.notes refl
       on (Asked (step.TakeSent target) answer) one =
           stands (with_call (Asked (step.TakeSent target) answer)) target TakeSent (λ id. (_, (one.each id).2)) one.offer one.last one.notes refl
       on call one = (
@@ -134,7 +149,8 @@ module _ {U G C : Type 0} (views : G → ClientParts → C → GlobalParts → B
 
 module _ {U G C : Type 0} (views : G → ClientParts → C → GlobalParts → Bool) where
   -- a run over the transport by script stands for one of calls over it, with changes of a client's transport
-  pub run_of_calls : (before : ServerState Script U G C) (run : List (Entry Script U G C)) (after : ServerState Script U G C) → Leads (over_scripts views) before run after
+  pub run_of_calls : (before : ServerState Script U G C) (run : List (Entry Script U G C)) (after : ServerState Script U G C)
+      → Leads (over_scripts views) before run after
       → (others : List (Entry Script U G C)) × EachStandsFor run others × Leads (by_script views) before others after
   run_of_calls before [] after same = ([], refl, same)
   run_of_calls before (e ∷ run) after (mid, one, leads) =

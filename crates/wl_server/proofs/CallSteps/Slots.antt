@@ -67,9 +67,11 @@ module _ {T U C : Type 0} where
   slot_within clients id some = grind (arith, slice_get, is_some, slice_get_within, slice_get clients id.slot)
 
   -- what was read at the slot of a stored client is the client
-  pub slot_reads : (clients : List (Option (Stored T U C))) (id : ClientParts) (n : ℕ) (x : Option (Stored T U C)) → is_some (client_at id clients) ≡ true
+  pub slot_reads : (clients : List (Option (Stored T U C))) (id : ClientParts) (n : ℕ) (x : Option (Stored T U C))
+      → is_some (client_at id clients) ≡ true
       → n ≡ id.slot → x ≡ slice_index_or clients n x → x ≡ client_at id clients
-  slot_reads clients id n x some at value = grind (arith, client_at, if_serial, option_map_or, slice_get_read, slot_within, slice_index_or, is_some, false≢true)
+  slot_reads clients id n x some at value =
+      grind (arith, client_at, if_serial, option_map_or, slice_get_read, slot_within, slice_index_or, is_some, false≢true)
 
   -- the client of an id is at its slot, under its serial
   pub slot_of_client : (clients : List (Option (Stored T U C))) (id : ClientParts) (s : Stored T U C) → Some s ≡ client_at id clients
@@ -86,8 +88,10 @@ module _ {T U C : Type 0} where
 
   -- ---- a step of one client
 
-  pub on_part : (gathered : List (Happening U)) (s s' : Stored T U C) (R : Part T U C → List (Deed U) → Part T U C → Type 0) (missing : Type 0) (lacked : Bool)
-      (did : List (Deed U)) (q : Part T U C) → R s.part did q → untimed s' ≡ record { serial = s.serial; part = q; made = s.made ++ notes_in did; times = no_times }
+  pub on_part : (gathered : List (Happening U)) (s s' : Stored T U C) (R : Part T U C → List (Deed U) → Part T U C → Type 0) (missing : Type 0)
+      (lacked : Bool)
+      (did : List (Deed U)) (q : Part T U C) → R s.part did q
+      → untimed s' ≡ record { serial = s.serial; part = q; made = s.made ++ notes_in did; times = no_times }
       → OnPart (seen_as gathered (Some s)) (λ p q. R p did q) missing lacked did (seen_as gathered (Some s'))
   on_part gathered s s' R missing lacked did q does is = (
     q,
@@ -113,7 +117,8 @@ module _ {T U C : Type 0} where
       → DoneFor target R missing lacked did id (held_of notes clients id) (held_of notes (slice_set clients target.slot (Some s')) id)
   each_set clients notes target s s' R missing lacked did q here known does is id = at (same_client target id) refl
     where
-      meant : DoneFor target R missing lacked did target (held_of notes clients target) (held_of notes (slice_set clients target.slot (Some s')) target)
+      meant : DoneFor target R missing lacked did target (held_of notes clients target)
+          (held_of notes (slice_set clients target.slot (Some s')) target)
       meant = rw (
         same_self target,
         client_present target clients s here known,

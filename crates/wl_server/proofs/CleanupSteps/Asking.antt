@@ -29,27 +29,32 @@ module _ {T U C : Type 0} where
   pub none_leaving : (waits : Bool) (clients : List (Option (Stored T U C))) → count_leaving waits clients ≤ 0 → AllLeft waits clients
   none_leaving waits clients none slot x here = nil_from_length (to_gather waits x) (omega (arith, count_at waits clients slot x here, none))
 
-  pub none_ends : (n : ℕ) (clients : List (Option (Stored T U C))) → length (collected given_at n clients) ≤ 0 → length (collected ends_at n clients) ≤ 0
+  pub none_ends : (n : ℕ) (clients : List (Option (Stored T U C))) → length (collected given_at n clients) ≤ 0
+      → length (collected ends_at n clients) ≤ 0
   none_ends n [] none = none
   none_ends n (None ∷ clients) none = none_ends (n + 1) clients none
   none_ends n (Some s ∷ clients) none = grind (arith, none_ends (n + 1) clients)
 
   -- ---- who asks
 
-  later : {R : Stored T U C → Type 0} (x : Option (Stored T U C)) (clients : List (Option (Stored T U C))) → SomeClient clients R → SomeClient (x ∷ clients) R
+  later : {R : Stored T U C → Type 0} (x : Option (Stored T U C)) (clients : List (Option (Stored T U C))) → SomeClient clients R
+      → SomeClient (x ∷ clients) R
   later x clients (slot, s, here, is) = (suc slot, s, here, is)
 
-  pub one_leaves : (waits : Bool) (clients : List (Option (Stored T U C))) → 0 < count_leaving waits clients → SomeClient clients (λ s. to_gather waits (Some s) ≢ [])
+  pub one_leaves : (waits : Bool) (clients : List (Option (Stored T U C))) → 0 < count_leaving waits clients
+      → SomeClient clients (λ s. to_gather waits (Some s) ≢ [])
   one_leaves waits [] more = absurd (omega (arith, more))
   one_leaves waits (None ∷ clients) more = later None clients (one_leaves waits clients (omega (arith, more)))
   one_leaves waits (Some s ∷ clients) more = at (to_gather waits (Some s)) refl (one_leaves waits clients)
     where
-      at : (told : List (Happening U)) → to_gather waits (Some s) ≡ told → (0 < count_leaving waits clients → SomeClient clients (λ s. to_gather waits (Some s) ≢ []))
+      at : (told : List (Happening U)) → to_gather waits (Some s) ≡ told
+          → (0 < count_leaving waits clients → SomeClient clients (λ s. to_gather waits (Some s) ≢ []))
           → SomeClient (Some s ∷ clients) (λ s. to_gather waits (Some s) ≢ [])
       at [] none rest = later (Some s) clients (rest (omega (arith, more, ap length none)))
       at (h ∷ told) is rest = (0, s, refl, λ none. (cc))
 
-  one_is_killed : (n : ℕ) (clients : List (Option (Stored T U C))) → 0 < length (collected given_at n clients) → SomeClient clients (λ s. s.part.is_killed ≡ true)
+  one_is_killed : (n : ℕ) (clients : List (Option (Stored T U C))) → 0 < length (collected given_at n clients)
+      → SomeClient clients (λ s. s.part.is_killed ≡ true)
   one_is_killed n [] more = absurd (omega (arith, more))
   one_is_killed n (None ∷ clients) more = later None clients (one_is_killed (n + 1) clients more)
   one_is_killed n (Some s ∷ clients) more = at s.part.is_killed refl (one_is_killed (n + 1) clients)

@@ -41,12 +41,14 @@ module _ {T U G C : Type 0} (w : World T G C) (id : ClientParts) (offer : Offer 
   abbrev pub CleanedBy : Option (Stored T U C) → List (Happening U) → Bool → Option (Stored T U C) → List (Happening U) → Type 0
   CleanedBy before n lacked after n' = (did : List (Deed U)) × CleanedAs w id offer (Ok out) (seen_as n before) lacked did (seen_as n' after)
 
-  killed_cleaned : (s : Stored T U C) (link : LinkState T) (answer : Result (Unit {0}) IoFault) (lacked : Bool) (sent : List (Deed U)) (n n2 n3 : List (Happening U)) → s.part.is_killed ≡ true
+  killed_cleaned : (s : Stored T U C) (link : LinkState T) (answer : Result (Unit {0}) IoFault) (lacked : Bool) (sent : List (Deed U))
+      (n n2 n3 : List (Happening U)) → s.part.is_killed ≡ true
       → FlushedTo w.sends s.part answer lacked sent (with_link s.part link) → notes_in sent ≡ [] → n2 ≡ n ++ (s.made ++ s.part.waiting)
       → n3 ≡ n2 ++ ends_of id (entries s.part.store.objects) → share_of id out.items ≡ link.transport ∷ [] → CleanedBy (Some s) n lacked None n3
   killed_cleaned s link answer lacked sent n n2 n3 killed flushed quiet gathered noted given =
       let did : List (Deed U) = map Noted s.part.waiting ++ (objects_leave id (entries s.part.store.objects) ++ sent) in
-      let told : notes_in did ≡ s.part.waiting ++ (ends_of id (entries s.part.store.objects) ++ notes_in sent) = grind (arith, notes_append, map, objects_leave, entries, notes_in, noted_notes, leave_notes)
+      let told : notes_in did ≡ s.part.waiting ++ (ends_of id (entries s.part.store.objects)
+      ++ notes_in sent) = grind (arith, notes_append, map, objects_leave, entries, notes_in, noted_notes, leave_notes)
       in (
         did,
         (
@@ -56,7 +58,8 @@ module _ {T U G C : Type 0} (w : World T G C) (id : ClientParts) (offer : Offer 
         ),
       )
 
-  live_cleaned : (s s' : Stored T U C) (n n2 n3 : List (Happening U)) → s.part.is_killed ≡ false → s'.part ≡ record s.part { waiting = [] } → s'.made ≡ []
+  live_cleaned : (s s' : Stored T U C) (n n2 n3 : List (Happening U)) → s.part.is_killed ≡ false → s'.part ≡ record s.part { waiting = [] }
+      → s'.made ≡ []
       → n2 ≡ n ++ (s.made ++ s.part.waiting) → n3 ≡ n2 ++ [] → share_of id out.items ≡ [] → CleanedBy (Some s) n false (Some s') n3
   live_cleaned s s' n n2 n3 live part made gathered noted given =
       let told : n3 ++ s'.made ≡ (n ++ s.made) ++ notes_in (map Noted s.part.waiting) = grind (arith, append-nil, append_assoc, noted_notes)
@@ -66,13 +69,16 @@ module _ {T U G C : Type 0} (w : World T G C) (id : ClientParts) (offer : Offer 
   left_is None none = refl
   left_is (Some s) none = grind (arith, both_none s.made s.part.waiting none)
 
-  cleaned_from : (s s1 : Stored T U C) (lacked : Bool) (sent : List (Deed U)) (n n2 n3 : List (Happening U)) → FlushesKilled w.sends s.part lacked sent s1.part → s1.made ≡ s.made ++ notes_in sent
-      → n2 ++ [] ≡ n ++ (s1.made ++ s1.part.waiting) → n3 ≡ n2 ++ ends_in id (Some (emptied true s1)) → share_of id out.items ≡ given_in (Some (emptied true s1))
+  cleaned_from : (s s1 : Stored T U C) (lacked : Bool) (sent : List (Deed U)) (n n2 n3 : List (Happening U))
+      → FlushesKilled w.sends s.part lacked sent s1.part → s1.made ≡ s.made ++ notes_in sent
+      → n2 ++ [] ≡ n ++ (s1.made ++ s1.part.waiting) → n3 ≡ n2 ++ ends_in id (Some (emptied true s1))
+      → share_of id out.items ≡ given_in (Some (emptied true s1))
       → CleanedBy (Some s) n lacked (staying (Some (emptied true s1))) n3
   cleaned_from s s1 lacked sent n n2 n3 flushes made gathered noted given = at s.part.is_killed refl flushes
     where
       at : (b : Bool) → s.part.is_killed ≡ b
-          → MatchBool b ((answer : Result (Unit {0}) IoFault) × FlushedTo w.sends s.part answer lacked sent s1.part) ((lacked ≡ false) × (sent ≡ []) × (s1.part ≡ s.part))
+          → MatchBool b ((answer : Result (Unit {0}) IoFault) × FlushedTo w.sends s.part answer lacked sent s1.part)
+          ((lacked ≡ false) × (sent ≡ []) × (s1.part ≡ s.part))
           → CleanedBy (Some s) n lacked (staying (Some (emptied true s1))) n3
       at true killed (answer, (es, link, by, lack, sends, is)) =
           grind (arith, append-nil, notes_of_sends {U = U} es, killed_cleaned s link answer lacked sent n n2 n3 killed (es, link, by, lack, sends, refl))
@@ -83,7 +89,8 @@ module _ {T U G C : Type 0} (w : World T G C) (id : ClientParts) (offer : Offer 
       → Feels (seen_as [] x0) (λ p q. FlushesKilled w.sends p lacked sent q) lacked sent (seen_as [] x1)
       → option_map (emptied true) x2 ≡ option_map (emptied true) x1 → to_gather true x2 ≡ [] → n2 ++ to_gather true x2 ≡ n ++ to_gather true x1
       → n3 ≡ n2 ++ ends_in id x2 → share_of id out.items ≡ given_in x2 → CleanedBy x0 n lacked (staying x2) n3
-  cleaned_one x0 x1 x2 lacked sent n n2 n3 felt same none told noted given = grind (arith, seen_as, untimed, staying, is, at, none, told, noted1, given)
+  cleaned_one x0 x1 x2 lacked sent n n2 n3 felt same none told noted given =
+      grind (arith, seen_as, untimed, staying, is, at, none, told, noted1, given)
     where
       is : option_map untimed x2 ≡ option_map (emptied true) x1
       is = left_is x2 none ∙ same
@@ -92,7 +99,8 @@ module _ {T U G C : Type 0} (w : World T G C) (id : ClientParts) (offer : Offer 
       noted1 = noted ∙ ap (λ (l : List (Happening U)). n2 ++ l) (grind (arith)) ∙ ap (λ (x : Option (Stored T U C)). n2 ++ ends_in id x) is
 
       at : (x0 x1 : Option (Stored T U C)) → Feels (seen_as [] x0) (λ p q. FlushesKilled w.sends p lacked sent q) lacked sent (seen_as [] x1)
-          → n2 ++ [] ≡ n ++ to_gather true x1 → n3 ≡ n2 ++ ends_in id (option_map (emptied true) x1) → share_of id out.items ≡ given_in (option_map (emptied true) x1)
+          → n2 ++ [] ≡ n ++ to_gather true x1 → n3 ≡ n2 ++ ends_in id (option_map (emptied true) x1)
+          → share_of id out.items ≡ given_in (option_map (emptied true) x1)
           → CleanedBy x0 n lacked (staying (option_map (emptied true) x1)) n3
       at (Some s) (Some s1) (q, flushes, now) told noted given =
           cleaned_from s s1 lacked sent n n2 n3

@@ -37,8 +37,10 @@ module _ {T U G C : Type 0} (w : World T G C) (before : ServerState T U G C) whe
   abbrev flush : Kind T U C
   flush id p lacked did q = FlushesKilled w.sends p lacked did q
 
-  pub cleaned_up : {was : Bool} (refused : Bool) (clients' : List (Option (Stored T U C))) (notes' : List (Note U)) (out : Vec (ClientParts × T) Global) (given : List (ClientParts × T)) → out.items ≡ given
-      → CleansUp w.sends before.clients before.notes refused clients' notes' given → (numbers' : NoteNumbers) → AllTakeFirst (map times_of before.clients) (map times_of clients')
+  pub cleaned_up : {was : Bool} (refused : Bool) (clients' : List (Option (Stored T U C))) (notes' : List (Note U))
+      (out : Vec (ClientParts × T) Global) (given : List (ClientParts × T)) → out.items ≡ given
+      → CleansUp w.sends before.clients before.notes refused clients' notes' given → (numbers' : NoteNumbers)
+      → AllTakeFirst (map times_of before.clients) (map times_of clients')
       → NoneWaits (map times_of clients') → AllNumbered clients' → numbers' ≡ record before.numbers { waiting = 0 }
       → Calls w (record { server = before; refused = was }) step.Cleanup (reply.Cleanup (Ok out))
       (record { server = record before { clients = clients'; notes = notes'; numbers = numbers' }; refused = refused })
@@ -62,7 +64,8 @@ module _ {T U G C : Type 0} (w : World T G C) (before : ServerState T U G C) whe
       lacked : ClientParts → Bool
       lacked id = lacks_of flush refused before.clients by.flushed by.flushes id
 
-      one : (id : ClientParts) → CleanedBy w id before.offer out (client_at id before.clients) (notes_of id before.notes) (lacked id) (client_at id clients') (notes_of id notes')
+      one : (id : ClientParts) → CleanedBy w id before.offer out (client_at id before.clients) (notes_of id before.notes) (lacked id)
+          (client_at id clients') (notes_of id notes')
       one id =
           let (sent, felt) = each_felt flush refused before.clients by.flushed by.flushes [] id in
           rw (ap (client_at id) by.stay ∙ staying_for id by.left)
@@ -84,5 +87,6 @@ module _ {T U G C : Type 0} (w : World T G C) (before : ServerState T U G C) whe
 
   pub cleanup_starved : {was : Bool} (e : OutOfMemory) (notes' : List (Note U)) → notes' ≡ before.notes
       → 0 < count_leaving true before.clients + length (collected given_at 0 before.clients) → AllNumbered before.clients
-      → Calls w (record { server = before; refused = was }) step.Cleanup (reply.Cleanup (Err e)) (record { server = record before { notes = notes' }; refused = true })
+      → Calls w (record { server = before; refused = was }) step.Cleanup (reply.Cleanup (Err e))
+      (record { server = record before { notes = notes' }; refused = true })
   cleanup_starved e notes' same some all = calls _ _ _ _ _ (rw same (not_cleaned e some all))

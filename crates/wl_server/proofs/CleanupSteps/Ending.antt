@@ -10,10 +10,12 @@ use Rattle.wl_server.proofs.CleanupSteps.Outgoing.{ending_length}
 
 module _ {U : Type 0} where
   -- what is known before these objects leave: what is noted in all, and that there is room for it
-  pub record Ending (client : ClientParts) (notes : List (Note U)) (objects : List (ℕ × Object (Kept U))) (total : List (Note U)) (room : ℕ) : Type 0 where
+  pub record Ending (client : ClientParts) (notes : List (Note U)) (objects : List (ℕ × Object (Kept U))) (total : List (Note U))
+      (room : ℕ) : Type 0 where
     pub noted : notes ++ map (note_of client) (ends_of client objects) ≡ total
     pub fits : length notes + length (ends_of client objects) ≤ room
 
-  pub ending_begins : (client : ClientParts) (notes : List (Note U)) (objects : List (ℕ × Object (Kept U))) (n room : ℕ) → n ≡ length notes → n + length (with_data objects) ≤ room
+  pub ending_begins : (client : ClientParts) (notes : List (Note U)) (objects : List (ℕ × Object (Kept U))) (n room : ℕ) → n ≡ length notes
+      → n + length (with_data objects) ≤ room
       → Ending client notes objects (notes ++ map (note_of client) (ends_of client objects)) room
   ending_begins client notes objects n room is fits = grind (arith, ending_length)

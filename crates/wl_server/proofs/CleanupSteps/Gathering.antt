@@ -20,11 +20,13 @@ module _ {U : Type 0} where
   pub notes_append : (id : ClientParts) (a b : List (Note U)) → notes_of id (a ++ b) ≡ notes_of id a ++ notes_of id b
   notes_append id a b = flat_map-append (told_of id) a b
 
-  pub notes_same : (target id : ClientParts) (told : List (Happening U)) → same_client target id ≡ true → notes_of id (map (note_of target) told) ≡ told
+  pub notes_same : (target id : ClientParts) (told : List (Happening U)) → same_client target id ≡ true
+      → notes_of id (map (note_of target) told) ≡ told
   notes_same target id [] same = refl
   notes_same target id (h ∷ told) same = grind (arith, notes_of, note_of, notes_same target id told same)
 
-  pub notes_other : (target id : ClientParts) (told : List (Happening U)) → same_client target id ≡ false → notes_of id (map (note_of target) told) ≡ []
+  pub notes_other : (target id : ClientParts) (told : List (Happening U)) → same_client target id ≡ false
+      → notes_of id (map (note_of target) told) ≡ []
   notes_other target id [] other = refl
   notes_other target id (h ∷ told) other = grind (arith, notes_of, map, note_of, notes_other target id told other)
 
@@ -76,7 +78,8 @@ module _ {T U C : Type 0} (waits : Bool) where
   ToldOf clients notes clients' notes' id =
       notes_of id notes' ++ to_gather waits (client_at id clients') ≡ notes_of id notes ++ to_gather waits (client_at id clients)
 
-  told_at : (clients : List (Option (Stored T U C))) (notes notes' : List (Note U)) (slot : ℕ) (x x' : Option (Stored T U C)) → slice_get clients slot ≡ Some x
+  told_at : (clients : List (Option (Stored T U C))) (notes notes' : List (Note U)) (slot : ℕ) (x x' : Option (Stored T U C))
+      → slice_get clients slot ≡ Some x
       → MovesNote waits slot x notes x' notes' → (id : ClientParts) → ToldOf clients notes (slice_set clients slot x') notes' id
   told_at clients notes notes' slot None None here (h, left, rest, is) id = grind (arith, notes_of, client_at, set_itself, append-nil)
   told_at clients notes notes' slot None (Some s') here (h, left, rest, is) id = absurd (none-some (emptied waits s') (sym rest))
@@ -96,11 +99,14 @@ module _ {T U C : Type 0} (waits : Bool) where
       now = grind (arith, notes_append id notes (map (note_of target) (h ∷ [])))
 
       at : (b : Bool) → same_client target id ≡ b → ToldOf clients notes clients' notes' id
-      at true same = grind (arith, now, notes_same target id (h ∷ []) same, append_assoc, client_present, same_is target id same, get_set_same, here, serial)
-      at false other = grind (arith, now, notes_other target id (h ∷ []) other, append-nil, client_other clients target id s s' here serial refl other)
+      at true same =
+          grind (arith, now, notes_same target id (h ∷ []) same, append_assoc, client_present, same_is target id same, get_set_same, here, serial)
+      at false other =
+          grind (arith, now, notes_other target id (h ∷ []) other, append-nil, client_other clients target id s s' here serial refl other)
 
   -- a note of the client of one slot was moved
-  pub gathers_at : (clients : List (Option (Stored T U C))) (notes notes' : List (Note U)) (slot : ℕ) (x x' : Option (Stored T U C)) → slice_get clients slot ≡ Some x
+  pub gathers_at : (clients : List (Option (Stored T U C))) (notes notes' : List (Note U)) (slot : ℕ) (x x' : Option (Stored T U C))
+      → slice_get clients slot ≡ Some x
       → MovesNote waits slot x notes x' notes' → Gathers waits clients notes (slice_set clients slot x') notes'
   gathers_at clients notes notes' slot x x' here (h, left, rest, is) = record {
     rest = map_set (option_map (emptied waits)) clients slot x x' here rest;

@@ -13,12 +13,14 @@ use Rattle.wl_server.proofs.CallSteps.Feeling.{none_feels}
 
 module _ {T U C : Type 0} where
   -- no client is killed
-  live_at : (clients : List (Option (Stored T U C))) (slot : ℕ) (s : Stored T U C) → length (collected given_at 0 clients) ≤ 0 → slice_get clients slot ≡ Some (Some s)
+  live_at : (clients : List (Option (Stored T U C))) (slot : ℕ) (s : Stored T U C) → length (collected given_at 0 clients) ≤ 0
+      → slice_get clients slot ≡ Some (Some s)
       → s.part.is_killed ≡ false
   live_at clients slot s none here = grind (arith, part_length given_at 0 slot slot clients (Some s) (omega arith) here, s.part.is_killed)
 
   -- so none is flushed
-  pub none_flushed : (sends : T → Queue → Result ℕ IoFault → T → Type 0) (clients : List (Option (Stored T U C))) → length (collected given_at 0 clients) ≤ 0
+  pub none_flushed : (sends : T → Queue → Result ℕ IoFault → T → Type 0) (clients : List (Option (Stored T U C)))
+      → length (collected given_at 0 clients) ≤ 0
       → AllFeel (λ id p lacked did q. FlushesKilled sends p lacked did q) false (length clients) clients clients
   none_flushed sends clients none = none_feels (λ id p lacked did q. FlushesKilled sends p lacked did q) (length clients) clients each
     where

@@ -41,13 +41,16 @@ module _ {U : Type 0} where
 module _ {T U C : Type 0} where
   -- ---- what waits for a killed client
 
-  pub not_killed : (sends : T → Queue → Result ℕ IoFault → T → Type 0) (s : Stored T U C) → s.part.is_killed ≡ false → Does s (λ p did q. FlushesKilled sends p false did q) s
+  pub not_killed : (sends : T → Queue → Result ℕ IoFault → T → Type 0) (s : Stored T U C) → s.part.is_killed ≡ false
+      → Does s (λ p did q. FlushesKilled sends p false did q) s
   not_killed sends s live = does_quietly s (λ p did q. FlushesKilled sends p false did q) s.part (at_false _ s.part.is_killed live (refl, refl, refl))
 
-  pub flushes_where : (sends : T → Queue → Result ℕ IoFault → T → Type 0) (killed : Bool) (s s' : Stored T U C) (answer : Result (Unit {0}) IoFault) (lacked : Bool)
+  pub flushes_where : (sends : T → Queue → Result ℕ IoFault → T → Type 0) (killed : Bool) (s s' : Stored T U C) (answer : Result (Unit {0}) IoFault)
+      (lacked : Bool)
       → s.part.is_killed ≡ killed → lacked ≡ lacks_memory answer → Does s (λ p did q. FlushedTo sends p answer (lacks_memory answer) did q) s'
       → Does s (λ p did q. Flushes sends killed p lacked did q) s'
-  flushes_where sends true s s' answer lacked is refused (did, q, flushed, so) = (did, q, at_true _ s.part.is_killed is (answer, rw refused flushed), so)
+  flushes_where sends true s s' answer lacked is refused (did, q, flushed, so) =
+      (did, q, at_true _ s.part.is_killed is (answer, rw refused flushed), so)
   flushes_where sends false s s' answer lacked is refused flushed = live_flushed sends s s' answer lacked is refused flushed
 
   pub not_flushed : (sends : T → Queue → Result ℕ IoFault → T → Type 0) (killed : Bool) (s : Stored T U C) → (s.part.is_killed ≡ killed → ⊥)
@@ -74,22 +77,26 @@ module _ {T U C : Type 0} where
   collected_long give k clients x here = ap (λ l. length (collected give k l)) (rest_at clients k x here) ∙ length-append (give k x)
       (collected give (k + 1) (drop (k + 1) clients))
 
-  pub part_length : {A : Type 0} (give : ℕ → Option (Stored T U C) → List A) (n slot k : ℕ) (clients : List (Option (Stored T U C))) (x : Option (Stored T U C)) → slot ≡ n + k
+  pub part_length : {A : Type 0} (give : ℕ → Option (Stored T U C) → List A) (n slot k : ℕ) (clients : List (Option (Stored T U C)))
+      (x : Option (Stored T U C)) → slot ≡ n + k
       → slice_get clients k ≡ Some x → length (give slot x) ≤ length (collected give n clients)
   part_length give n slot k [] x at here = absurd (none-some x here)
   part_length give n slot zero (z ∷ clients) x at here = grind (arith, length, same_Some, length-append, collected)
   part_length give n slot (suc k) (z ∷ clients) x at here = grind (arith, length-append, collected, part_length give (n + 1) slot k clients x)
 
   -- the killed ones of the slots below this one have left, and the others are as they were
-  pub record Leave (slot : ℕ) (start now : List (Option (Stored T U C))) (notes notes' : List (Note U)) (given given' : List (ClientParts × T)) : Type 0 where
+  pub record Leave (slot : ℕ) (start now : List (Option (Stored T U C))) (notes notes' : List (Note U))
+      (given given' : List (ClientParts × T)) : Type 0 where
     pub same : all_staying now ≡ all_staying start
     pub rest : (k : ℕ) → slot ≤ k → slice_get now k ≡ slice_get start k
     pub left : (k : ℕ) (x : Option (Stored T U C)) → k < slot → slice_get now k ≡ Some x → staying x ≡ x
     pub noted : notes' ++ collected ends_at slot (drop slot start) ≡ notes ++ collected ends_at 0 start
     pub gave : given' ++ collected given_at slot (drop slot start) ≡ given ++ collected given_at 0 start
 
-  pub leave_one : (slot : ℕ) (start now : List (Option (Stored T U C))) (notes notes' notes'' : List (Note U)) (given given' given'' : List (ClientParts × T)) (x x' : Option (Stored T U C))
-      → Leave slot start now notes notes' given given' → slice_get now slot ≡ Some x → x' ≡ staying x → notes'' ≡ notes' ++ ends_at slot x → given'' ≡ given' ++ given_at slot x
+  pub leave_one : (slot : ℕ) (start now : List (Option (Stored T U C))) (notes notes' notes'' : List (Note U))
+      (given given' given'' : List (ClientParts × T)) (x x' : Option (Stored T U C))
+      → Leave slot start now notes notes' given given' → slice_get now slot ≡ Some x → x' ≡ staying x → notes'' ≡ notes' ++ ends_at slot x
+      → given'' ≡ given' ++ given_at slot x
       → Leave (slot + 1) start (slice_set now slot x') notes notes'' given given''
   leave_one slot start now notes notes' notes'' given given' given'' x x' before here stays noted gave = record {
     same = map_set staying now slot x x' here (ap staying stays ∙ (grind (arith, staying))) ∙ before.same;
@@ -100,16 +107,20 @@ module _ {T U C : Type 0} where
   }
 
   -- there is room for what the next one leaves
-  pub leave_room : {A : Type 0} (give : ℕ → Option (Stored T U C) → List A) (slot : ℕ) (start : List (Option (Stored T U C))) (has has' : List A) (x : Option (Stored T U C)) (n n' room room' : ℕ)
-      → has' ++ collected give slot (drop slot start) ≡ has ++ collected give 0 start → slice_get start slot ≡ Some x → n ≡ length has → n' ≡ length has'
+  pub leave_room : {A : Type 0} (give : ℕ → Option (Stored T U C) → List A) (slot : ℕ) (start : List (Option (Stored T U C))) (has has' : List A)
+      (x : Option (Stored T U C)) (n n' room room' : ℕ)
+      → has' ++ collected give slot (drop slot start) ≡ has ++ collected give 0 start → slice_get start slot ≡ Some x → n ≡ length has
+      → n' ≡ length has'
       → n + length (collected give 0 start) ≤ room → room' ≡ room → n' + length (give slot x) ≤ room'
   leave_room give slot start has has' x n n' room room' are here is is' fits same = grind
       (arith, length-append, ap length are, collected_long give slot start x here)
 
-  pub leave_ends : (slot : ℕ) (start now : List (Option (Stored T U C))) (notes notes' : List (Note U)) (given given' : List (ClientParts × T)) → Leave slot start now notes notes' given given'
+  pub leave_ends : (slot : ℕ) (start now : List (Option (Stored T U C))) (notes notes' : List (Note U)) (given given' : List (ClientParts × T))
+      → Leave slot start now notes notes' given given'
       → length start ≤ slot → length now ≡ length start
       → (now ≡ all_staying start) × (notes' ≡ notes ++ collected ends_at 0 start) × (given' ≡ given ++ collected given_at 0 start)
-  leave_ends slot start now notes notes' given given' before past len = grind (arith, map_itself, staying, slice_get_within, append-nil, collected, ends_at, drop_all, given_at)
+  leave_ends slot start now notes notes' given given' before past len =
+      grind (arith, map_itself, staying, slice_get_within, append-nil, collected, ends_at, drop_all, given_at)
 
 -- ---- the notes of ends are in the order of the slots
 
@@ -122,7 +133,8 @@ noted_rise : {U : Type 0} (slot : ℕ) (id : ClientParts) (hs : List (Happening 
 noted_rise slot id [] rest is rise = rise
 noted_rise slot id (h ∷ hs) rest is rise = grind (arith, note_of, noted_rise slot id hs rest is rise)
 
-pub ends_rise : {T U C : Type 0} (low slot : ℕ) (clients : List (Option (Stored T U C))) → low ≤ slot → RiseFromSlot low (collected ends_at slot clients)
+pub ends_rise : {T U C : Type 0} (low slot : ℕ) (clients : List (Option (Stored T U C))) → low ≤ slot
+    → RiseFromSlot low (collected ends_at slot clients)
 ends_rise low slot [] less = tt
 ends_rise low slot (None ∷ clients) less = ends_rise low (slot + 1) clients (omega (arith, less))
 ends_rise low slot (Some s ∷ clients) less =

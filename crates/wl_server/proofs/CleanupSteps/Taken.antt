@@ -27,7 +27,8 @@ module _ {T U C : Type 0} where
       → slice_get clients slot ≡ Some x → is_some x ≡ true → AreTaken (slot + 1) clients
   unfolding AreTaken
   one_more_taken clients slot x taken here some =
-      below_more (λ k. IsSome (stored_at k clients)) slot taken (ap (λ (o : Option (Option (Stored T U C))). is_some (option_map_or (λ s. s) o None)) here ∙ some)
+      below_more (λ k. IsSome (stored_at k clients)) slot taken
+      (ap (λ (o : Option (Option (Stored T U C))). is_some (option_map_or (λ s. s) o None)) here ∙ some)
 
   pub taken_less : (m n : ℕ) (clients : List (Option (Stored T U C))) → m ≤ n → AreTaken n clients → AreTaken m clients
   unfolding AreTaken
@@ -35,15 +36,18 @@ module _ {T U C : Type 0} where
 
   -- ---- where one client is written
 
-  pub taken_set : (n i : ℕ) (clients : List (Option (Stored T U C))) (s : Stored T U C) → AreTaken n clients → AreTaken n (slice_set clients i (Some s))
+  pub taken_set : (n i : ℕ) (clients : List (Option (Stored T U C))) (s : Stored T U C) → AreTaken n clients
+      → AreTaken n (slice_set clients i (Some s))
   unfolding AreTaken
   taken_set n i clients s taken k below = grind (arith, taken k below, get_set_same, get_set_other, other_of, k == i, slice_get clients i)
 
-  pub slots_set : (count n i : ℕ) (clients : List (Option (Stored T U C))) (s : Stored T U C) → HasSlots count n clients → HasSlots count n (slice_set clients i (Some s))
+  pub slots_set : (count n i : ℕ) (clients : List (Option (Stored T U C))) (s : Stored T U C) → HasSlots count n clients
+      → HasSlots count n (slice_set clients i (Some s))
   slots_set count n i clients s has = record { within = has.within; taken = taken_set n i clients s has.taken }
 
   -- a new client is put at the least free slot
-  pub taken_put : (slot : ℕ) (clients clients' : List (Option (Stored T U C))) (s : Stored T U C) → IsLeastFree clients slot → IsPut clients slot s clients'
+  pub taken_put : (slot : ℕ) (clients clients' : List (Option (Stored T U C))) (s : Stored T U C) → IsLeastFree clients slot
+      → IsPut clients slot s clients'
       → AreTaken (slot + 1) clients'
   unfolding AreTaken
   taken_put slot clients clients' s free (here, others) = grind (arith, below_more, is_some)

@@ -44,6 +44,8 @@ reached_both {T} {U} {G} {C} {w} {id} {before} {mid} {after} one two = record {
 }
 
 -- and one more call
-pub reached_then : {T U G C : Type 0} {w : World T G C} {id : ClientParts} {begun : ServerState T U G C} {before after : BackendState T U G C} {s : Step T U G C} {answer : Reply T U}
-    → Reached w id begun before.server → Calls w before s answer after → spares {T = T} {U = U} {G = G} {C = C} id (Asked s answer) ≡ true → Reached w id begun after.server
+pub reached_then : {T U G C : Type 0} {w : World T G C} {id : ClientParts} {begun : ServerState T U G C} {before after : BackendState T U G C}
+    {s : Step T U G C} {answer : Reply T U}
+    → Reached w id begun before.server → Calls w before s answer after → spares {T = T} {U = U} {G = G} {C = C} id (Asked s answer) ≡ true
+    → Reached w id begun after.server
 reached_then so_far calls spared = reached_both so_far (reached_by calls spared)

@@ -28,9 +28,11 @@ use Rattle.wl_server.proofs.OverRuns.Alone.IsolationLaw.{join_runs}
 use Rattle.wl_server.proofs.OverRuns.Cut.CuttingLaws.{histories_cut}
 use Rattle.std.proofs.Math.Bool.{or-false, or_assoc}
 
-pub handles_by : {H T U G C : Type 0} (w : World T G C) (answers : Answering H T U G C) (id : ClientParts) (h h' : H) (before left after : BackendState T U G C)
+pub handles_by : {H T U G C : Type 0} (w : World T G C) (answers : Answering H T U G C) (id : ClientParts) (h h' : H)
+    (before left after : BackendState T U G C)
     (a : Action) (end : Step T U G C) (answer : Reply T U) → Answers w answers id h before a end h' left → Reached w id before.server left.server
-    → Calls w left end answer after → (run : List (Entry T U G C)) × Handles w answers id h before a run after.refused (refusal_in answer) h' after.server
+    → Calls w left end answer after → (run : List (Entry T U G C))
+    × Handles w answers id h before a run after.refused (refusal_in answer) h' after.server
 handles_by w answers id h h' before left after a end answer so reached calls =
     let (e, is, refused, one) = calls.step in (
       reached.run ++ (e ∷ []),
@@ -53,7 +55,8 @@ handles_by w answers id h h' before left after a end answer so reached calls =
 
 module _ {H T U G C : Type 0} (w : World T G C) (answers : Answering H T U G C) (id : ClientParts) where
   -- a reading that hands out an action, and what the handler made of that
-  round_by : (h h' : H) (r r' : Reading) (before found : BackendState T U G C) (after : ServerState T U G C) (a : Action) (lacked : Bool) (why : Option FinishError)
+  round_by : (h h' : H) (r r' : Reading) (before found : BackendState T U G C) (after : ServerState T U G C) (a : Action) (lacked : Bool)
+      (why : Option FinishError)
       → Calls w before (step.NextActionWithin id r) (reply.NextActionWithin (Ok a) r') found
       → (run : List (Entry T U G C)) × Handles w answers id h found a run lacked why h' after
       → (run : List (Entry T U G C)) × Round w answers id h r before.server run (found.refused || lacked) why h' r' after
@@ -81,8 +84,10 @@ module _ {H T U G C : Type 0} (w : World T G C) (answers : Answering H T U G C) 
   abbrev keeping : Bool → BackendState T U G C → BackendState T U G C
   keeping before left = record left { refused = before || left.refused }
 
-  pub serves_last : (h : H) (r r' : Reading) (before left : BackendState T U G C) (error : ActionError) (f : IoFault) (after : BackendState T U G C) (was : Bool)
-      → was ≡ before.refused → Calls w before (step.NextActionWithin id r) (reply.NextActionWithin (Err error) r') left → f ≡ fault_of_reading error → after ≡ keeping was left
+  pub serves_last : (h : H) (r r' : Reading) (before left : BackendState T U G C) (error : ActionError) (f : IoFault) (after : BackendState T U G C)
+      (was : Bool)
+      → was ≡ before.refused → Calls w before (step.NextActionWithin id r) (reply.NextActionWithin (Err error) r') left → f ≡ fault_of_reading error
+      → after ≡ keeping was left
       → MakesRound w answers id h r before (Some f) h r' after
   serves_last h r r' before left error f after was was_is calls is kept =
       let (e, call, refused, one) = calls.step in rw (kept, is) (record {
@@ -120,17 +125,21 @@ module _ {H T U G C : Type 0} (w : World T G C) (answers : Answering H T U G C) 
   -- ---- actions one after another
 
   rounds_join : (h h1 h' : H) (r r1 r' : Reading) (s s1 s' : ServerState T U G C) (first next : List (Entry T U G C)) (before now : Bool)
-      → Rounds w answers id h r s first before h1 r1 s1 → Rounds w answers id h1 r1 s1 next now h' r' s' → Rounds w answers id h r s (first ++ next) (before || now) h' r' s'
+      → Rounds w answers id h r s first before h1 r1 s1 → Rounds w answers id h1 r1 s1 next now h' r' s'
+      → Rounds w answers id h r s (first ++ next) (before || now) h' r' s'
   rounds_join h h1 h' r r1 r' s s1 s' first next before now one (none no_run unlacked) = grind (arith, append-nil, or-false)
-  rounds_join h h1 h' r r1 r' s s1 s' first next before now one (more {first = earlier} {next = last} {before = b} {now = c} others round run_is lacked_is) =
-      more (rounds_join h h1 _ r r1 _ s s1 _ first earlier before b one others) round (ap (λ (x : List (Entry T U G C)). first ++ x) run_is ∙ sym (append_assoc first earlier last))
+  rounds_join h h1 h' r r1 r' s s1 s' first next before now one
+      (more {first = earlier} {next = last} {before = b} {now = c} others round run_is lacked_is) =
+      more (rounds_join h h1 _ r r1 _ s s1 _ first earlier before b one others) round
+      (ap (λ (x : List (Entry T U G C)). first ++ x) run_is ∙ sym (append_assoc first earlier last))
       (ap (λ (x : Bool). before || x) lacked_is ∙ sym (or_assoc before b c))
 
   -- nothing yet
   pub so_far_none : (h : H) (r : Reading) (before : BackendState T U G C) → RoundsSoFar w answers id h r before h r before
   so_far_none h r before = record { run = []; lacked = false; rounds = none refl refl; refused = sym (or-false before.refused) }
 
-  pub so_far_more : {h h1 h' : H} {r r1 r' : Reading} {before mid after : BackendState T U G C} {end : Option IoFault} → RoundsSoFar w answers id h r before h1 r1 mid
+  pub so_far_more : {h h1 h' : H} {r r1 r' : Reading} {before mid after : BackendState T U G C} {end : Option IoFault}
+      → RoundsSoFar w answers id h r before h1 r1 mid
       → MakesRound w answers id h1 r1 mid end h' r' after → end ≡ None → RoundsSoFar w answers id h r before h' r' after
   so_far_more {h} {h1} {h'} {r} {r1} {r'} {before} {mid} {after} {end} so_far one is = record {
     run = so_far.run ++ one.run;
@@ -139,22 +148,27 @@ module _ {H T U G C : Type 0} (w : World T G C) (answers : Answering H T U G C) 
     refused = one.refused ∙ ap (λ (x : Bool). x || one.lacked) so_far.refused ∙ or_assoc before.refused so_far.lacked one.lacked;
   }
 
-  pub so_far_joins : {h h1 h' : H} {r r1 r' : Reading} {before mid after : BackendState T U G C} {end : Option IoFault} → RoundsSoFar w answers id h r before h1 r1 mid
+  pub so_far_joins : {h h1 h' : H} {r r1 r' : Reading} {before mid after : BackendState T U G C} {end : Option IoFault}
+      → RoundsSoFar w answers id h r before h1 r1 mid
       → MakesRounds w answers id h1 r1 mid end h' r' after → end ≡ None → RoundsSoFar w answers id h r before h' r' after
   so_far_joins {h} {h1} {h'} {r} {r1} {r'} {before} {mid} {after} {end} so_far some is = record {
     run = so_far.run ++ some.run;
     lacked = so_far.lacked || some.lacked;
-    rounds = rounds_join h h1 h' r r1 r' before.server mid.server after.server so_far.run some.run so_far.lacked some.lacked so_far.rounds (rw is at some.rounds);
+    rounds = rounds_join h h1 h' r r1 r' before.server mid.server after.server so_far.run some.run so_far.lacked some.lacked so_far.rounds
+        (rw is at some.rounds);
     refused = some.refused ∙ ap (λ (x : Bool). x || some.lacked) so_far.refused ∙ or_assoc before.refused so_far.lacked some.lacked;
   }
 
   -- a receive was used up
-  pub some_rounds : {h h' : H} {r r' : Reading} {before after : BackendState T U G C} → RoundsSoFar w answers id h r before h' r' after → r'.turns_left < r.turns_left
+  pub some_rounds : {h h' : H} {r r' : Reading} {before after : BackendState T U G C} → RoundsSoFar w answers id h r before h' r' after
+      → r'.turns_left < r.turns_left
       → MakesRounds w answers id h r before None h' r' after
-  some_rounds so_far fewer = record { run = so_far.run; lacked = so_far.lacked; rounds = so_far.rounds; refused = so_far.refused; fewer = λ is. fewer }
+  some_rounds so_far fewer =
+      record { run = so_far.run; lacked = so_far.lacked; rounds = so_far.rounds; refused = so_far.refused; fewer = λ is. fewer }
 
   -- a fault ended them
-  pub some_end : {h h1 h' : H} {r r1 r' : Reading} {before mid after : BackendState T U G C} {end : Option IoFault} (f : IoFault) → RoundsSoFar w answers id h r before h1 r1 mid
+  pub some_end : {h h1 h' : H} {r r1 r' : Reading} {before mid after : BackendState T U G C} {end : Option IoFault} (f : IoFault)
+      → RoundsSoFar w answers id h r before h1 r1 mid
       → MakesRound w answers id h1 r1 mid end h' r' after → end ≡ Some f → MakesRounds w answers id h r before (Some f) h' r' after
   some_end {h} {h1} {h'} {r} {r1} {r'} {before} {mid} {after} {end} f so_far one is = record {
     run = so_far.run ++ one.run;
@@ -176,8 +190,10 @@ module _ {H T U G C : Type 0} (w : World T G C) (answers : Answering H T U G C) 
     fewer = λ none. absurd (true≢false (ap is_some none));
   }
 
-  pub all_end : {h h1 h' : H} {r1 r' : Reading} {before mid after : BackendState T U G C} {end : Option IoFault} {answer : Result ℕ IoFault} (f : IoFault)
-      → RoundsSoFar w answers id h new_reading before h1 r1 mid → MakesRounds w answers id h1 r1 mid end h' r' after → end ≡ Some f → answer ≡ dispatched f r'.read
+  pub all_end : {h h1 h' : H} {r1 r' : Reading} {before mid after : BackendState T U G C} {end : Option IoFault} {answer : Result ℕ IoFault}
+      (f : IoFault)
+      → RoundsSoFar w answers id h new_reading before h1 r1 mid → MakesRounds w answers id h1 r1 mid end h' r' after → end ≡ Some f
+      → answer ≡ dispatched f r'.read
       → MakesAllRounds w answers id h before answer h' after
   all_end {h} {h1} {h'} {r1} {r'} {before} {mid} {after} {end} {answer} f so_far some is answered =
       let last : RoundsEnd w answers id h1 r1 mid.server some.run some.lacked f h' r' after.server = rw is at some.rounds in record {
@@ -207,11 +223,13 @@ module _ {H T U G C : Type 0} (w : World T G C) (answers : Answering H T U G C) 
 -- ---- that it is a run
 
 module _ {H T U G C : Type 0} (w : World T G C) (answers : Answering H T U G C) (id : ClientParts) where
-  handles_lead : {h h' : H} {before : BackendState T U G C} {a : Action} {run : List (Entry T U G C)} {lacked : Bool} {why : Option FinishError} {after : ServerState T U G C}
+  handles_lead : {h h' : H} {before : BackendState T U G C} {a : Action} {run : List (Entry T U G C)} {lacked : Bool} {why : Option FinishError}
+      {after : ServerState T U G C}
       → Handles w answers id h before a run lacked why h' after → Leads w before.server run after
   handles_lead x = rw x.run_is (join_runs w _ x.left.server _ x.calls (x.ended ∷ []) x.leads (_, x.ends, refl))
 
-  round_leads : {h h' : H} {r r' : Reading} {before : ServerState T U G C} {run : List (Entry T U G C)} {lacked : Bool} {why : Option FinishError} {after : ServerState T U G C}
+  round_leads : {h h' : H} {r r' : Reading} {before : ServerState T U G C} {run : List (Entry T U G C)} {lacked : Bool} {why : Option FinishError}
+      {after : ServerState T U G C}
       → Round w answers id h r before run lacked why h' r' after → Leads w before run after
   round_leads x = rw x.run_is (x.found.server, x.reads, handles_lead x.handles)
 
@@ -221,18 +239,21 @@ module _ {H T U G C : Type 0} (w : World T G C) (answers : Answering H T U G C) 
   rounds_lead (more {s1 = mid} {first = first} {next = next} rounds round run_is lacked_is) = rw run_is
       (join_runs w _ mid _ first next (rounds_lead rounds) (round_leads round))
 
-  last_leads : {h h' : H} {r r' : Reading} {before : ServerState T U G C} {run : List (Entry T U G C)} {lacked : Bool} {f : IoFault} {after : ServerState T U G C}
+  last_leads : {h h' : H} {r r' : Reading} {before : ServerState T U G C} {run : List (Entry T U G C)} {lacked : Bool} {f : IoFault}
+      {after : ServerState T U G C}
       → Last w answers id h r before run lacked f h' r' after → Leads w before run after
   last_leads (no_action e error one is run_is lacked_is fault_is same) = rw run_is (_, one, refl)
   last_leads (not_ended why round is) = round_leads round
 
-  serves_lead : {h h' : H} {before : ServerState T U G C} {run : List (Entry T U G C)} {lacked : Bool} {answer : Result ℕ IoFault} {after : ServerState T U G C}
+  serves_lead : {h h' : H} {before : ServerState T U G C} {run : List (Entry T U G C)} {lacked : Bool} {answer : Result ℕ IoFault}
+      {after : ServerState T U G C}
       → IsDispatched w answers id h before run lacked answer h' after → Leads w before run after
   serves_lead x =
       let s = x.rounds_end in rw s.run_is (join_runs w _ s.mid _ s.first s.last (rounds_lead s.rounds) (last_leads s.end))
 
 module _ {H T U G C : Type 0} (w : World T G C) (answers : Answering H T U G C) where
-  each_lead : {ids : List ClientParts} {h h' : H} {before : ServerState T U G C} {run : List (Entry T U G C)} {lacked : Bool} {total : ℕ} {after : ServerState T U G C}
+  each_lead : {ids : List ClientParts} {h h' : H} {before : ServerState T U G C} {run : List (Entry T U G C)} {lacked : Bool} {total : ℕ}
+      {after : ServerState T U G C}
       → EachIsDispatched w answers ids h before run lacked total h' after → Leads w before run after
   each_lead (none no_ids no_run unlacked no_total) = grind (arith)
   each_lead (more {s1 = mid} {first = first} {next = next} id answer each serves ids_are run_is lacked_is total_is) =
@@ -241,8 +262,10 @@ module _ {H T U G C : Type 0} (w : World T G C) (answers : Answering H T U G C) 
 -- ---- its end
 
 module _ {T U G C : Type 0} (w : World T G C) where
-  ends_dispatch : {mid after : BackendState T U G C} {answer result : Result ℕ IoFault} (before : ServerState T U G C) (calls : List (Entry T U G C)) (lacked : Bool)
-      → Leads w before calls mid.server → mid.refused ≡ lacked → CleansUp w mid answer result after → EndsDispatch w before calls lacked mid.server answer result after
+  ends_dispatch : {mid after : BackendState T U G C} {answer result : Result ℕ IoFault} (before : ServerState T U G C) (calls : List (Entry T U G C))
+      (lacked : Bool)
+      → Leads w before calls mid.server → mid.refused ≡ lacked → CleansUp w mid answer result after
+      → EndsDispatch w before calls lacked mid.server answer result after
   ends_dispatch {mid} {after} {answer} {result} before calls lacked leads refused ends =
       let whole = join_runs w before mid.server after.server calls (ends.cleanup ∷ []) leads (after.server, ends.cleans, refl) in record {
         cleanup = ends.cleanup;
@@ -259,7 +282,8 @@ module _ {T U G C : Type 0} (w : World T G C) where
 
 module _ {H T U G C : Type 0} (w : World T G C) (answers : Answering H T U G C) where
   -- of one client
-  pub dispatches_client : {h h' : H} {begun mid after : BackendState T U G C} {answer result : Result ℕ IoFault} (id : ClientParts) (before : BackendState T U G C)
+  pub dispatches_client : {h h' : H} {begun mid after : BackendState T U G C} {answer result : Result ℕ IoFault} (id : ClientParts)
+      (before : BackendState T U G C)
       → begun ≡ record before { refused = false } → MakesAllRounds w answers id h begun answer h' mid → CleansUp w mid answer result after
       → DispatchesClient w answers id h before.server result h' after
   dispatches_client {h} {h'} {begun} {mid} {after} {answer} {result} id before calm all ends =
@@ -270,8 +294,10 @@ module _ {H T U G C : Type 0} (w : World T G C) (answers : Answering H T U G C) 
   pub each_none : (ids : List ClientParts) (h : H) (before : BackendState T U G C) → ids ≡ [] → ClientsSoFar w answers ids h before 0 h before
   each_none ids h before is = record { run = []; lacked = false; each = none is refl refl refl; refused = sym (or-false before.refused) }
 
-  pub each_more : {earlier ids : List ClientParts} {h h1 h' : H} {before mid after : BackendState T U G C} {count total : ℕ} {answer : Result ℕ IoFault} (id : ClientParts)
-      → ClientsSoFar w answers earlier h before count h1 mid → MakesAllRounds w answers id h1 mid answer h' after → ids ≡ earlier ++ (id ∷ []) → total ≡ total_with count answer
+  pub each_more : {earlier ids : List ClientParts} {h h1 h' : H} {before mid after : BackendState T U G C} {count total : ℕ}
+      {answer : Result ℕ IoFault} (id : ClientParts)
+      → ClientsSoFar w answers earlier h before count h1 mid → MakesAllRounds w answers id h1 mid answer h' after → ids ≡ earlier ++ (id ∷ [])
+      → total ≡ total_with count answer
       → ClientsSoFar w answers ids h before total h' after
   each_more {earlier} {ids} {h} {h1} {h'} {before} {mid} {after} {count} {total} {answer} id so_far all ids_are total_is = record {
     run = so_far.run ++ all.run;
@@ -280,7 +306,8 @@ module _ {H T U G C : Type 0} (w : World T G C) (answers : Answering H T U G C) 
     refused = all.refused ∙ ap (λ (x : Bool). x || all.lacked) so_far.refused ∙ or_assoc before.refused so_far.lacked all.lacked;
   }
 
-  pub dispatches_all : {ids : List ClientParts} {h h' : H} {mid after : BackendState T U G C} {total : ℕ} {result : Result ℕ IoFault} (before : BackendState T U G C)
+  pub dispatches_all : {ids : List ClientParts} {h h' : H} {mid after : BackendState T U G C} {total : ℕ} {result : Result ℕ IoFault}
+      (before : BackendState T U G C)
       → ClientsSoFar w answers ids h (record before { refused = false }) total h' mid → CleansUp w mid (Ok total) result after
       → DispatchesAll w answers ids h before.server result h' after
   dispatches_all {ids} {h} {h'} {mid} {after} {total} {result} before each ends = (
@@ -293,8 +320,10 @@ module _ {H T U G C : Type 0} (w : World T G C) (answers : Answering H T U G C) 
   )
 
   -- the next of the clients
-  pub one_more : {h h1 h' : H} {before mid after : BackendState T U G C} {count total : ℕ} {answer : Result ℕ IoFault} (ids : List ClientParts) (n : ℕ) (id : ClientParts)
-      → n < length ids → id ≡ get_or ids n id → ClientsSoFar w answers (take n ids) h before count h1 mid → MakesAllRounds w answers id h1 mid answer h' after
+  pub one_more : {h h1 h' : H} {before mid after : BackendState T U G C} {count total : ℕ} {answer : Result ℕ IoFault} (ids : List ClientParts)
+      (n : ℕ) (id : ClientParts)
+      → n < length ids → id ≡ get_or ids n id → ClientsSoFar w answers (take n ids) h before count h1 mid
+      → MakesAllRounds w answers id h1 mid answer h' after
       → total ≡ total_with count answer → ClientsSoFar w answers (take (n + 1) ids) h before total h' after
   one_more ids n id below here so_far all total_is =
       each_more id so_far all (take_more ids n id below ∙ ap (λ (y : ClientParts). take n ids ++ y ∷ []) (sym here)) total_is

@@ -27,7 +27,8 @@ module _ {T U C : Type 0} where
   abbrev pub Stands : Option (Part T U C) → Type 0
   Stands found = (found ≡ None) ⊎ ((p : Part T U C) × (found ≡ Some p) × IsSome p.action)
 
-module _ {T U C : Type 0} (sends : T → Queue → Result ℕ IoFault → T → Type 0) (receives : T → ℕ → Result Queue IoFault → T → Type 0) (client : ClientParts) where
+module _ {T U C : Type 0} (sends : T → Queue → Result ℕ IoFault → T → Type 0) (receives : T → ℕ → Result Queue IoFault → T → Type 0)
+    (client : ClientParts) where
   moves_stand : (p q : Part T U C) (d : Doings U) → Moves standing sends receives client p d q → q.action ≡ p.action
   moves_stand p q d (stayed is same) = ap (λ (x : Part T U C). x.action) same
   moves_stand p q d (followed {m = m} {a = a} {b = b} first second is) = moves_stand m q b second ∙ moves_stand p m a first
@@ -43,7 +44,8 @@ module _ {T U C : Type 0} (sends : T → Queue → Result ℕ IoFault → T → 
   goes_stand s t d (notes_taken on is same) h = rw same h
 
 module _ {T U G C : Type 0} (w : World T G C) (id : ClientParts) where
-  call_stands : (offer : Offer G) (call : Call T U G C) (s : Seen T U C) (lacked : Bool) (did : List (Deed U)) (t : Seen T U C) → spares id call ≡ true → IsNotInserted id call
+  call_stands : (offer : Offer G) (call : Call T U G C) (s : Seen T U C) (lacked : Bool) (did : List (Deed U)) (t : Seen T U C)
+      → spares id call ≡ true → IsNotInserted id call
       → PartCall w id offer call s lacked did t → Stands s.part → Stands t.part
   call_stands offer call s lacked did t spared other h stands = go (concerns id call) refl
     where
@@ -53,7 +55,8 @@ module _ {T U G C : Type 0} (w : World T G C) (id : ClientParts) where
       go false far = rw (other_call w id offer call s lacked did t other far h).2 stands
 
   -- so it is over all calls of a handler, if the id was given before
-  pub run_stands : (before after : ServerState T U G C) (run : List (Entry T U G C)) → id.serial ≤ before.last_client → Leads w before run after → AllSpare id run
+  pub run_stands : (before after : ServerState T U G C) (run : List (Entry T U G C)) → id.serial ≤ before.last_client → Leads w before run after
+      → AllSpare id run
       → Stands (seen id before).part → Stands (seen id after).part
   run_stands before after [] born same spared stands = rw same stands
   run_stands before after (e ∷ run) born (mid, by, leads) (spared, others) stands =
@@ -61,6 +64,7 @@ module _ {T U G C : Type 0} (w : World T G C) (id : ClientParts) where
       (call_stands before.offer e.call (seen id before) (e.lacks id) (e.did id) (seen id mid) spared (λ new inserts. later_differs new id
       (let next = (numbered before e.call new by.client inserts).2 in omega (arith, born, next))) (by.each id) stands)
 
-  pub born_still : (before after : ServerState T U G C) (run : List (Entry T U G C)) → id.serial ≤ before.last_client → Leads w before run after → id.serial ≤ after.last_client
+  pub born_still : (before after : ServerState T U G C) (run : List (Entry T U G C)) → id.serial ≤ before.last_client → Leads w before run after
+      → id.serial ≤ after.last_client
   born_still before after [] born same = grind (arith)
   born_still before after (e ∷ run) born (mid, by, leads) = grind (arith, by.last, born_still mid after run)

@@ -40,11 +40,13 @@ module _ {T G C : Type 0} (sends : T → Queue → Result ℕ IoFault → T → 
       → told_of_all a client_data id room (e ∷ left) ≡ told_of room e ∷ told_of_all a client_data id (long e) left
   shows room e left is = rw is refl
 
-  pub told_begins : (start : LinkState T) (room : ℕ) → room ≡ 0 → (entries : List Entry) → ToldTo start (told_of_all a client_data id 0 entries) start room entries
+  pub told_begins : (start : LinkState T) (room : ℕ) → room ≡ 0 → (entries : List Entry)
+      → ToldTo start (told_of_all a client_data id 0 entries) start room entries
   told_begins start room none entries = ([], puts_none sends start, ap (λ (n : ℕ). told_of_all a client_data id n entries) (sym none))
 
   pub told_one : (start now after : LinkState T) (all : List Said) (room next : ℕ) (e : Entry) (old left : List Entry) → old ≡ e ∷ left
-      → is_shown a.views a.client client_data e ≡ true → next ≡ long e → Puts sends now (told_of room e ∷ []) (Ok tt) after → ToldTo start all now room old
+      → is_shown a.views a.client client_data e ≡ true → next ≡ long e → Puts sends now (told_of room e ∷ []) (Ok tt) after
+      → ToldTo start all now room old
       → ToldTo start all after next left
   told_one start now after all room next e old left step shown length_is one (first, puts, is) = (
     first ++ told_of room e ∷ [],
@@ -53,7 +55,8 @@ module _ {T G C : Type 0} (sends : T → Queue → Result ℕ IoFault → T → 
   )
 
   pub told_failed : (start now after : LinkState T) (all : List Said) (room : ℕ) (e : Entry) (old left : List Entry) (f : IoFault) → old ≡ e ∷ left
-      → is_shown a.views a.client client_data e ≡ true → Puts sends now (told_of room e ∷ []) (Err f) after → ToldTo start all now room old → Puts sends start all (Err f) after
+      → is_shown a.views a.client client_data e ≡ true → Puts sends now (told_of room e ∷ []) (Err f) after → ToldTo start all now room old
+      → Puts sends start all (Err f) after
   told_failed start now after all room e old left f step shown one (first, puts, is) =
       let m = told_of room e ∷ [] in
       let split : all ≡ (first ++ m) ++ told_of_all a client_data id (long e) left = grind (arith, shows, append_assoc) in

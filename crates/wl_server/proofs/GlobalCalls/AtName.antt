@@ -43,12 +43,14 @@ module _ {G : Type 0} where
   one_freed store after id last some becomes = grind (arith, is_some, freed_at, false≢true)
 
   -- a new global is named by its id
-  pub new_named : (store after : Store (KeptGlobal G)) (id : GlobalParts) (x : Object (KeptGlobal G)) (answer : Result ℕ NewError) → x.value.serial ≡ id.serial
+  pub new_named : (store after : Store (KeptGlobal G)) (id : GlobalParts) (x : Object (KeptGlobal G)) (answer : Result ℕ NewError)
+      → x.value.serial ≡ id.serial
       → answer ≡ Ok id.name → InsertsNew name_range store x answer after → global_by after id ≡ Some x
   new_named store after id x answer serial is inserts = grind (arith, name_range, ne_eqb, eq-eqb, stored_here)
 
   -- there was no memory for a new global
-  pub name_lacks_memory : (table : List InterfaceRow) (store after : Store (KeptGlobal G)) (last : ℕ) (i : InterfaceId) (version : ℕ) (row : InterfaceRow)
+  pub name_lacks_memory : (table : List InterfaceRow) (store after : Store (KeptGlobal G)) (last : ℕ) (i : InterfaceId) (version : ℕ)
+      (row : InterfaceRow)
       (x : Object (KeptGlobal G)) (answer : Result ℕ NewError) (e : NewError) → slice_get table i.0 ≡ Some row → nat_le version row.version ≡ true
       → last < last_possible_serial → answer ≡ Err e → e ≡ new.OutOfMemory → InsertsNew name_range store x answer after
       → CreatesGlobal table (globals_of store last) i version (Err refused.OutOfMemory)

@@ -11,7 +11,8 @@ module _ {T : Type 0} (sends : T → Queue → Result ℕ IoFault → T → Type
   puts_none link = ([], [], (refl, refl, refl, refl))
 
   -- one message, by whatever put it
-  pub puts_by : (before after : LinkState T) (m : Said) (es : List Sending) (answer : Result (Unit {0}) IoFault) → PutBy sends before m es answer after
+  pub puts_by : (before after : LinkState T) (m : Said) (es : List Sending) (answer : Result (Unit {0}) IoFault)
+      → PutBy sends before m es answer after
       → Puts sends before (m ∷ []) answer after
   puts_by before after m es (Ok u) put = (es, m ∷ [], (es, Ok u, after, put, ([], [], sym (append-nil es), refl, (refl, refl, refl, refl))))
   puts_by before after m es (Err f) put = (es, [], (es, Err f, after, put, (refl, refl, refl, refl)))
@@ -21,7 +22,8 @@ module _ {T : Type 0} (sends : T → Queue → Result ℕ IoFault → T → Type
   puts_one before after m answer (es, wrote) = puts_by before after m es answer (inl wrote)
 
   -- others behind those that were all put
-  pub puts_more : (before mid after : LinkState T) (first others : List Said) (answer : Result (Unit {0}) IoFault) → Puts sends before first (Ok tt) mid
+  pub puts_more : (before mid after : LinkState T) (first others : List Said) (answer : Result (Unit {0}) IoFault)
+      → Puts sends before first (Ok tt) mid
       → Puts sends mid others answer after → Puts sends before (first ++ others) answer after
   puts_more before mid after [] others answer (es, put, (none, nil, is, same)) more = rw (← same) more
   puts_more before mid after (m ∷ ms) others answer (es, put, (one, Ok u, next, by, (rest, more', is, are, puts))) more =
@@ -36,4 +38,5 @@ module _ {T : Type 0} (sends : T → Queue → Result ℕ IoFault → T → Type
   puts_failed before after (m ∷ ms) others f (es, put, (one, Ok u, next, by, (rest, more, is, are, puts))) =
       let behind = puts_failed next after ms others f (rest, more, puts) in
       (one ++ behind.0, m ∷ behind.1, (one, Ok u, next, by, (behind.0, behind.1, refl, refl, behind.2)))
-  puts_failed before after (m ∷ ms) others f (es, put, (one, Err e, next, by, (is, are, failed, same))) = (one, [], (one, Err e, next, by, (refl, refl, failed, same)))
+  puts_failed before after (m ∷ ms) others f (es, put, (one, Err e, next, by, (is, are, failed, same))) =
+      (one, [], (one, Err e, next, by, (refl, refl, failed, same)))

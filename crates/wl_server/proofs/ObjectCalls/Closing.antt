@@ -31,7 +31,8 @@ module _ {T U C : Type 0} where
 
   -- the messages were put up to the first that failed, and nothing is noted beside the end of the client
   pub told_by : (sends : T → Queue → Result ℕ IoFault → T → Type 0) (c : Core U C) (puts : List Said) (events : Core U C → List (Told U))
-      (before after : LinkState T) (told : Result (Unit {0}) IoFault) → ((d : Core U C) → told_notes (events d) ≡ []) → Puts sends before puts told after
+      (before after : LinkState T) (told : Result (Unit {0}) IoFault) → ((d : Core U C) → told_notes (events d) ≡ [])
+      → Puts sends before puts told after
       → (did : List (Deed U))
       × Tells sends (telling c puts events) before (lacks_memory told) did (part_of (record { core = closing c told; link = after }))
       × (notes_in did ≡ notes_in (end_deeds (closing c told).ended))

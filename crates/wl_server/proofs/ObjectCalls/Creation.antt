@@ -29,7 +29,8 @@ pub unknown : {A : Type 0} (o : Option A) (X Y : Type 0) → is_some o ≡ false
 unknown h1 h2 h3 is x = grind (arith, true≢false)
 
 -- a row of the table is found where the interface is
-pub row_found : {A B : Type 0} (f : A → B) (found : Option (Bor A)) (row : Option B) (none : Bool) → option_map f (option_copied found) ≡ row → is_some found ≡ not none
+pub row_found : {A B : Type 0} (f : A → B) (found : Option (Bor A)) (row : Option B) (none : Bool) → option_map f (option_copied found) ≡ row
+    → is_some found ≡ not none
     → is_some row ≡ not none
 row_found f h2 row none is some = grind (arith)
 
@@ -43,7 +44,8 @@ module _ {T U C : Type 0} (table : List InterfaceRow) (client : ClientParts) (s 
   abbrev pub Refused : CreateError → Store (Kept U) → Type 0
   Refused e store = Does s (λ p did q. Created (Err e) p did q) (record { serial = s.serial; part = over store; made = s.made; times = no_times })
 
-  pub lacks_serial : is_some (slice_get table i.0) ≡ true → s.part.last_serial < 0x10000000000000000 → (s.part.last_serial + 1 < 0x10000000000000000 → ⊥) → (e : CreateError) → LacksSerial s.part.store e
+  pub lacks_serial : is_some (slice_get table i.0) ≡ true → s.part.last_serial < 0x10000000000000000
+      → (s.part.last_serial + 1 < 0x10000000000000000 → ⊥) → (e : CreateError) → LacksSerial s.part.store e
       → Does s (λ p did q. Created (Err e) p did q) s
   lacks_serial is fits last e lacks = does_quietly s (Created (Err e)) s.part (refl, grind (arith, known, at_true, eq-eqb, last_possible_serial))
 
@@ -52,7 +54,8 @@ module _ {T U C : Type 0} (table : List InterfaceRow) (client : ClientParts) (s 
     with_both store serial = record s.part { store = store; last_serial = serial }
 
     -- a number was given
-    pub created : (n serial : ℕ) (x : Object (Kept U)) (store : Store (Kept U)) → serial ≡ s.part.last_serial + 1 → x ≡ fresh_object i version serial (Some u)
+    pub created : (n serial : ℕ) (x : Object (Kept U)) (store : Store (Kept U)) → serial ≡ s.part.last_serial + 1
+        → x ≡ fresh_object i version serial (Some u)
         → InsertsNew server_range s.part.store x (Ok n) store
         → Does s (λ p did q. Created (Ok (record { number = n; serial = serial; client = client; interface = i })) p did q)
         (record { serial = s.serial; part = with_both store serial; made = s.made; times = no_times })
@@ -60,11 +63,13 @@ module _ {T U C : Type 0} (table : List InterfaceRow) (client : ClientParts) (s 
         let id : IdParts = record { number = n; serial = serial; client = client; interface = i } in
         does_quietly s (Created (Ok id)) (with_both store serial) (refl, grind (arith, known, at_false, eqb-true, stored, is, next))
 
-    pub exhausted : (e : NewError) (x : Object (Kept U)) (store : Store (Kept U)) → e ≡ new.IdsExhausted → InsertsNew server_range s.part.store x (Err e) store
+    pub exhausted : (e : NewError) (x : Object (Kept U)) (store : Store (Kept U)) → e ≡ new.IdsExhausted
+        → InsertsNew server_range s.part.store x (Err e) store
         → Refused create.IdsExhausted store
     exhausted e x store is inserts = does_quietly s (Created (Err create.IdsExhausted)) (over store) (refl, grind (arith, known, slice_get, over))
 
-    pub no_memory : (e : NewError) (x : Object (Kept U)) (store : Store (Kept U)) → e ≡ new.OutOfMemory → InsertsNew server_range s.part.store x (Err e) store
+    pub no_memory : (e : NewError) (x : Object (Kept U)) (store : Store (Kept U)) → e ≡ new.OutOfMemory
+        → InsertsNew server_range s.part.store x (Err e) store
         → Refused create.OutOfMemory store
     no_memory e x store is inserts =
         does_quietly s (Created (Err create.OutOfMemory)) (over store) (refl, grind (arith, known, at_false, eqb-true))

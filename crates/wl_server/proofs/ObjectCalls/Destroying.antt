@@ -69,7 +69,8 @@ module _ {T U C : Type 0} (sends : T → Queue → Result ℕ IoFault → T → 
         (core_of s.part, s.part.link, inr (asks, refl, refl, refl), grind (arith, silent (core_of s.part), append-nil))
 
     -- there was no memory for the message
-    pub untold : (link : LinkState T) (waiting : List (Happening U)) (n : ℕ) (wrote : Result (Unit {0}) IoFault) → waiting ≡ s.part.waiting → n ≡ id.number
+    pub untold : (link : LinkState T) (waiting : List (Happening U)) (n : ℕ) (wrote : Result (Unit {0}) IoFault) → waiting ≡ s.part.waiting
+        → n ≡ id.number
         → Puts sends s.part.link (deletions n) wrote link → lacks_memory wrote ≡ true
         → Does s (λ p did q. Destruction (Err destroy.OutOfMemory) p did q) (with_waiting (linked s link) waiting)
     untold link waiting n wrote same number puts lacked = as_carried (Err destroy.OutOfMemory) (with_waiting (linked s link) waiting) refl (
@@ -96,9 +97,10 @@ module _ {T U C : Type 0} (sends : T → Queue → Result ℕ IoFault → T → 
         → MatchResult wrote (λ _. untimed after ≡ with_all link store registries waiting)
         (λ _. Does (with_all link store registries waiting) (λ p did q. Kills p ConnectionClosed did q) after)
         → Does s (λ p did q. Destruction (Ok tt) p did q) after
-    destroyed link n store registries before waiting wrote after number puts lacked without forgotten noted same told = as_carried (Ok tt) after refl (
-      came_to speaker verdict wrote,
-      link,
-      inl (wrote, link, [], false, rw number at puts, (refl, refl, refl), refl, rw lacked refl),
-      grind (arith, append-nil, false≢true, kills_is, registries_without, note_of_end, named_is_held, named, silent (came_to speaker verdict wrote)),
-    )
+    destroyed link n store registries before waiting wrote after number puts lacked without forgotten noted same told =
+        as_carried (Ok tt) after refl (
+          came_to speaker verdict wrote,
+          link,
+          inl (wrote, link, [], false, rw number at puts, (refl, refl, refl), refl, rw lacked refl),
+          grind (arith, append-nil, false≢true, kills_is, registries_without, note_of_end, named_is_held, named, silent (came_to speaker verdict wrote)),
+        )

@@ -42,7 +42,8 @@ module _ {T U C : Type 0} where
 
   -- ---- a client is put at a slot
 
-  pub put_within : (clients : List (Option (Stored T U C))) (slot : ℕ) (s : Stored T U C) → slot < length clients → IsPut clients slot s (slice_set clients slot (Some s))
+  pub put_within : (clients : List (Option (Stored T U C))) (slot : ℕ) (s : Stored T U C) → slot < length clients
+      → IsPut clients slot s (slice_set clients slot (Some s))
   put_within clients slot s within =
       (get_set_same clients slot _ (Some s) (slice_get-get_or clients slot None within), λ k differ. get_set_other clients slot k (Some s) (λ e. differ (sym e)))
 
@@ -50,7 +51,8 @@ module _ {T U C : Type 0} where
   at_end [] s = grind (arith, slice_get)
   at_end (x ∷ clients) s = grind (arith, at_end clients s)
 
-  pub put_behind : (clients : List (Option (Stored T U C))) (slot : ℕ) (s : Stored T U C) → slot ≡ length clients → IsPut clients slot s (clients ++ Some s ∷ [])
+  pub put_behind : (clients : List (Option (Stored T U C))) (slot : ℕ) (s : Stored T U C) → slot ≡ length clients
+      → IsPut clients slot s (clients ++ Some s ∷ [])
   put_behind clients slot s is = rw is (at_end clients s)
 
 module _ {T U G C : Type 0} (w : World T G C) where
@@ -61,8 +63,10 @@ module _ {T U G C : Type 0} (w : World T G C) where
       MatchBool b (Inserted w id offer transport client_data before false (did_at b (Noted Initialized ∷ [])) after)
       (Unfelt before false (did_at b (Noted Initialized ∷ [])) after)
 
-  each_inserted : (offer : Offer G) (transport : T) (client_data : C) (clients clients' : List (Option (Stored T U C))) (notes : List (Note U)) (new : ClientParts) (s : Stored T U C)
-      → stored_at new.slot clients ≡ None → IsPut clients new.slot s clients' → IsInserted new.serial transport (Some offer.default_limit) client_data s → (id : ClientParts)
+  each_inserted : (offer : Offer G) (transport : T) (client_data : C) (clients clients' : List (Option (Stored T U C))) (notes : List (Note U))
+      (new : ClientParts) (s : Stored T U C)
+      → stored_at new.slot clients ≡ None → IsPut clients new.slot s clients'
+      → IsInserted new.serial transport (Some offer.default_limit) client_data s → (id : ClientParts)
       → InsertedAt id offer transport client_data (same_client new id) (held_of notes clients id) (held_of notes clients' id)
   each_inserted offer transport client_data clients clients' notes new s free (here, others) (link, fresh, is) id = at (same_client new id) refl
     where
@@ -74,12 +78,14 @@ module _ {T U G C : Type 0} (w : World T G C) where
         refl,
         grind (arith, seen_as, fresh_part, append-nil, same_is new id same, client_present new clients' s here, is, free, if_serial, stored_at),
       )
-      at false other = grind (arith, eq-eqb, eqb-true, seen_as, is, here, free, others, if_serial, other_of, new.slot == id.slot, new.serial == id.serial)
+      at false other =
+          grind (arith, eq-eqb, eqb-true, seen_as, is, here, free, others, if_serial, other_of, new.slot == id.slot, new.serial == id.serial)
 
   -- ---- the step
 
   -- the client of this id was put at its slot
-  pub inserted : {was : Bool} (before : ServerState T U G C) (transport : T) (client_data : C) (new : ClientParts) (s : Stored T U C) (clients' : List (Option (Stored T U C)))
+  pub inserted : {was : Bool} (before : ServerState T U G C) (transport : T) (client_data : C) (new : ClientParts) (s : Stored T U C)
+      (clients' : List (Option (Stored T U C)))
       → IsLeastFree before.clients new.slot → before.last_client < last_possible_serial → new.serial ≡ before.last_client + 1
       → IsInserted new.serial transport (Some before.offer.default_limit) client_data s → IsPut before.clients new.slot s clients'
       → (numbers' : NoteNumbers) → AllInTime (map times_of before.clients) before.numbers (map times_of clients') numbers' → AllNumbered clients'
@@ -92,15 +98,20 @@ module _ {T U G C : Type 0} (w : World T G C) where
       (λ id. (Ok new, refl, each_inserted before.offer transport client_data before.clients clients' before.notes new s free.free put is id)))
 
   -- no slot or no serial is left
-  pub not_inserted : {was : Bool} (before : ServerState T U G C) (transport : T) (client_data : C) → LacksSlot before.last_client before.clients → AllNumbered before.clients
-      → Calls w (record { server = before; refused = was }) (step.InsertClient transport client_data) (reply.InsertClient (Err insert.Full)) (record { server = before; refused = false })
+  pub not_inserted : {was : Bool} (before : ServerState T U G C) (transport : T) (client_data : C) → LacksSlot before.last_client before.clients
+      → AllNumbered before.clients
+      → Calls w (record { server = before; refused = was }) (step.InsertClient transport client_data) (reply.InsertClient (Err insert.Full))
+      (record { server = before; refused = false })
   not_inserted before transport client_data lacks all =
       calls _ _ _ _ _ (step_of w before _ false (λ id. []) before refl (omega arith) lacks tt tt tt refl
       (record { gathered = refl; times = all_same _ _ _ refl; numbered = all }) (λ id. (Err insert.Full, refl, (refl, refl, refl))))
 
-  pub insertion_starved : {was : Bool} (before : ServerState T U G C) (transport : T) (client_data : C) (new : ClientParts) (clients' : List (Option (Stored T U C)))
-      → IsLeastFree before.clients new.slot → before.last_client < last_possible_serial → new.serial ≡ before.last_client + 1 → clients' ≡ before.clients
-      → (numbers' : NoteNumbers) → AllInTime (map times_of before.clients) before.numbers (map times_of clients') numbers' → AllNumbered before.clients
+  pub insertion_starved : {was : Bool} (before : ServerState T U G C) (transport : T) (client_data : C) (new : ClientParts)
+      (clients' : List (Option (Stored T U C)))
+      → IsLeastFree before.clients new.slot → before.last_client < last_possible_serial → new.serial ≡ before.last_client + 1
+      → clients' ≡ before.clients
+      → (numbers' : NoteNumbers) → AllInTime (map times_of before.clients) before.numbers (map times_of clients') numbers'
+      → AllNumbered before.clients
       → Calls w (record { server = before; refused = was }) (step.InsertClient transport client_data) (reply.InsertClient (Err insert.OutOfMemory))
       (record { server = record before { clients = clients'; numbers = numbers' }; refused = true })
   insertion_starved before transport client_data new clients' free below serial same numbers' times all =

@@ -26,7 +26,8 @@ use Rattle.wl_server.proofs.ObjectCalls.Setting.{set_does, sets}
 abbrev data_in : {U : Type 0} → Option (Object (Kept U)) → Option U
 data_in found = and_then found (λ x. x.value.user_data)
 
-module _ {T U G C R : Type 0} (call : U → R → U → Type 0) (w : World T G C) (before : ServerState T U G C) (was : Bool) (o : IdParts) (answer : Result R InvalidId) where
+module _ {T U G C R : Type 0} (call : U → R → U → Type 0) (w : World T G C) (before : ServerState T U G C) (was : Bool) (o : IdParts)
+    (answer : Result R InvalidId) where
   -- what is looked up at the client that is stored
   looked_up : (read : ClientParts) (stored : Option (Stored T U C)) → read ≡ o.client → stored ≡ client_at read before.clients
       → object_data_of before o ≡ data_in (and_then (option_map (λ s. s.part) stored) (λ p. named p.store o))
@@ -51,7 +52,8 @@ module _ {T U G C R : Type 0} (call : U → R → U → Type 0) (w : World T G C
         × Calls w (record { server = before; refused = was }) (step.SetObjectData o left) (reply.SetObjectData (Ok tt)) (at_slot (having store))
         × SetsObjectData (record { server = before; refused = was }) o left (Ok tt) (at_slot (having store)))
 
-    lent_with : (x : Object (Kept U)) (kept_data : Option U) → named s.part.store o ≡ Some x → x.value.user_data ≡ kept_data → (store : Store (Kept U))
+    lent_with : (x : Object (Kept U)) (kept_data : Option U) → named s.part.store o ≡ Some x → x.value.user_data ≡ kept_data
+        → (store : Store (Kept U))
         → MatchOption kept_data ((answer ≡ Err _) × (store ≡ s.part.store))
         (λ u. (r : R) × (left : U) × call u r left × (answer ≡ Ok r) × (store ≡ rewritten s.part.store o.number (with_user_data left x)))
         → Lent (Some x) store

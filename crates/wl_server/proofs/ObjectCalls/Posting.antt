@@ -35,7 +35,8 @@ module _ {T U C : Type 0} where
     times = no_times;
   }
 
-  pub kills_is : (s after : Stored T U C) (reason : DisconnectReason) → Does s (λ p did q. Kills p reason did q) after → untimed after ≡ ended s reason
+  pub kills_is : (s after : Stored T U C) (reason : DisconnectReason) → Does s (λ p did q. Kills p reason did q) after
+      → untimed after ≡ ended s reason
   kills_is s after reason (did, q, (deeds, part), is) = grind (arith)
 
   -- the client as it is where its core came to this
@@ -54,10 +55,12 @@ module _ {T U C : Type 0} (sends : T → Queue → Result ℕ IoFault → T → 
       → Puts sends link (error_message n code text ∷ []) answer after → Puts sends link (error_messages (core_of p) id code text) answer after
   puts_error n answer link after is kept puts = rw (live, kept, ← is) puts
 
-  pub puts_no_error : (link : LinkState T) → is_some (named p.store id) ≡ false → Puts sends link (error_messages (core_of p) id code text) (Ok tt) link
+  pub puts_no_error : (link : LinkState T) → is_some (named p.store id) ≡ false
+      → Puts sends link (error_messages (core_of p) id code text) (Ok tt) link
   puts_no_error link gone = rw (live, gone) (puts_none sends link)
 
-module _ {T U C : Type 0} (sends : T → Queue → Result ℕ IoFault → T → Type 0) (table : List InterfaceRow) (s : Stored T U C) (id : IdParts) (code : ℕ) (text : List ℕ) where
+module _ {T U C : Type 0} (sends : T → Queue → Result ℕ IoFault → T → Type 0) (table : List InterfaceRow) (s : Stored T U C) (id : IdParts) (code : ℕ)
+    (text : List ℕ) where
   -- to a killed client nothing is told
   pub posted_dead : (after : Stored T U C) (es : List Sending) (lacked : Bool) → s.part.is_killed ≡ true
       → FlushesOut sends true s.part.link es lacked after.part.link → after ≡ linked s after.part.link
@@ -70,7 +73,8 @@ module _ {T U C : Type 0} (sends : T → Queue → Result ℕ IoFault → T → 
   )
 
   -- the error was told, then flushed; the answer to the first tells why the client is killed
-  pub posted_live : (put flushed told after : Stored T U C) (error : ProtocolError) (wrote : Result (Unit {0}) IoFault) (es : List Sending) (refused lacked : Bool)
+  pub posted_live : (put flushed told after : Stored T U C) (error : ProtocolError) (wrote : Result (Unit {0}) IoFault) (es : List Sending)
+      (refused lacked : Bool)
       → error ≡ error_of table id code text
       → Puts sends s.part.link (error_messages (core_of s.part) id code text) wrote put.part.link → put ≡ linked s put.part.link
       → FlushesOut sends true put.part.link es lacked flushed.part.link → flushed ≡ linked put flushed.part.link

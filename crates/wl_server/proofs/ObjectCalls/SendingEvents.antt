@@ -109,7 +109,8 @@ module _ {T U C : Type 0} (client : ClientParts) (m : SessionMessage) (sender : 
 
         after-is : (did : List (Deed U)) → notes_in did ≡ notes_in (end_deeds (closing c told).ended)
             → untimed s2 ≡ record { serial = s.serial; part = part_of (record { core = closing c told; link = after }); made = s.made ++ notes_in did; times = no_times }
-        after-is did notes = grind (arith, append-nil, closed_down, untimed, with_link, after_end_is, told_untimed, client_of, closing, c, ends_sender, core_of)
+        after-is did notes =
+            grind (arith, append-nil, closed_down, untimed, with_link, after_end_is, told_untimed, client_of, closing, c, ends_sender, core_of)
 
         by : (written : Result (Unit {0}) IoFault) → WroteBy sends s.part.link (wire_message m) es written mid → lacks_memory written ≡ false
             → PutsEnd sends mid m.sender.number ends written told after
@@ -139,7 +140,8 @@ module _ {T U C : Type 0} (client : ClientParts) (m : SessionMessage) (sender : 
 
     -- there was no memory for the write
     pub not_written : (s s1 : Stored T U C) (ends : Bool) (mid : LinkState T) (written : Result (Unit {0}) IoFault)
-        → Wrote sends s.part.link (wire_message m) written mid → lacks_memory written ≡ true → untimed s1 ≡ record (untimed s) { part = with_link s.part mid }
+        → Wrote sends s.part.link (wire_message m) written mid → lacks_memory written ≡ true
+        → untimed s1 ≡ record (untimed s) { part = with_link s.part mid }
         → Does s (λ p did q. SendsGranted sends client p m sender ends (Err refused.OutOfMemory) true did q) s1
     not_written s s1 ends mid written (es, wrote) lacked same = (
       map Sent es ++ [],
@@ -150,14 +152,16 @@ module _ {T U C : Type 0} (client : ClientParts) (m : SessionMessage) (sender : 
 
 -- ---- an event, refused or not
 
-module _ {T U C : Type 0} (sends : T → Queue → Result ℕ IoFault → T → Type 0) (client : ClientParts) (table : List InterfaceRow) (s : Stored T U C) (m : SessionMessage) where
+module _ {T U C : Type 0} (sends : T → Queue → Result ℕ IoFault → T → Type 0) (client : ClientParts) (table : List InterfaceRow) (s : Stored T U C)
+    (m : SessionMessage) where
   -- to a killed client nothing is sent
   pub to_killed : s.part.is_killed ≡ true → Does s (λ p did q. SendsEvent sends client table p m (Ok tt) false did q) s
   to_killed killed = does_quietly s (λ p did q. SendsEvent sends client table p m (Ok tt) false did q) s.part (rw killed (refl, refl, refl, refl))
 
   pub was_refused : (e : EventError) → s.part.is_killed ≡ false → event_check client s.part.store table m ≡ Err e
       → Does s (λ p did q. SendsEvent sends client table p m (Err e) false did q) s
-  was_refused e live is = does_quietly s (λ p did q. SendsEvent sends client table p m (Err e) false did q) s.part (rw (live, is) (refl, refl, refl, refl))
+  was_refused e live is =
+      does_quietly s (λ p did q. SendsEvent sends client table p m (Err e) false did q) s.part (rw (live, is) (refl, refl, refl, refl))
 
   pub was_granted : (sender : Object (Kept U)) (ends : Bool) (answer : Result (Unit {0}) EventError) (lacked : Bool) (after : Stored T U C)
       → s.part.is_killed ≡ false → event_check client s.part.store table m ≡ Ok (sender, ends)

@@ -18,5 +18,6 @@ sets o u answer id p lacked did q = Quietly lacked did (DataSet p o u answer q)
 
 pub set_does : {T U C : Type 0} (s : Stored T U C) (id : IdParts) (u : U) (answer : Result (Unit {0}) InvalidId) (store : Store (Kept U))
     → MatchOption (named s.part.store id) (answer ≡ Err _) (λ _. answer ≡ Ok tt) → store ≡ data_given s.part.store id.number (named s.part.store id) u
-    → Does s (λ p did q. Quietly false did (DataSet p id u answer q)) (record { serial = s.serial; part = record s.part { store = store }; made = s.made; times = no_times })
+    → Does s (λ p did q. Quietly false did (DataSet p id u answer q))
+    (record { serial = s.serial; part = record s.part { store = store }; made = s.made; times = no_times })
 set_does s id u answer store answered given = does_quietly s (λ p did q. Quietly false did (DataSet p id u answer q)) _ (refl, refl, grind (arith))

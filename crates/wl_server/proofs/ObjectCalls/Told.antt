@@ -20,7 +20,8 @@ use Rattle.wl_server.proofs.ObjectCalls.Posting.{kills_is}
 
 module _ {T U C : Type 0} where
   -- the error was written, and what waits was flushed
-  pub told_exactly : (sends : T → Queue → Result ℕ IoFault → T → Type 0) (before : LinkState T) (put flushed told after : Stored T U C) (reason : DisconnectReason)
+  pub told_exactly : (sends : T → Queue → Result ℕ IoFault → T → Type 0) (before : LinkState T) (put flushed told after : Stored T U C)
+      (reason : DisconnectReason)
       (n code : ℕ) (text : List ℕ) (wrote : Result (Unit {0}) IoFault) (es : List Sending) (refused lacked : Bool)
       → Wrote sends before (error_message n code text).message wrote put.part.link → FlushesOut sends true put.part.link es lacked flushed.part.link
       → refused ≡ lacks_memory wrote → MatchResult wrote (λ _. told ≡ flushed) (λ _. Does flushed (λ p did q. Kills p ConnectionClosed did q) told)

@@ -40,7 +40,8 @@ use Rattle.wl_server.specs.declared.runs.step.Step.TheVariants as step
 -- ---- the end of a bind
 
 -- what the end of a bind does to its client
-abbrev EndsBindFor : {T U C : Type 0} → U → Result (Unit {0}) (FinishRefused U) → ClientParts → Bool → List (Deed U) → Part T U C → Part T U C → Type 0
+abbrev EndsBindFor : {T U C : Type 0} → U → Result (Unit {0}) (FinishRefused U) → ClientParts → Bool → List (Deed U) → Part T U C → Part T U C
+    → Type 0
 EndsBindFor u answer client lacked did p q = FinishesBind p u answer lacked did q
 
 -- the bind that is ended, and what the client is after it
@@ -50,23 +51,27 @@ record HasBound {T U C : Type 0} (p : Part T U C) (u : U) (did : List (Deed U)) 
   did_is : did ≡ []
   part_is : q ≡ record p { action = None; store = data_given p.store object.number (named p.store object) u }
 
-bound_ok : {T U C : Type 0} (u : U) (lacked : Bool) (did : List (Deed U)) (p q : Part T U C) → FinishesBind p u (Ok tt) lacked did q → HasBound p u did q
+bound_ok : {T U C : Type 0} (u : U) (lacked : Bool) (did : List (Deed U)) (p q : Part T U C) → FinishesBind p u (Ok tt) lacked did q
+    → HasBound p u did q
 bound_ok u lacked did p q h = grind (arith, either_option)
 
 module _ {T U C : Type 0} (target : ClientParts) (u : U) (s t : Seen T U C) where
-  -- what it leaves_of_bind, by the answer
+  -- what it leaves, by the answer
   abbrev LeavesOfBind : Result (Unit {0}) (FinishRefused U) → Type 0
   LeavesOfBind (Ok _) =
       (object : IdParts) × (and_then s.part (λ p. p.action) ≡ Some (opened.Bind object)) × (and_then t.part (λ p. p.action) ≡ None)
       × (and_then t.part (λ p. named p.store object) ≡ option_map (with_user_data u) (and_then s.part (λ p. named p.store object)))
-      × ((other : IdParts) → same_id (id_of object) (id_of other) ≡ false → and_then t.part (λ p. named p.store other) ≡ and_then s.part (λ p. named p.store other))
+      × ((other : IdParts) → same_id (id_of object) (id_of other) ≡ false
+      → and_then t.part (λ p. named p.store other) ≡ and_then s.part (λ p. named p.store other))
   LeavesOfBind (Err r) = (r.user_data ≡ u) × (t ≡ s)
 
-  leaves_of_bind : (answer : Result (Unit {0}) (FinishRefused U)) (lacked : Bool) → OnOne (EndsBindFor u answer target) (answer ≡ Err (record { error = finish.InvalidId; user_data = u })) s lacked t → LeavesOfBind answer
+  leaves_of_bind : (answer : Result (Unit {0}) (FinishRefused U)) (lacked : Bool)
+      → OnOne (EndsBindFor u answer target) (answer ≡ Err (record { error = finish.InvalidId; user_data = u })) s lacked t → LeavesOfBind answer
   leaves_of_bind answer lacked h = grind (arith, either_option, bound_ok, and_then, named, option_map, with_user_data, rewritten_named, names_so, rewritten_others, nothing_new, notes_in, append-nil)
 
 module _ {T U G C : Type 0} {w : World T G C} {before after : BackendState T U G C} (target : ClientParts) (u : U) where
-  pub ends_bind : (answer : Result (Unit {0}) (FinishRefused U)) → Calls w before (step.FinishBind target u) (reply.FinishBind answer) after → EndsBind before target u answer after
+  pub ends_bind : (answer : Result (Unit {0}) (FinishRefused U)) → Calls w before (step.FinishBind target u) (reply.FinishBind answer) after
+      → EndsBind before target u answer after
   ends_bind answer call = record {
     bind = ended answer (leaves_of_bind target u _ _ answer after.refused one.own);
     clients = one.clients;
@@ -78,7 +83,8 @@ module _ {T U G C : Type 0} {w : World T G C} {before after : BackendState T U G
       one : IsOfOne before after target (EndsBindFor u answer target) (answer ≡ Err (record { error = finish.InvalidId; user_data = u }))
       one = of_one call.step target (EndsBindFor u answer) _ (λ id s t lacked did (r, is, h). let e : r ≡ answer = cc in rw e at h) refl refl refl
 
-      ended : (r : Result (Unit {0}) (FinishRefused U)) → LeavesOfBind target u (seen target before.server) (seen target after.server) r → BindEndedAs before target u r after
+      ended : (r : Result (Unit {0}) (FinishRefused U)) → LeavesOfBind target u (seen target before.server) (seen target after.server) r
+          → BindEndedAs before target u r after
       ended (Ok ok) left = left
       ended (Err r) (back, same) = (back, nothing_changes one same)
 
@@ -89,7 +95,8 @@ module _ {T U G C : Type 0} {w : World T G C} {before after : BackendState T U G
 module _ {U : Type 0} where
   -- ---- the object that was made gets its data
 
-  made_named : (store : Store (Kept U)) (id : IdParts) (u : Option U) → named (store_with_data store (Some id) u) id ≡ option_map (with_given u) (named store id)
+  made_named : (store : Store (Kept U)) (id : IdParts) (u : Option U)
+      → named (store_with_data store (Some id) u) id ≡ option_map (with_given u) (named store id)
   made_named store id u = grind (arith, named, option_map, with_user_data, rewritten_named, names_so, with_given)
 
   made_others : (store : Store (Kept U)) (created : Option IdParts) (u : Option U) (other : IdParts) → is_made created other ≡ false
@@ -97,8 +104,10 @@ module _ {U : Type 0} where
   made_others store created u other h1 = grind (arith, named, rewritten_others, with_user_data, names_so)
 
   -- what names none goes on to
-  made_none : (store : Store (Kept U)) (created : Option IdParts) (u : Option U) (o : IdParts) → named store o ≡ None → named (store_with_data store created u) o ≡ None
-  made_none store created u o h1 = grind (arith, same_id, id_of, named, store_with_data, made_others, true≢false, serial_of, eqb-true, made_named, option_map, with_given)
+  made_none : (store : Store (Kept U)) (created : Option IdParts) (u : Option U) (o : IdParts) → named store o ≡ None
+      → named (store_with_data store created u) o ≡ None
+  made_none store created u o h1 =
+      grind (arith, same_id, id_of, named, store_with_data, made_others, true≢false, serial_of, eqb-true, made_named, option_map, with_given)
 
   -- ---- the sender that is ended
 
@@ -106,7 +115,8 @@ module _ {U : Type 0} where
   left_by store n None = store
   left_by store n (Some x) = removed store n
 
-  ended_named : (store : Store (Kept U)) (sender : IdParts) (is_destructor : Bool) (x : Object (Kept U)) → ended_by store sender is_destructor ≡ Some x
+  ended_named : (store : Store (Kept U)) (sender : IdParts) (is_destructor : Bool) (x : Object (Kept U))
+      → ended_by store sender is_destructor ≡ Some x
       → (is_destructor ≡ true) × (named store sender ≡ Some x)
   ended_named store sender h3 x is = grind (arith)
 
@@ -125,7 +135,8 @@ module _ {T U C : Type 0} where
   Why p u finish.NoOpenAction = p.action ≡ None
   Why p u finish.WrongKind = (object : IdParts) × (p.action ≡ Some (opened.Bind object))
   Why p u finish.MissingObjectData =
-      (sender : IdParts) × (is_destructor : Bool) × (made : IdParts) × (p.action ≡ Some (opened.Request sender is_destructor (Some made))) × (u ≡ None) × (p.is_killed ≡ false)
+      (sender : IdParts) × (is_destructor : Bool) × (made : IdParts) × (p.action ≡ Some (opened.Request sender is_destructor (Some made)))
+      × (u ≡ None) × (p.is_killed ≡ false)
   Why p u finish.UnexpectedData =
       (sender : IdParts) × (is_destructor : Bool) × (p.action ≡ Some (opened.Request sender is_destructor None)) × IsSome u
   Why p u finish.OutOfMemory = ⊥
@@ -138,22 +149,29 @@ IsNoted client p q sender is_destructor did =
     × (notes_in did ≡ notes_if_kept client sender.number (ended_by p.store sender is_destructor) ++ cond p.is_killed [] (Disconnected ConnectionClosed ∷ [])))
 
 -- what the call is of a client that is stored: it is refused, or there is no memory for the end of the sender, or the request is ended
-data Comes {T U C : Type 0} (client : ClientParts) (u : Option U) (answer : Answer U) (lacked : Bool) (did : List (Deed U)) (p q : Part T U C) : Type 0 where
+data Comes {T U C : Type 0} (client : ClientParts) (u : Option U) (answer : Answer U) (lacked : Bool) (did : List (Deed U))
+    (p q : Part T U C) : Type 0 where
   is_refused : (e : FinishError) → Why p u e → answer ≡ RefusedFor u e → lacked ≡ false → did ≡ [] → q ≡ p → Comes client u answer lacked did p q
-  is_starved : (sender : IdParts) (is_destructor : Bool) (created : Option IdParts) → p.action ≡ Some (opened.Request sender is_destructor created) → is_destructor ≡ true
-      → IsSome (named p.store sender) → answer ≡ RefusedFor u finish.OutOfMemory → lacked ≡ true → core_of q ≡ core_of p → notes_in did ≡ [] → Comes client u answer lacked did p q
+  is_starved : (sender : IdParts) (is_destructor : Bool) (created : Option IdParts) → p.action ≡ Some (opened.Request sender is_destructor created)
+      → is_destructor ≡ true
+      → IsSome (named p.store sender) → answer ≡ RefusedFor u finish.OutOfMemory → lacked ≡ true → core_of q ≡ core_of p → notes_in did ≡ []
+      → Comes client u answer lacked did p q
   is_ended : (sender : IdParts) (is_destructor : Bool) (created : Option IdParts) → p.action ≡ Some (opened.Request sender is_destructor created)
-      → refusal p.is_killed created u ≡ None → answer ≡ Ok tt → lacked ≡ false → q.store ≡ store_with_data (left_by p.store sender.number (ended_by p.store sender is_destructor)) created u
+      → refusal p.is_killed created u ≡ None → answer ≡ Ok tt → lacked ≡ false
+      → q.store ≡ store_with_data (left_by p.store sender.number (ended_by p.store sender is_destructor)) created u
       → q.action ≡ None → IsNoted client p q sender is_destructor did → Comes client u answer lacked did p q
 
-module _ {T U C : Type 0} (client : ClientParts) (u : Option U) (p q : Part T U C) (sender : IdParts) (is_destructor : Bool) (created : Option IdParts) (did : List (Deed U)) where
+module _ {T U C : Type 0} (client : ClientParts) (u : Option U) (p q : Part T U C) (sender : IdParts) (is_destructor : Bool)
+    (created : Option IdParts) (did : List (Deed U)) where
   abbrev verdict : Option (Object (Kept U)) → Verdict (Core U C) (Told U)
   verdict o = ends client (core_of p) sender o created u
 
-  ended_part : (o : Option (Object (Kept U))) → IsTold (verdict o) false did q → (q.store ≡ store_with_data (left_by p.store sender.number o) created u) × (q.action ≡ None)
+  ended_part : (o : Option (Object (Kept U))) → IsTold (verdict o) false did q
+      → (q.store ≡ store_with_data (left_by p.store sender.number o) created u) × (q.action ≡ None)
   ended_part o t = grind (arith, ends, core_of, true≢false, closed_down, o)
 
-  part_noted : (o : Option (Object (Kept U))) → ended_by p.store sender is_destructor ≡ o → IsTold (verdict o) false did q → IsNoted client p q sender is_destructor did
+  part_noted : (o : Option (Object (Kept U))) → ended_by p.store sender is_destructor ≡ o → IsTold (verdict o) false did q
+      → IsNoted client p q sender is_destructor did
   part_noted o is t =
       grind (arith, ends, told_notes, notes_in, end_deeds, append-nil, is_some, note_of_end, id_of, id_at, end_note, ended_named, closed_down, core_of, true≢false, made_none, removed_named, o)
 
@@ -162,7 +180,8 @@ module _ {T U C : Type 0} (client : ClientParts) (u : Option U) (p q : Part T U 
   starved_part o is t = grind (arith, ends, core_of, is_some, true≢false, named, ended_named, notes_in, end_deeds, told_notes, o)
 
   taken : (lacked : Bool) (answer : Answer U) → p.action ≡ Some (opened.Request sender is_destructor created) → refusal p.is_killed created u ≡ None
-      → answer ≡ unless_refused (record { error = finish.OutOfMemory; user_data = u }) lacked → IsTold (verdict (ended_by p.store sender is_destructor)) lacked did q
+      → answer ≡ unless_refused (record { error = finish.OutOfMemory; user_data = u }) lacked
+      → IsTold (verdict (ended_by p.store sender is_destructor)) lacked did q
       → Comes client u answer lacked did p q
   taken true answer is_open fits says t = let (destroys, there, core, silent) = starved_part _ refl t in is_starved sender is_destructor created is_open destroys there says refl core silent
   taken false answer is_open fits says t = let (store, action) = ended_part _ t in is_ended sender is_destructor created is_open fits says refl store action (part_noted _ refl t)
@@ -170,7 +189,8 @@ module _ {T U C : Type 0} (client : ClientParts) (u : Option U) (p q : Part T U 
   refused_why : (e : FinishError) → p.action ≡ Some (opened.Request sender is_destructor created) → refusal p.is_killed created u ≡ Some e → Why p u e
   refused_why e is_open is = grind (arith, refusal, created, u)
 
-comes_to : {T U C : Type 0} (sends : T → Queue → Result ℕ IoFault → T → Type 0) (client : ClientParts) (u : Option U) (answer : Answer U) (lacked : Bool) (did : List (Deed U)) (p q : Part T U C)
+comes_to : {T U C : Type 0} (sends : T → Queue → Result ℕ IoFault → T → Type 0) (client : ClientParts) (u : Option U) (answer : Answer U)
+    (lacked : Bool) (did : List (Deed U)) (p q : Part T U C)
     → FinishesRequest sends client p u answer lacked did q → Comes client u answer lacked did p q
 comes_to sends client u answer lacked did p q h =
     elim (either_option p.action h) [
@@ -178,8 +198,10 @@ comes_to sends client u answer lacked did p q h =
       | inr (opened.Bind object, is, (says, calm, nothing, same)) ↦ is_refused finish.WrongKind (object, is) says calm nothing same
       | inr (opened.Request sender is_destructor created, is, is_open) ↦
           elim (either_option (refusal p.is_killed created u) is_open) [
-            | inl (fits, (says, tells)) ↦ taken client u p q sender is_destructor created did lacked answer is fits says (told sends _ p.link lacked did q tells)
-            | inr (e, why, (says, calm, nothing, same)) ↦ is_refused e (refused_why client u p q sender is_destructor created did e is why) says calm nothing same
+            | inl (fits, (says, tells)) ↦ taken client u p q sender is_destructor created did lacked answer is fits says
+                (told sends _ p.link lacked did q tells)
+            | inr (e, why, (says, calm, nothing, same)) ↦ is_refused e
+                (refused_why client u p q sender is_destructor created did e is why) says calm nothing same
           ]
     ]
 
@@ -191,16 +213,19 @@ module _ {T U G C : Type 0} (w : World T G C) (before after : BackendState T U G
 
   -- ---- by the answer
 
-  refused_as : (p : Part T U C) (e : FinishError) → (seen target before.server).part ≡ Some p → Why p u e → IsRefusedWhole before after → RequestRefusedAs before target u e after
+  refused_as : (p : Part T U C) (e : FinishError) → (seen target before.server).part ≡ Some p → Why p u e → IsRefusedWhole before after
+      → RequestRefusedAs before target u e after
   refused_as p e there why whole = grind (arith, is_some, option_map, e)
 
-  module _ (p q : Part T U C) (did : List (Deed U)) (sender : IdParts) (is_destructor : Bool) (created : Option IdParts) (there : (seen target before.server).part ≡ Some p)
+  module _ (p q : Part T U C) (did : List (Deed U)) (sender : IdParts) (is_destructor : Bool) (created : Option IdParts)
+      (there : (seen target before.server).part ≡ Some p)
       (same : seen target after.server ≡ record { part = Some q; made = (seen target before.server).made ++ notes_in did }) where
     end_told : IsNoted target p q sender is_destructor did → EndIsTold before target sender is_destructor after
     end_told noted = grind (arith, option_map, notes_if_kept, ended_by, sender_notes, named, end_note_of)
 
     ended_as : p.action ≡ Some (opened.Request sender is_destructor created) → refusal p.is_killed created u ≡ None
-        → q.store ≡ store_with_data (left_by p.store sender.number (ended_by p.store sender is_destructor)) created u → q.action ≡ None → IsNoted target p q sender is_destructor did
+        → q.store ≡ store_with_data (left_by p.store sender.number (ended_by p.store sender is_destructor)) created u → q.action ≡ None
+        → IsNoted target p q sender is_destructor did
         → RequestIsEnded before target sender is_destructor created u after
     ended_as is_open fits store none_open noted =
         let now : (seen target after.server).part ≡ Some q = ap (λ (x : Seen T U C). x.part) same in
@@ -225,7 +250,8 @@ module _ {T U G C : Type 0} (w : World T G C) (before after : BackendState T U G
         | not_stored none is calm same ↦ rw is (refl, (none, (nothing_changes one same, calm)))
         | became p q did there so same ↦
             elim so [
-              | is_refused e why is calm none stays ↦ rw is (refl, refused_as p e there why (nothing_changes one (nothing_new _ _ p q did there stays (ap notes_in none) same), calm))
+              | is_refused e why is calm none stays ↦ rw is
+                  (refl, refused_as p e there why (nothing_changes one (nothing_new _ _ p q did there stays (ap notes_in none) same), calm))
               | is_starved sender is_destructor created is_open destroys kept is lacks core silent ↦
                   rw is (refl, (sender, created, (grind (arith, and_then)), (grind (arith, and_then, is_some, named)), (grind (arith, option_map)), (grind (arith, append-nil)), lacks))
               | is_ended sender is_destructor created is_open fits is calm store none_open noted ↦
@@ -233,14 +259,16 @@ module _ {T U G C : Type 0} (w : World T G C) (before after : BackendState T U G
             ]
       ]
 
-  pub request_ends : (answer : Answer U) → Makes w before.server (Asked (step.FinishRequest target u) (reply.FinishRequest answer)) after.refused after.server
+  pub request_ends : (answer : Answer U) → Makes w before.server
+      (Asked (step.FinishRequest target u) (reply.FinishRequest answer)) after.refused after.server
       → EndsOpenRequest before target u answer after
   request_ends answer made =
       let one : Ending answer = refine (of_one made target (λ id lacked did p q. FinishesRequest w.sends id p u answer lacked did q) _ (λ id s t lacked did (r, is, h). let e : r ≡ answer = cc in rw e at h)
       refl refl refl) (comes_to w.sends target u answer) in
       record { request = request_ended_as answer one; clients = one.clients; stored = stored_stay one; globals = one.globals }
 
-  pub ends_open_request : (answer : Answer U) → Calls w before (step.FinishRequest target u) (reply.FinishRequest answer) after → EndsOpenRequest before target u answer after
+  pub ends_open_request : (answer : Answer U) → Calls w before (step.FinishRequest target u) (reply.FinishRequest answer) after
+      → EndsOpenRequest before target u answer after
   ends_open_request answer call = request_ends answer call.step
 
 -- ---- what becomes of the data of an action, in the words of the look-ups
@@ -249,25 +277,30 @@ module _ {T U G C : Type 0} (w : World T G C) (before after : BackendState T U G
 
 module _ {U : Type 0} where
   -- the object that is kept has them, or they come back
-  pub given_held : (store after : Store (Kept U)) (id : IdParts) (u : U) (back : Option U) → MatchOption (named store id) (back ≡ Some u) (λ _. back ≡ None)
+  pub given_held : (store after : Store (Kept U)) (id : IdParts) (u : U) (back : Option U)
+      → MatchOption (named store id) (back ≡ Some u) (λ _. back ≡ None)
       → after ≡ data_given store id.number (named store id) u → HoldsData (named after id) u back
   given_held store after id u back returned given = grind (arith, named, option_map, with_user_data, rewritten_named, names_so)
 
 -- ---- the open action
 
 module _ {T U C : Type 0} (p q : Part T U C) where
-  pub request_leaves : (u : Option U) (sender : IdParts) (is_destructor : Bool) (created : Option IdParts) (answer : Result (Option U) (FinishRefused (Option U)))
-      → p.action ≡ Some (opened.Request sender is_destructor created) → IfOk answer (λ back. DataHeld q.store created u back) → RequestLeaves p u answer q
+  pub request_leaves : (u : Option U) (sender : IdParts) (is_destructor : Bool) (created : Option IdParts)
+      (answer : Result (Option U) (FinishRefused (Option U)))
+      → p.action ≡ Some (opened.Request sender is_destructor created) → IfOk answer (λ back. DataHeld q.store created u back)
+      → RequestLeaves p u answer q
   request_leaves u sender is_destructor created h5 is held = grind (arith)
 
 -- ---- the client that was looked up
 
 module _ {T U G C : Type 0} (before after : BackendState T U G C) (id : ClientParts) (s t : Stored T U C)
-    (there : Some s ≡ client_at id before.server.clients) (same : t.serial ≡ s.serial) (now : after.server.clients ≡ slice_set before.server.clients id.slot (Some t)) where
+    (there : Some s ≡ client_at id before.server.clients) (same : t.serial ≡ s.serial)
+    (now : after.server.clients ≡ slice_set before.server.clients id.slot (Some t)) where
   parts : (client_in before id ≡ Some s.part) × (client_in after id ≡ Some t.part)
   parts = grind (arith, option_map, get_set_same)
 
-  pub bind_returns : (u : U) (answer : Result (Option U) (FinishRefused U)) → BindLeaves s.part u answer t.part → EndsBind before id u (result_and answer (Ok tt)) after
+  pub bind_returns : (u : U) (answer : Result (Option U) (FinishRefused U)) → BindLeaves s.part u answer t.part
+      → EndsBind before id u (result_and answer (Ok tt)) after
       → ReturnsBindData before id u answer after
   bind_returns u answer leaves ends = let (was, is) = parts in grind (arith)
 

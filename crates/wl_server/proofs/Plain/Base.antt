@@ -55,9 +55,11 @@ module _ {T U G C : Type 0} (id : ClientParts) (e : Entry T U G C) (by : IsRefus
 grown : {T U G C : Type 0} (e : Entry T U G C) → IsRefused e → ((id : ClientParts) → e.lacks id ≡ false) → e.refused ≡ lacks_growth e.call
 grown e by all = grind (arith, as_true, true≢false)
 
-module _ {T U G C : Type 0} {w : World T G C} {before after : BackendState T U G C} {s : Step T U G C} {answer : Reply T U} (call : Calls w before s answer after) where
+module _ {T U G C : Type 0} {w : World T G C} {before after : BackendState T U G C} {s : Step T U G C} {answer : Reply T U}
+    (call : Calls w before s answer after) where
   abbrev Each : ClientParts → Type 0
-  Each id = (lacked : Bool) × (did : List (Deed U)) × PartStep w id before.server.offer s answer (seen id before.server) lacked did (seen id after.server)
+  Each id =
+      (lacked : Bool) × (did : List (Deed U)) × PartStep w id before.server.offer s answer (seen id before.server) lacked did (seen id after.server)
 
   -- what all clients share after the call
   pub offer_of : after.server.offer ≡ offer_after before.server.offer (Asked s answer)
@@ -92,7 +94,8 @@ module _ {T U G C : Type 0} {w : World T G C} {before after : BackendState T U G
 
   -- to some client, if not for what the call makes of its own
   pub some_lacks : lacks_growth (Asked s answer) ≡ false → after.refused ≡ true
-      → (id : ClientParts) × (did : List (Deed U)) × PartStep w id before.server.offer s answer (seen id before.server) true did (seen id after.server)
+      → (id : ClientParts) × (did : List (Deed U))
+      × PartStep w id before.server.offer s answer (seen id before.server) true did (seen id after.server)
   some_lacks growth known = grind (arith, true≢false, lacks_growth, seen)
 
 -- ---- what is held of one client
@@ -104,7 +107,8 @@ module _ {T U C : Type 0} where
   nothing_new s t p q did there same none is = grind (arith, append-nil)
 
 -- a step about this very client
-pub own : {T U C : Type 0} (id : ClientParts) (s : Seen T U C) (R : Part T U C → Part T U C → Type 0) (missing : Type 0) (lacked : Bool) (did : List (Deed U)) (t : Seen T U C)
+pub own : {T U C : Type 0} (id : ClientParts) (s : Seen T U C) (R : Part T U C → Part T U C → Type 0) (missing : Type 0) (lacked : Bool)
+    (did : List (Deed U)) (t : Seen T U C)
     → OfClient (same_client id id) s R missing lacked did t → OnPart s R missing lacked did t
 own id s R missing lacked did t h = grind (arith, true≢false, same_client id id, same_self id)
 
@@ -117,9 +121,11 @@ Change T U C = Bool → List (Deed U) → Part T U C → Part T U C → Type 0
 -- what it comes to for that client, whether memory was refused to it or not: it is not stored, or its part changes so
 pub data OnOne {T U C : Type 0} (R : Change T U C) (missing : Type 0) (s : Seen T U C) (lacked : Bool) (t : Seen T U C) : Type 0 where
   not_stored : s.part ≡ None → missing → lacked ≡ false → t ≡ s → OnOne R missing s lacked t
-  became : (p q : Part T U C) (did : List (Deed U)) → s.part ≡ Some p → R lacked did p q → t ≡ record { part = Some q; made = s.made ++ notes_in did } → OnOne R missing s lacked t
+  became : (p q : Part T U C) (did : List (Deed U)) → s.part ≡ Some p → R lacked did p q → t ≡ record { part = Some q; made = s.made ++ notes_in did }
+      → OnOne R missing s lacked t
 
-pub one_of : {T U C : Type 0} (id : ClientParts) (R : Change T U C) (missing : Type 0) (s : Seen T U C) (lacked : Bool) (did : List (Deed U)) (t : Seen T U C)
+pub one_of : {T U C : Type 0} (id : ClientParts) (R : Change T U C) (missing : Type 0) (s : Seen T U C) (lacked : Bool) (did : List (Deed U))
+    (t : Seen T U C)
     → OfClient (same_client id id) s (R lacked did) missing lacked did t → OnOne R missing s lacked t
 one_of id R missing s lacked did t h =
     elim (either_option s.part (own id s (R lacked did) missing lacked did t h)) [
@@ -141,18 +147,23 @@ pub record IsOfOne {T U G C : Type 0} (before after : BackendState T U G C) (tar
   pub last : after.server.last_client ≡ before.server.last_client
 
 -- what a call is of a client
-pub part_of_call : {T U G C : Type 0} {w : World T G C} {before after : ServerState T U G C} {e : Entry T U G C} {call : Call T U G C} → OneStep w before e after → e.call ≡ call → (id : ClientParts)
+pub part_of_call : {T U G C : Type 0} {w : World T G C} {before after : ServerState T U G C} {e : Entry T U G C} {call : Call T U G C}
+    → OneStep w before e after → e.call ≡ call → (id : ClientParts)
     → PartCall w id before.offer call (seen id before) (e.lacks id) (e.did id) (seen id after)
 part_of_call by is id = rw is at (by.each id)
 
-module _ {T U G C : Type 0} {w : World T G C} {before after : BackendState T U G C} {call : Call T U G C} (made : Makes w before.server call after.refused after.server) where
+module _ {T U G C : Type 0} {w : World T G C} {before after : BackendState T U G C} {call : Call T U G C}
+    (made : Makes w before.server call after.refused after.server) where
   -- a call is so if this is what it is of its client, and it is nothing of the others
-  pub of_own : (target : ClientParts) (R : Change T U C) (missing : Type 0) → OnOne R missing (seen target before.server) (made.0.lacks target) (seen target after.server)
+  pub of_own : (target : ClientParts) (R : Change T U C) (missing : Type 0)
+      → OnOne R missing (seen target before.server) (made.0.lacks target) (seen target after.server)
       → ((id : ClientParts) → same_client target id ≡ false → Unfelt (seen id before.server) (made.0.lacks id) (made.0.did id) (seen id after.server))
-      → lacks_growth call ≡ false → offer_after before.server.offer call ≡ before.server.offer → inserted_by call ≡ 0 → IsOfOne before after target R missing
+      → lacks_growth call ≡ false → offer_after before.server.offer call ≡ before.server.offer → inserted_by call ≡ 0
+      → IsOfOne before after target R missing
   of_own target R missing own others growth offer none =
       let (e, is, refused, step) = made in
-      let lacks : after.refused ≡ e.lacks target = sym refused ∙ lacks_as target e step.refused (ap lacks_growth is ∙ growth) (λ other differ. (others other differ).0) in
+      let lacks : after.refused ≡ e.lacks target = sym refused
+      ∙ lacks_as target e step.refused (ap lacks_growth is ∙ growth) (λ other differ. (others other differ).0) in
       record {
         own = rw lacks own;
         clients = λ other differ. (others other differ).2;
@@ -164,7 +175,8 @@ module _ {T U G C : Type 0} {w : World T G C} {before after : BackendState T U G
   pub of_one : (target : ClientParts) (R : ClientParts → Change T U C) (missing : Type 0)
       → ((id : ClientParts) (s t : Seen T U C) (lacked : Bool) (did : List (Deed U)) → PartCall w id before.server.offer call s lacked did t
       → OfClient (same_client target id) s (R id lacked did) missing lacked did t)
-      → lacks_growth call ≡ false → offer_after before.server.offer call ≡ before.server.offer → inserted_by call ≡ 0 → IsOfOne before after target (R target) missing
+      → lacks_growth call ≡ false → offer_after before.server.offer call ≡ before.server.offer → inserted_by call ≡ 0
+      → IsOfOne before after target (R target) missing
   of_one target R missing by =
       of_own target (R target) missing (one_of target (R target) missing _ _ _ _ (by target _ _ _ _ (part_of_call made.3 made.1 target)))
       (λ id differ. when_false _ (same_client target id) differ (by id _ _ _ _ (part_of_call made.3 made.1 id)))
@@ -183,19 +195,22 @@ module _ {T U G C : Type 0} {before after : BackendState T U G C} {target : Clie
 
   -- what such a step leaves of the part stays of each client
   pub stays : {A : Type 0} (f : Option (Part T U C) → A) (id : ClientParts)
-      → (same_client target id ≡ true → (did : List (Deed U)) (p q : Part T U C) → (seen target before.server).part ≡ Some p → R after.refused did p q → f (Some q) ≡ f (Some p))
+      → (same_client target id ≡ true → (did : List (Deed U)) (p q : Part T U C) → (seen target before.server).part ≡ Some p → R after.refused did p q
+      → f (Some q) ≡ f (Some p))
       → f (seen id after.server).part ≡ f (seen id before.server).part
   stays f id each = grind (arith, one.own, one.clients, same_is, same_client target id)
 
   pub names_stay : (o : IdParts)
-      → (same_client target o.client ≡ true → (did : List (Deed U)) (p q : Part T U C) → (seen target before.server).part ≡ Some p → R after.refused did p q → named q.store o ≡ named p.store o)
+      → (same_client target o.client ≡ true → (did : List (Deed U)) (p q : Part T U C) → (seen target before.server).part ≡ Some p
+      → R after.refused did p q → named q.store o ≡ named p.store o)
       → object_in after o ≡ object_in before o
   names_stay o each = stays (λ x. and_then x (λ p. named p.store o)) o.client each
 
   pub stored_stay : (id : ClientParts) → is_some (client_in after id) ≡ is_some (client_in before id)
   stored_stay id = stays (λ x. is_some x) id (λ about did p q there r. refl)
 
-  pub made_stay : ((did : List (Deed U)) (p q : Part T U C) → R after.refused did p q → notes_in did ≡ []) → (id : ClientParts) → notes_made_in after id ≡ notes_made_in before id
+  pub made_stay : ((did : List (Deed U)) (p q : Part T U C) → R after.refused did p q → notes_in did ≡ []) → (id : ClientParts)
+      → notes_made_in after id ≡ notes_made_in before id
   made_stay silent id = grind (arith, made_own one.own silent, one.clients, same_is, same_client target id)
 
   -- a call that changes nothing of its client changes nothing

@@ -43,21 +43,26 @@ use Rattle.wl_wire.specs.declared.error.IoFault.TheVariants as fault
 -- ---- a client that is inserted, and limits
 
 module _ {T U G C : Type 0} {w : World T G C} {before after : BackendState T U G C} (transport : T) (client_data : C) where
-  insert_each : (answer : Result ClientParts InsertClientError) → Calls w before (step.InsertClient transport client_data) (reply.InsertClient answer) after → (id : ClientParts)
-      → (lacked : Bool) × (did : List (Deed U)) × InsertedAs w id before.server.offer transport client_data answer (seen id before.server) lacked did (seen id after.server)
+  insert_each : (answer : Result ClientParts InsertClientError)
+      → Calls w before (step.InsertClient transport client_data) (reply.InsertClient answer) after → (id : ClientParts)
+      → (lacked : Bool) × (did : List (Deed U))
+      × InsertedAs w id before.server.offer transport client_data answer (seen id before.server) lacked did (seen id after.server)
   insert_each answer call id =
       let (lacked, did, (r, is, h)) = of_each call id in grind (arith, seen)
 
-  inserted_as : (answer : Result ClientParts InsertClientError) → Calls w before (step.InsertClient transport client_data) (reply.InsertClient answer) after
+  inserted_as : (answer : Result ClientParts InsertClientError)
+      → Calls w before (step.InsertClient transport client_data) (reply.InsertClient answer) after
       → NewClientAs before transport client_data answer after
   inserted_as (Ok id) call =
       let (lacked, did, h) = insert_each (Ok id) call id in
       let (link, fresh, calm', noted, is) = when_true _ (same_client id id) (same_self id) h in
-      let others : OtherClientsStay before id after = λ other differ. let (lacked, did, h) = insert_each (Ok id) call other in (when_false _ (same_client id other) differ h).2 in
+      let others : OtherClientsStay before id after = λ other differ. let (lacked, did, h) = insert_each
+      (Ok id) call other in (when_false _ (same_client id other) differ h).2 in
       (link, fresh, ap (λ (x : Seen T U C). x.part) is, ap (λ (x : Seen T U C). x.made) is, others)
   inserted_as (Err e) call = λ id. let (lacked, did, h) = insert_each (Err e) call id in h.2
 
-  pub inserts_client : (answer : Result ClientParts InsertClientError) → Calls w before (step.InsertClient transport client_data) (reply.InsertClient answer) after
+  pub inserts_client : (answer : Result ClientParts InsertClientError)
+      → Calls w before (step.InsertClient transport client_data) (reply.InsertClient answer) after
       → InsertsClient before transport client_data answer after
   inserts_client answer call = grind (arith, inserted_as, offer_of, by_growth, same_client)
 
@@ -66,7 +71,8 @@ abbrev Limits : {T U C : Type 0} → ℕ → ClientParts → Bool → List (Deed
 Limits limit id lacked did p q = Quietly lacked did ((link : LinkState _) × LimitSet p.link (Some limit) link × (q ≡ with_link p link))
 
 module _ {T U G C : Type 0} {w : World T G C} {before after : BackendState T U G C} where
-  pub sets_limit : (id : ClientParts) (limit : ℕ) → Calls w before (step.SetClientMaxBufferSize id limit) reply.SetClientMaxBufferSize after → SetsLimit before id limit after
+  pub sets_limit : (id : ClientParts) (limit : ℕ) → Calls w before (step.SetClientMaxBufferSize id limit) reply.SetClientMaxBufferSize after
+      → SetsLimit before id limit after
   sets_limit id limit call = record {
     client = limited _ _ after.refused one.own;
     clients = one.clients;
@@ -84,10 +90,12 @@ module _ {T U G C : Type 0} {w : World T G C} {before after : BackendState T U G
       limited s t lacked h =
           elim h [
             | not_stored none u none_lacked same ↦ where_none s.part (sym none) _ _ (ap (λ (x : Seen T U C). x.part) same ∙ none)
-            | became p q did there (none_lacked, nothing, (link, set, is)) same ↦ where_some s.part p (sym there) _ _ (link, set, ap (λ (x : Seen T U C). x.part) same ∙ ap Some is)
+            | became p q did there (none_lacked, nothing, (link, set, is)) same ↦ where_some s.part p (sym there) _ _
+                (link, set, ap (λ (x : Seen T U C). x.part) same ∙ ap Some is)
           ]
 
-  pub sets_default_limit : (limit : ℕ) → Calls w before (step.SetDefaultMaxBufferSize limit) reply.SetDefaultMaxBufferSize after → SetsDefaultLimit before limit after
+  pub sets_default_limit : (limit : ℕ) → Calls w before (step.SetDefaultMaxBufferSize limit) reply.SetDefaultMaxBufferSize after
+      → SetsDefaultLimit before limit after
   sets_default_limit limit call = grind (arith, offer_of, of_each, calm)
 
 -- ---- a client that is killed
@@ -97,7 +105,8 @@ abbrev KillsFor : {T U C : Type 0} → DisconnectReason → ClientParts → Bool
 KillsFor reason client lacked did p q = (lacked ≡ false) × Kills p reason did q
 
 module _ {T U G C : Type 0} {w : World T G C} {before after : BackendState T U G C} where
-  pub kills_client : (id : ClientParts) (reason : DisconnectReason) → Calls w before (step.KillClient id reason) reply.KillClient after → KillsClient before id reason after
+  pub kills_client : (id : ClientParts) (reason : DisconnectReason) → Calls w before (step.KillClient id reason) reply.KillClient after
+      → KillsClient before id reason after
   kills_client id reason call = grind (arith, one, names_stay one, append-nil, end_note_of, option_map, as_killed, named)
     where
       one : IsOfOne before after id (KillsFor reason id) (Unit {0})
@@ -105,7 +114,8 @@ module _ {T U G C : Type 0} {w : World T G C} {before after : BackendState T U G
 
 -- ---- an error that the program posts
 
-module _ {T U C : Type 0} (sends : T → Queue → Result ℕ IoFault → T → Type 0) (table : List InterfaceRow) (id : IdParts) (code : ℕ) (text : List ℕ) where
+module _ {T U C : Type 0} (sends : T → Queue → Result ℕ IoFault → T → Type 0) (table : List InterfaceRow) (id : IdParts) (code : ℕ)
+    (text : List ℕ) where
   -- the client is killed for this reason, and otherwise as it was but for its link
   record IsEnded (p : Part T U C) (did : List (Deed U)) (q : Part T U C) : Type 0 where
     reason : DisconnectReason
@@ -113,7 +123,8 @@ module _ {T U C : Type 0} (sends : T → Queue → Result ℕ IoFault → T → 
     core_is : core_of q ≡ core_of (as_killed p)
     noted : notes_in did ≡ cond p.is_killed [] (Disconnected reason ∷ [])
 
-  ends : (p q : Part T U C) (lacked : Bool) (did : List (Deed U)) → Tells sends (posts table (core_of p) id code text) p.link lacked did q → IsEnded p did q
+  ends : (p q : Part T U C) (lacked : Bool) (did : List (Deed U)) → Tells sends (posts table (core_of p) id code text) p.link lacked did q
+      → IsEnded p did q
   ends p q lacked did h =
       elim t.came [
         | put_all is calm ↦ so (BrokeProtocol (error_of table id code text)) (inl refl) is
@@ -133,15 +144,18 @@ module _ {T U C : Type 0} (sends : T → Queue → Result ℕ IoFault → T → 
       }
 
 -- what the call does to its client
-abbrev PostsFor : {T U C : Type 0} → (T → Queue → Result ℕ IoFault → T → Type 0) → List InterfaceRow → IdParts → ℕ → List ℕ → ClientParts → Bool → List (Deed U) → Part T U C → Part T U C → Type 0
+abbrev PostsFor : {T U C : Type 0} → (T → Queue → Result ℕ IoFault → T → Type 0) → List InterfaceRow → IdParts → ℕ → List ℕ → ClientParts → Bool
+    → List (Deed U) → Part T U C → Part T U C → Type 0
 PostsFor sends table id code text client lacked did p q = PostsError sends table p id code text lacked did q
 
-null_same : {T U C : Type 0} (sends : T → Queue → Result ℕ IoFault → T → Type 0) (table : List InterfaceRow) (id : IdParts) (code : ℕ) (text : List ℕ) (s t : Seen T U C) (lacked : Bool)
+null_same : {T U C : Type 0} (sends : T → Queue → Result ℕ IoFault → T → Type 0) (table : List InterfaceRow) (id : IdParts) (code : ℕ) (text : List ℕ)
+    (s t : Seen T U C) (lacked : Bool)
     → (id.number == 0) ≡ true → OnOne (PostsFor sends table id code text id.client) (Unit {0}) s lacked t → t ≡ s
 null_same sends table id code text s t lacked null h = grind (arith, when_true, nothing_new, notes_in, append-nil)
 
 module _ {T U G C : Type 0} {w : World T G C} {before after : BackendState T U G C} where
-  pub kills_for_error : (id : IdParts) (code : ℕ) (text : List ℕ) → Calls w before (step.PostError id code text) reply.PostError after → KillsForError before id code text after
+  pub kills_for_error : (id : IdParts) (code : ℕ) (text : List ℕ) → Calls w before (step.PostError id code text) reply.PostError after
+      → KillsForError before id code text after
   kills_for_error id code text call = record {
     client = by_number (id.number == 0) refl;
     objects = λ o. names_stay one o (λ about did p q there r. (grind (arith, split_bool, ends, named)));
@@ -151,7 +165,8 @@ module _ {T U G C : Type 0} {w : World T G C} {before after : BackendState T U G
   }
     where
       one : IsOfOne before after id.client (PostsFor w.sends before.server.offer.table id code text id.client) (Unit {0})
-      one = of_one call.step id.client (PostsFor w.sends before.server.offer.table id code text) (Unit {0}) (λ client s t lacked did (is, h). h) refl refl refl
+      one = of_one call.step id.client (PostsFor w.sends before.server.offer.table id code text) (Unit {0})
+          (λ client s t lacked did (is, h). h) refl refl refl
 
       posted : (id.number == 0) ≡ false → ErrorPostedAs before id code text after
       posted some =
@@ -169,12 +184,14 @@ module _ {T U G C : Type 0} {w : World T G C} {before after : BackendState T U G
 -- ---- what waits for clients is flushed
 
 -- what the flush of one client does to it
-abbrev FlushesFor : {T U C : Type 0} → (T → Queue → Result ℕ IoFault → T → Type 0) → Result (Unit {0}) IoFault → ClientParts → Bool → List (Deed U) → Part T U C → Part T U C → Type 0
+abbrev FlushesFor : {T U C : Type 0} → (T → Queue → Result ℕ IoFault → T → Type 0) → Result (Unit {0}) IoFault → ClientParts → Bool → List (Deed U)
+    → Part T U C → Part T U C → Type 0
 FlushesFor sends answer id lacked did p q = FlushedTo sends p answer lacked did q
 
 -- all of a client but its link is as before, and nothing is noted
 abbrev Relinked : {T U C : Type 0} → Seen T U C → Seen T U C → Type 0
-Relinked s t = (t ≡ s) ⊎ ((p : Part _ _ _) × (link : LinkState _) × (s.part ≡ Some p) × (t ≡ record { part = Some (with_link p link); made = s.made }))
+Relinked s t =
+    (t ≡ s) ⊎ ((p : Part _ _ _) × (link : LinkState _) × (s.part ≡ Some p) × (t ≡ record { part = Some (with_link p link); made = s.made }))
 
 module _ {T U G C : Type 0} (w : World T G C) (id : ClientParts) (offer : Offer G) (s t : Seen T U C) (lacked : Bool) (did : List (Deed U)) where
   relinked : {R : Part T U C → Part T U C → Type 0} (missing : Type 0) → OnPart s R missing lacked did t
@@ -196,23 +213,29 @@ module _ {T U G C : Type 0} (w : World T G C) (id : ClientParts) (offer : Offer 
   ]
 
   -- a killed client is not flushed with all
-  killed_stays : (answer : Result (Unit {0}) IoFault) (p : Part T U C) → s.part ≡ Some p → p.is_killed ≡ true → FlushedFor w id offer None answer s lacked did t → t ≡ s
+  killed_stays : (answer : Result (Unit {0}) IoFault) (p : Part T U C) → s.part ≡ Some p → p.is_killed ≡ true
+      → FlushedFor w id offer None answer s lacked did t → t ≡ s
   killed_stays answer p there killed (ok, h) = grind (arith, either_option, split_bool, nothing_new, notes_in, true≢false, append-nil)
 
 module _ {T U G C : Type 0} {w : World T G C} {before after : BackendState T U G C} where
-  flush_each : (target : Option ClientParts) (answer : Result (Unit {0}) IoFault) → Calls w before (step.Flush target) (reply.Flush answer) after → (id : ClientParts)
-      → (lacked : Bool) × (did : List (Deed U)) × FlushedFor w id before.server.offer target answer (seen id before.server) lacked did (seen id after.server)
+  flush_each : (target : Option ClientParts) (answer : Result (Unit {0}) IoFault) → Calls w before (step.Flush target) (reply.Flush answer) after
+      → (id : ClientParts)
+      → (lacked : Bool) × (did : List (Deed U))
+      × FlushedFor w id before.server.offer target answer (seen id before.server) lacked did (seen id after.server)
   flush_each target answer call id =
       let (lacked, did, (r, is, h)) = of_each call id in let e : r ≡ answer = cc in (lacked, did, rw e at h)
 
-  flush_one : (id : ClientParts) (answer : Result (Unit {0}) IoFault) → Calls w before (step.Flush (Some id)) (reply.Flush answer) after → IsOfOne before after id (FlushesFor w.sends answer id) (answer ≡ Ok tt)
-  flush_one id answer call = of_one call.step id (FlushesFor w.sends answer) _ (λ client s t lacked did (r, is, h). let e : r ≡ answer = cc in rw e at h) refl refl refl
+  flush_one : (id : ClientParts) (answer : Result (Unit {0}) IoFault) → Calls w before (step.Flush (Some id)) (reply.Flush answer) after
+      → IsOfOne before after id (FlushesFor w.sends answer id) (answer ≡ Ok tt)
+  flush_one id answer call =
+      of_one call.step id (FlushesFor w.sends answer) _ (λ client s t lacked did (r, is, h). let e : r ≡ answer = cc in rw e at h) refl refl refl
 
   flushed_as : (target : Option ClientParts) (answer : Result (Unit {0}) IoFault) → Calls w before (step.Flush target) (reply.Flush answer) after
       → FlushedAs w.sends before target answer after
   flushed_as None answer call = (
     (let (lacked, did, h) = flush_each None answer call (record { slot = 0; serial = 0 }) in h.0),
-    λ id p there killed. let (lacked, did, h) = flush_each None answer call id in killed_stays w id before.server.offer _ _ lacked did answer p there killed h,
+    λ id p there killed. let (lacked, did, h) =
+        flush_each None answer call id in killed_stays w id before.server.offer _ _ lacked did answer p there killed h,
   )
   flushed_as (Some id) answer call =
       let one = flush_one id answer call in
@@ -237,7 +260,8 @@ module _ {T U G C : Type 0} {w : World T G C} {before after : BackendState T U G
       ]
   flush_memory (Some id) answer call = let one = flush_one id answer call in grind (arith, one, lacks_memory)
 
-  pub flushes_clients : (target : Option ClientParts) (answer : Result (Unit {0}) IoFault) → Calls w before (step.Flush target) (reply.Flush answer) after
+  pub flushes_clients : (target : Option ClientParts) (answer : Result (Unit {0}) IoFault)
+      → Calls w before (step.Flush target) (reply.Flush answer) after
       → FlushesClients w.sends before target answer after
   flushes_clients target answer call =
       let each : (id : ClientParts) → Relinked (seen id before.server) (seen id after.server)
@@ -259,11 +283,13 @@ all_noted (n ∷ notes) = ap (λ (ns : List (Happening _)). n ∷ ns) (all_noted
 
 -- ---- a cleanup
 
-module _ {T U G C : Type 0} (w : World T G C) (id : ClientParts) (offer : Offer G) (out : Vec (ClientParts × T) Global) (s t : Seen T U C) (lacked : Bool) (did : List (Deed U))
+module _ {T U G C : Type 0} (w : World T G C) (id : ClientParts) (offer : Offer G) (out : Vec (ClientParts × T) Global) (s t : Seen T U C)
+    (lacked : Bool) (did : List (Deed U))
     (h : CleanedAs w id offer (Ok out) s lacked did t) where
   -- a stored client
   cleaned : (p : Part T U C) → s.part ≡ Some p
-      → (q : Option (Part T U C)) × Cleaned w.sends id p lacked did (share_of id out.items) q × (t ≡ record { part = q; made = s.made ++ notes_in did })
+      → (q : Option (Part T U C)) × Cleaned w.sends id p lacked did (share_of id out.items) q
+      × (t ≡ record { part = q; made = s.made ++ notes_in did })
   cleaned p there = grind (arith, either_option, none_and_some, share_of, one_value)
 
   cleaned_killed : (p : Part T U C) → s.part ≡ Some p → p.is_killed ≡ true → HandsOut w.sends p (share_of id out.items) t.part
@@ -291,11 +317,13 @@ module _ {T U G C : Type 0} (w : World T G C) (id : ClientParts) (offer : Offer 
       ]
 
 module _ {T U G C : Type 0} (w : World T G C) (before after : BackendState T U G C) where
-  cleanup_each : (answer : Result (Vec (ClientParts × T) Global) OutOfMemory) (made : Makes w before.server (Asked step.Cleanup (reply.Cleanup answer)) after.refused after.server) (id : ClientParts)
+  cleanup_each : (answer : Result (Vec (ClientParts × T) Global) OutOfMemory)
+      (made : Makes w before.server (Asked step.Cleanup (reply.Cleanup answer)) after.refused after.server) (id : ClientParts)
       → CleanedAs w id before.server.offer answer (seen id before.server) (made.0.lacks id) (made.0.did id) (seen id after.server)
   cleanup_each answer made id = let (r, is, h) = part_of_call made.3 made.1 id in let e : r ≡ answer = cc in rw e at h
 
-  pub cleanup_leaves : (answer : Result (Vec (ClientParts × T) Global) OutOfMemory) → Makes w before.server (Asked step.Cleanup (reply.Cleanup answer)) after.refused after.server
+  pub cleanup_leaves : (answer : Result (Vec (ClientParts × T) Global) OutOfMemory)
+      → Makes w before.server (Asked step.Cleanup (reply.Cleanup answer)) after.refused after.server
       → CleansUpClients w.sends before answer after
   cleanup_leaves (Ok out) made = record {
     killed = λ id. cleaned_killed w id before.server.offer out _ _ _ _ (cleanup_each (Ok out) made id);
@@ -307,7 +335,8 @@ module _ {T U G C : Type 0} (w : World T G C) (before after : BackendState T U G
         elim (made.3.refused.0 (made.2 ∙ known)) [
           | inl grows ↦ absurd (true≢false (sym grows ∙ ap lacks_growth made.1))
           | inr (id, lacks) ↦
-              let (p, link, there, dead, flushed, handed) = cleaned_lacks w id before.server.offer out _ _ _ _ (cleanup_each (Ok out) made id) lacks in (id, p, link, there, dead, flushed, handed)
+              let (p, link, there, dead, flushed, handed) = cleaned_lacks w id before.server.offer out _ _ _ _
+              (cleanup_each (Ok out) made id) lacks in (id, p, link, there, dead, flushed, handed)
         ];
   }
   cleanup_leaves (Err l) made = (
@@ -316,10 +345,12 @@ module _ {T U G C : Type 0} (w : World T G C) (before after : BackendState T U G
   )
 
 module _ {T U G C : Type 0} {w : World T G C} {before after : BackendState T U G C} where
-  pub cleans_up : (answer : Result (Vec (ClientParts × T) Global) OutOfMemory) → Calls w before step.Cleanup (reply.Cleanup answer) after → CleansUpClients w.sends before answer after
+  pub cleans_up : (answer : Result (Vec (ClientParts × T) Global) OutOfMemory) → Calls w before step.Cleanup (reply.Cleanup answer) after
+      → CleansUpClients w.sends before answer after
   cleans_up answer call = cleanup_leaves w before after answer call.step
 
   -- ---- notes
 
-  pub takes_notes : (answer : Result (Vec (Note U) Global) OutOfMemory) → Calls w before step.TakeNotes (reply.TakeNotes answer) after → TakesNotes before answer after
+  pub takes_notes : (answer : Result (Vec (Note U) Global) OutOfMemory) → Calls w before step.TakeNotes (reply.TakeNotes answer) after
+      → TakesNotes before answer after
   takes_notes answer h1 = grind (arith, offer_of, calm, unchanged, lacks_growth)

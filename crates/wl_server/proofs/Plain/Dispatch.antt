@@ -50,14 +50,16 @@ module _ {H T U G C : Type 0} (w : World T G C) (answers : Answering H T U G C) 
   kept_by before after e call by is same = by.offer ∙ ap (offer_after before.offer) is ∙ same
 
   module _ (id : ClientParts) where
-    round_keeps : (h h' : H) (r r' : Reading) (before after : ServerState T U G C) (run : List (Entry T U G C)) (lacked : Bool) (why : Option FinishError)
+    round_keeps : (h h' : H) (r r' : Reading) (before after : ServerState T U G C) (run : List (Entry T U G C)) (lacked : Bool)
+        (why : Option FinishError)
         → Round w answers id h r before run lacked why h' r' after → after.offer ≡ before.offer
     round_keeps h h' r r' before after run lacked why round = grind (arith, kept_by, offer_after)
 
     rounds_keep : (h h' : H) (r r' : Reading) (before after : ServerState T U G C) (run : List (Entry T U G C)) (lacked : Bool)
         → Rounds w answers id h r before run lacked h' r' after → after.offer ≡ before.offer
     rounds_keep h h' r r' before after run lacked (no_round nothing calm) = refl
-    rounds_keep h h' r r' before after run lacked (one_round {h1 = h1} {r1 = r1} {s1 = s1} {first = first} {next = next} {before = was} {now = now} rounds round run_is lacked_is) = grind (arith, round_keeps, rounds_keep h h1 r r1 before s1 first was rounds)
+    rounds_keep h h' r r' before after run lacked
+        (one_round {h1 = h1} {r1 = r1} {s1 = s1} {first = first} {next = next} {before = was} {now = now} rounds round run_is lacked_is) = grind (arith, round_keeps, rounds_keep h h1 r r1 before s1 first was rounds)
 
     client_keeps : (h h' : H) (before after : ServerState T U G C) (run : List (Entry T U G C)) (lacked : Bool) (answer : Result ℕ IoFault)
         → IsDispatched w answers id h before run lacked answer h' after → after.offer ≡ before.offer
@@ -67,11 +69,13 @@ module _ {H T U G C : Type 0} (w : World T G C) (answers : Answering H T U G C) 
   clients_keep : (ids : List ClientParts) (h h' : H) (before after : ServerState T U G C) (run : List (Entry T U G C)) (lacked : Bool) (total : ℕ)
       → EachIsDispatched w answers ids h before run lacked total h' after → after.offer ≡ before.offer
   clients_keep ids h h' before after run lacked total (no_round no_ids nothing calm no_total) = refl
-  clients_keep ids h h' before after run lacked total (one_round {earlier = earlier} {h1 = h1} {s1 = s1} {first = first} {next = next} {before = was} {now = now} {count = count} id answer each serves ids_are run_is lacked_is total_is) =
+  clients_keep ids h h' before after run lacked total
+      (one_round {earlier = earlier} {h1 = h1} {s1 = s1} {first = first} {next = next} {before = was} {now = now} {count = count} id answer each serves ids_are run_is lacked_is total_is) =
       client_keeps id h1 h' s1 after next now answer serves ∙ clients_keep earlier h h1 before s1 first was count each
 
   -- and the cleanup
-  cleanup_keeps : (before mid : ServerState T U G C) (after : BackendState T U G C) (calls : List (Entry T U G C)) (lacked : Bool) (answer result : Result ℕ IoFault)
+  cleanup_keeps : (before mid : ServerState T U G C) (after : BackendState T U G C) (calls : List (Entry T U G C)) (lacked : Bool)
+      (answer result : Result ℕ IoFault)
       → EndsDispatch w before calls lacked mid answer result after → after.server.offer ≡ mid.offer
   cleanup_keeps before mid after calls lacked answer result ends = kept_by mid after.server ends.cleanup _ ends.cleans ends.cleanup_is refl
 
@@ -81,16 +85,19 @@ split : (b : Bool) → (b ≡ true) ⊎ (b ≡ false)
 split h1 = grind (arith)
 
 -- what it leaves, by its answer
-abbrev Leaves : {T U G C : Type 0} → World T G C → ServerState T U G C → Entry T U G C → ServerState T U G C → Result (Vec (ClientParts × T) Global) OutOfMemory → Type 0
+abbrev Leaves : {T U G C : Type 0} → World T G C → ServerState T U G C → Entry T U G C → ServerState T U G C
+    → Result (Vec (ClientParts × T) Global) OutOfMemory → Type 0
 Leaves w mid e after r = CleansUpClients w.sends (record { server = mid; refused = false }) r (record { server = after; refused = e.refused })
 
-cleans : {T U G C : Type 0} {w : World T G C} {mid after : ServerState T U G C} {e : Entry T U G C} {out : Reply T U} → OneStep w mid e after → e.call ≡ Asked step.Cleanup out
+cleans : {T U G C : Type 0} {w : World T G C} {mid after : ServerState T U G C} {e : Entry T U G C} {out : Reply T U} → OneStep w mid e after
+    → e.call ≡ Asked step.Cleanup out
     → (r : Result (Vec (ClientParts × T) Global) OutOfMemory) × (out ≡ reply.Cleanup r) × Leaves w mid e after r
 cleans {w = w} {mid = mid} {after = after} {e = e} by is =
     let (r, says, h) = part_of_call by is (record { slot = 0; serial = 0 }) in
     (r, says, cleanup_leaves w (record { server = mid; refused = false }) (record { server = after; refused = e.refused }) r (e, is ∙ ap (λ (o : Reply _ _). Asked step.Cleanup o) says, refl, by))
 
-module _ {T U G C : Type 0} {sends : T → Queue → Result ℕ IoFault → T → Type 0} {before after : BackendState T U G C} {out : List (ClientParts × T)} (c : CleansTo sends before out after) where
+module _ {T U G C : Type 0} {sends : T → Queue → Result ℕ IoFault → T → Type 0} {before after : BackendState T U G C} {out : List (ClientParts × T)}
+    (c : CleansTo sends before out after) where
   all_live : AllLive after
   all_live id p there =
       elim (option_cases (client_in before id)) [
@@ -98,7 +105,8 @@ module _ {T U G C : Type 0} {sends : T → Queue → Result ℕ IoFault → T �
         | inr (x, was) ↦
             elim (split x.is_killed) [
               | inl dead ↦ absurd (none_and_some (client_in after id) (c.killed id x was dead).4 there)
-              | inr live ↦ let is : p ≡ record x { waiting = [] } = one_value (client_in after id) there (c.live id x was live).1 in rw is (live, refl)
+              | inr live ↦ let is : p ≡ record x { waiting = [] } = one_value (client_in after id) there (c.live id x was live).1 in rw is
+                  (live, refl)
             ]
       ]
 
@@ -159,7 +167,8 @@ module _ {T U C : Type 0} (table : List InterfaceRow) (id : ClientParts) (s t : 
   read_stands h (inl (none, is, same)) = absurd cc
   read_stands h (inr (p, was, inl (some, is, same))) = absurd cc
   read_stands h (inr (p, was, inr (inl (idle, dead, is, same)))) = absurd cc
-  read_stands h (inr (p, was, inr (inr (idle, live, (q, (handed, (lives, is))))))) = inr (q, ap (λ (x : Seen T U C). x.part) is, (grind (arith, is_some)))
+  read_stands h (inr (p, was, inr (inr (idle, live, (q, (handed, (lives, is))))))) =
+      inr (q, ap (λ (x : Seen T U C). x.part) is, (grind (arith, is_some)))
 
 -- ---- a reading, as the words of the look-ups tell it
 
@@ -171,10 +180,12 @@ module _ {T U G C : Type 0} (w : World T G C) (id : ClientParts) {s s' : ServerS
       (within_one w (record { server = s; refused = false }) (record { server = s'; refused = e.refused }) id r r' got (e, is, refl, by))
 
 module _ {T U G C : Type 0} (w : World T G C) (id : ClientParts) (s s' : ServerState T U G C) (e : Entry T U G C) (by : OneStep w s e s') where
-  request_starved : (u : Option U) (answer : Reply T U) → e.call ≡ Asked (step.FinishRequest id u) answer → Some finish.OutOfMemory ≡ refusal_in answer → e.refused ≡ true
+  request_starved : (u : Option U) (answer : Reply T U) → e.call ≡ Asked (step.FinishRequest id u) answer
+      → Some finish.OutOfMemory ≡ refusal_in answer → e.refused ≡ true
   request_starved u answer is why =
       let (r, answer_is, h) = part_of_call by is id in
-      starved r (why ∙ ap refusal_in answer_is) (request_ends w before after id u r (e, is ∙ ap (λ (a : Reply T U). Asked (step.FinishRequest id u) a) answer_is, refl, by)).request
+      starved r (why ∙ ap refusal_in answer_is)
+      (request_ends w before after id u r (e, is ∙ ap (λ (a : Reply T U). Asked (step.FinishRequest id u) a) answer_is, refl, by)).request
     where
       before : BackendState T U G C
       before = record { server = s; refused = false }
@@ -182,16 +193,21 @@ module _ {T U G C : Type 0} (w : World T G C) (id : ClientParts) (s s' : ServerS
       after : BackendState T U G C
       after = record { server = s'; refused = e.refused }
 
-      starved : (r : Result (Unit {0}) (FinishRefused (Option U))) → Some finish.OutOfMemory ≡ refusal_in {T = T} (reply.FinishRequest r) → RequestEndedAs before id u r after → e.refused ≡ true
+      starved : (r : Result (Unit {0}) (FinishRefused (Option U))) → Some finish.OutOfMemory ≡ refusal_in {T = T} (reply.FinishRequest r)
+          → RequestEndedAs before id u r after → e.refused ≡ true
       starved (Ok ok) lacks so = absurd (none_and_some None refl (sym lacks))
       starved (Err r) lacks so = grind (arith, r.error)
 
-  bind_starved : (u : U) (answer : Reply T U) → e.call ≡ Asked (step.FinishBind id u) answer → Some finish.OutOfMemory ≡ refusal_in answer → e.refused ≡ true
+  bind_starved : (u : U) (answer : Reply T U) → e.call ≡ Asked (step.FinishBind id u) answer → Some finish.OutOfMemory ≡ refusal_in answer
+      → e.refused ≡ true
   bind_starved u answer is why =
-      let (r, answer_is, h) = part_of_call by is id in absurd (never r (seen id s) (seen id s') (e.lacks id) (e.did id) (why ∙ ap refusal_in answer_is) h)
+      let (r, answer_is, h) = part_of_call by is id in absurd (never r (seen id s) (seen id s') (e.lacks id) (e.did id)
+      (why ∙ ap refusal_in answer_is) h)
     where
-      never : (r : Result (Unit {0}) (FinishRefused U)) (s t : Seen T U C) (lacked : Bool) (did : List (Deed U)) → Some finish.OutOfMemory ≡ refusal_in {T = T} (reply.FinishBind r)
-          → OfClient (same_client id id) s (λ p q. FinishesBind p u r lacked did q) (r ≡ Err (record { error = finish.InvalidId; user_data = u })) lacked did t → ⊥
+      never : (r : Result (Unit {0}) (FinishRefused U)) (s t : Seen T U C) (lacked : Bool) (did : List (Deed U))
+          → Some finish.OutOfMemory ≡ refusal_in {T = T} (reply.FinishBind r)
+          → OfClient (same_client id id) s (λ p q. FinishesBind p u r lacked did q)
+          (r ≡ Err (record { error = finish.InvalidId; user_data = u })) lacked did t → ⊥
       never r s t lacked did starved h = grind (arith, either_option, own)
 
 module _ {H T U G C : Type 0} (w : World T G C) (answers : Answering H T U G C) (id : ClientParts) where
@@ -243,16 +259,20 @@ module _ {H T U G C : Type 0} (w : World T G C) (answers : Answering H T U G C) 
 
   last_starved : {h h' : H} {r r' : Reading} {s s' : ServerState T U G C} {run : List (Entry T U G C)} {lacked : Bool} {f : IoFault}
       → Last w answers id h r s run lacked f h' r' s' → f ≡ fault.OutOfMemory → lacked ≡ true
-  last_starved {r = r} {r' = r'} {s = s} {s' = s'} (no_action e error by is run_is lacked_is f_is same) lacks = lacked_is ∙ at error is (sym f_is ∙ lacks)
+  last_starved {r = r} {r' = r'} {s = s} {s' = s'} (no_action e error by is run_is lacked_is f_is same) lacks = lacked_is
+      ∙ at error is (sym f_is ∙ lacks)
     where
-      at : (error : ActionError) → e.call ≡ Asked (step.NextActionWithin id r) (reply.NextActionWithin (Err error) r') → fault_of_reading error ≡ fault.OutOfMemory → e.refused ≡ true
+      at : (error : ActionError) → e.call ≡ Asked (step.NextActionWithin id r) (reply.NextActionWithin (Err error) r')
+          → fault_of_reading error ≡ fault.OutOfMemory → e.refused ≡ true
       at ActionOpen is lacks = grind (arith)
       at (Io f) is lacks =
-          (read_of w id by r r' (Err (Io fault.OutOfMemory)) (is ∙ ap (λ (f : IoFault). Asked (step.NextActionWithin id r) (reply.NextActionWithin (Err (Io f)) r')) lacks)).memory
+          (read_of w id by r r' (Err (Io fault.OutOfMemory))
+          (is ∙ ap (λ (f : IoFault). Asked (step.NextActionWithin id r) (reply.NextActionWithin (Err (Io f)) r')) lacks)).memory
   last_starved {h = h} {h' = h'} {s' = s'} (not_ended why round f_is) lacks =
       round.lacked_is ∙ or_true round.read.refused round.end_lacked (at why (sym f_is ∙ lacks) round.handles)
     where
-      at : (why : FinishError) → fault_of_end why ≡ fault.OutOfMemory → Handles w answers id h round.found round.handed round.rest round.end_lacked (Some why) h' s' → round.end_lacked ≡ true
+      at : (why : FinishError) → fault_of_end why ≡ fault.OutOfMemory
+          → Handles w answers id h round.found round.handed round.rest round.end_lacked (Some why) h' s' → round.end_lacked ≡ true
       at finish.OutOfMemory lacks x = end_starved x
       at _ lacks x = absurd cc
 
@@ -274,7 +294,8 @@ module _ {H T U G C : Type 0} (w : World T G C) (answers : Answering H T U G C) 
               ]
         ]
 
-    swept : (before : ServerState T U G C) (f : IoFault) (read : ℕ) → EndedBy f (client_in mid id) → (f ≡ fault.InvalidInput → Refused before (client_in after id))
+    swept : (before : ServerState T U G C) (f : IoFault) (read : ℕ) → EndedBy f (client_in mid id)
+        → (f ≡ fault.InvalidInput → Refused before (client_in after id))
         → LeftBy before id (client_in after id) (dispatched f read)
     swept before fault.WouldBlock read idle shut = grind (arith, still, true≢false, eq-eqb, eqb read 0)
       where
@@ -284,7 +305,8 @@ module _ {H T U G C : Type 0} (w : World T G C) (answers : Answering H T U G C) 
     swept before fault.OutOfMemory read ended shut = tt
     swept before f read gone shut = gone_then c id gone
 
-  pub dispatch_leaves : (h h' : H) (before : ServerState T U G C) (result : Result ℕ IoFault) (after : BackendState T U G C) → DispatchesClient w answers id h before result h' after
+  pub dispatch_leaves : (h h' : H) (before : ServerState T U G C) (result : Result ℕ IoFault) (after : BackendState T U G C)
+      → DispatchesClient w answers id h before result h' after
       → DispatchOfOneLeaves answers before id result after
   dispatch_leaves h h' before result after (calls, lacked, answer, mid, rounds, ends) =
       let (r, says, left) = cleans ends.cleans ends.cleanup_is in
@@ -293,25 +315,32 @@ module _ {H T U G C : Type 0} (w : World T G C) (answers : Answering H T U G C) 
         client = rw is (client r left);
         all = λ fine. all r left (λ lacks. fine (is ∙ lacks));
         memory = λ lacks. ends.refused ∙ memory r left (sym is ∙ lacks);
-        globals = λ keeps. cleanup_keeps w answers keeps before mid after calls lacked answer result ends ∙ client_keeps w answers keeps id h h' before mid calls lacked answer rounds;
+        globals = λ keeps. cleanup_keeps w answers keeps before mid after calls lacked answer result ends
+            ∙ client_keeps w answers keeps id h h' before mid calls lacked answer rounds;
       }
     where
-      refused : (before.last_client < id.serial) ⊎ (id.serial ≤ before.last_client) → (Shut (seen id mid).part → ((seen id after.server).part ≡ None) ⊎ IsBusy (seen id after.server).part)
+      refused : (before.last_client < id.serial) ⊎ (id.serial ≤ before.last_client)
+          → (Shut (seen id mid).part → ((seen id after.server).part ≡ None) ⊎ IsBusy (seen id after.server).part)
           → rounds.fault ≡ fault.InvalidInput → Refused before (seen id after.server).part
       refused (inl unborn) then so = inr (inr unborn)
       refused (inr born) then so =
-          elim (then (last_shut rounds.rounds_end.end (born_rounds rounds.rounds_end.rounds born) so)) [ inl none ↦ inl none | inr busy ↦ inr (inl busy) ]
+          elim (then (last_shut rounds.rounds_end.end
+          (born_rounds rounds.rounds_end.rounds born) so)) [ inl none ↦ inl none | inr busy ↦ inr (inl busy) ]
 
-      client : (r : Result (Vec (ClientParts × T) Global) OutOfMemory) → Leaves w mid ends.cleanup after.server r → LeftBy before id (seen id after.server).part (after_cleanup r (dispatched rounds.fault rounds.left.read))
+      client : (r : Result (Vec (ClientParts × T) Global) OutOfMemory) → Leaves w mid ends.cleanup after.server r
+          → LeftBy before id (seen id after.server).part (after_cleanup r (dispatched rounds.fault rounds.left.read))
       client (Ok out) left =
-          swept left before rounds.fault rounds.left.read (last_leaves rounds.rounds_end.end) (refused (cases_lt before.last_client id.serial) (shut_then left))
+          swept left before rounds.fault rounds.left.read (last_leaves rounds.rounds_end.end)
+          (refused (cases_lt before.last_client id.serial) (shut_then left))
       client (Err l) left = tt
 
-      all : (r : Result (Vec (ClientParts × T) Global) OutOfMemory) → Leaves w mid ends.cleanup after.server r → ¬ (after_cleanup r (dispatched rounds.fault rounds.left.read) ≡ Err fault.OutOfMemory) → AllLive after
+      all : (r : Result (Vec (ClientParts × T) Global) OutOfMemory) → Leaves w mid ends.cleanup after.server r
+          → ¬ (after_cleanup r (dispatched rounds.fault rounds.left.read) ≡ Err fault.OutOfMemory) → AllLive after
       all (Ok out) left fine = all_live left
       all (Err l) left fine = absurd (fine refl)
 
-      memory : (r : Result (Vec (ClientParts × T) Global) OutOfMemory) → Leaves w mid ends.cleanup after.server r → after_cleanup r (dispatched rounds.fault rounds.left.read) ≡ Err fault.OutOfMemory
+      memory : (r : Result (Vec (ClientParts × T) Global) OutOfMemory) → Leaves w mid ends.cleanup after.server r
+          → after_cleanup r (dispatched rounds.fault rounds.left.read) ≡ Err fault.OutOfMemory
           → (lacked || ends.cleanup.refused) ≡ true
       memory (Ok out) left lacks = grind (arith, last_starved rounds.rounds_end.end, rounds.fault, rounds.left.read, rounds.rounds_end.lacked_is)
       memory (Err l) left lacks = or_true lacked ends.cleanup.refused left.1
@@ -324,7 +353,8 @@ module _ {H T U G C : Type 0} (w : World T G C) (answers : Answering H T U G C) 
   dispatches_leave ids h h' before result after (calls, lacked, total, mid, each, ends) =
       let (r, says, left) = cleans ends.cleans ends.cleanup_is in record {
         all = rw (ends.result_is ∙ ap (λ (o : Reply T U). cleaned o (Ok total)) says) (all r left);
-        globals = λ keeps. cleanup_keeps w answers keeps before mid after calls lacked (Ok total) result ends ∙ clients_keep w answers keeps ids h h' before mid calls lacked total each;
+        globals = λ keeps. cleanup_keeps w answers keeps before mid after calls lacked (Ok total) result ends
+            ∙ clients_keep w answers keeps ids h h' before mid calls lacked total each;
       }
     where
       all : (r : Result (Vec (ClientParts × T) Global) OutOfMemory) → Leaves w mid ends.cleanup after.server r

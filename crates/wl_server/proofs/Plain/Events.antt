@@ -55,21 +55,24 @@ left_silent kept id u = grind (arith)
 -- ---- no check is refused for want of memory
 
 module _ {U : Type 0} (client : ClientParts) (store : Store (Kept U)) where
-  argument_calm : (row : MessageRow) (k : ArgumentType) (asked : InterfaceId) (x : Argument IdParts Token) → argument_fault client store row k asked x ≡ Some refused.OutOfMemory → ⊥
+  argument_calm : (row : MessageRow) (k : ArgumentType) (asked : InterfaceId) (x : Argument IdParts Token)
+      → argument_fault client store row k asked x ≡ Some refused.OutOfMemory → ⊥
   argument_calm row k asked x is = grind (arith, k, x)
 
   arguments_calm : (row : MessageRow) (kinds : List ArgumentType) (asked : List InterfaceId) (args : List (Argument IdParts Token))
       → first_refusal (argument_faults client store row kinds asked args) ≡ Some refused.OutOfMemory → ⊥
   arguments_calm row [] asked args is = absurd cc
   arguments_calm row (k ∷ kinds) asked [] is = absurd cc
-  arguments_calm row (k ∷ kinds) asked (x ∷ args) is = grind (arith, argument_calm, arguments_calm row kinds (left_after x asked) args, argument_fault client store row k (next_interface asked) x)
+  arguments_calm row (k ∷ kinds) asked (x ∷ args) is =
+      grind (arith, argument_calm, arguments_calm row kinds (left_after x asked) args, argument_fault client store row k (next_interface asked) x)
 
   never_memory : (table : List InterfaceRow) (m : SessionMessage) → event_check client store table m ≡ Err refused.OutOfMemory → ⊥
   never_memory table m is = grind (arith, arguments_calm, checked_row, event_row, named)
 
 -- ---- of one client
 
-module _ {T U C : Type 0} (sends : T → Queue → Result ℕ IoFault → T → Type 0) (client : ClientParts) (table : List InterfaceRow) (m : SessionMessage) where
+module _ {T U C : Type 0} (sends : T → Queue → Result ℕ IoFault → T → Type 0) (client : ClientParts) (table : List InterfaceRow)
+    (m : SessionMessage) where
   -- The event is put. If it ends its sender, that has left. The client lives on, or is closed down.
   record IsPut (p : Part T U C) (x : Object (Kept U)) (ends lacked : Bool) (notes : List (Happening U)) (q : Part T U C) : Type 0 where
     store_is : q.store ≡ cond ends (removed p.store m.sender.number) p.store
@@ -80,10 +83,13 @@ module _ {T U C : Type 0} (sends : T → Queue → Result ℕ IoFault → T → 
   -- is no memory for it, or it is put
   data Comes (answer : Result (Unit {0}) EventError) (lacked : Bool) (did : List (Deed U)) (p q : Part T U C) : Type 0 where
     is_dropped : p.is_killed ≡ true → answer ≡ Ok tt → lacked ≡ false → did ≡ [] → q ≡ p → Comes answer lacked did p q
-    is_denied : (e : EventError) → e ≢ refused.OutOfMemory → p.is_killed ≡ false → event_check client p.store table m ≡ Err e → answer ≡ Err e → lacked ≡ false → did ≡ [] → q ≡ p → Comes answer lacked did p q
-    is_kept : (x : Object (Kept U)) (ends : Bool) → p.is_killed ≡ false → event_check client p.store table m ≡ Ok (x, ends) → answer ≡ Err refused.OutOfMemory → lacked ≡ true
+    is_denied : (e : EventError) → e ≢ refused.OutOfMemory → p.is_killed ≡ false → event_check client p.store table m ≡ Err e → answer ≡ Err e
+        → lacked ≡ false → did ≡ [] → q ≡ p → Comes answer lacked did p q
+    is_kept : (x : Object (Kept U)) (ends : Bool) → p.is_killed ≡ false → event_check client p.store table m ≡ Ok (x, ends)
+        → answer ≡ Err refused.OutOfMemory → lacked ≡ true
         → core_of q ≡ core_of p → notes_in did ≡ [] → Comes answer lacked did p q
-    is_put : (x : Object (Kept U)) (ends : Bool) → p.is_killed ≡ false → event_check client p.store table m ≡ Ok (x, ends) → answer ≡ Ok tt → IsPut p x ends lacked (notes_in did) q
+    is_put : (x : Object (Kept U)) (ends : Bool) → p.is_killed ≡ false → event_check client p.store table m ≡ Ok (x, ends) → answer ≡ Ok tt
+        → IsPut p x ends lacked (notes_in did) q
         → Comes answer lacked did p q
 
   quiet : (ends : Bool) (c d : Core U C) (x : Object (Kept U)) → told_notes ((ends_sender client c m x ends).events d) ≡ []
@@ -98,9 +104,11 @@ module _ {T U C : Type 0} (sends : T → Queue → Result ℕ IoFault → T → 
     put_closed : IsTold (ends_closed client (core_of p) m x ends) lacked did q → IsPut p x ends lacked (notes_in did) q
     put_closed t = grind (arith, ends, cond, notes_in, end_deeds, append-nil, closed_down, true≢false, quiet)
 
-  granted_comes : (p q : Part T U C) (x : Object (Kept U)) (ends : Bool) (answer : Result (Unit {0}) EventError) (lacked : Bool) (did : List (Deed U)) → p.is_killed ≡ false
+  granted_comes : (p q : Part T U C) (x : Object (Kept U)) (ends : Bool) (answer : Result (Unit {0}) EventError) (lacked : Bool) (did : List (Deed U))
+      → p.is_killed ≡ false
       → event_check client p.store table m ≡ Ok (x, ends) → SendsGranted sends client p m x ends answer lacked did q → Comes answer lacked did p q
-  granted_comes p q x ends answer lacked did live is (inl (asks, says, lacks, none, same)) = is_kept x ends live is says lacks (ap core_of same) (ap notes_in none)
+  granted_comes p q x ends answer lacked did live is (inl (asks, says, lacks, none, same)) =
+      is_kept x ends live is says lacks (ap core_of same) (ap notes_in none)
   granted_comes p q x ends answer lacked did live is (inr (es, rest, wrote, link, by, sent, did_so)) = at wrote sent
     where
       silent : notes_in did ≡ notes_in rest
@@ -110,11 +118,13 @@ module _ {T U C : Type 0} (sends : T → Queue → Result ℕ IoFault → T → 
       closed tells' says = is_put x ends live is says (rw silent (put_closed p q live x ends lacked rest (told sends _ link lacked rest q tells')))
 
       at : (wrote : Result (Unit {0}) IoFault) → SentAs sends client p m x ends wrote link answer lacked rest q → Comes answer lacked did p q
-      at (Ok u) (more, tells', says, put_so) = is_put x ends live is says (rw (silent ∙ ap notes_in put_so) (put_told p q live x ends lacked more (told sends _ link lacked more q tells')))
+      at (Ok u) (more, tells', says, put_so) = is_put x ends live is says
+          (rw (silent ∙ ap notes_in put_so) (put_told p q live x ends lacked more (told sends _ link lacked more q tells')))
       at (Err fault.OutOfMemory) (says, lacks, none, same) = is_kept x ends live is says lacks (ap core_of same) (silent ∙ ap notes_in none)
       at (Err other) sent = closed sent.0 sent.1
 
-  comes_to : (answer : Result (Unit {0}) EventError) (lacked : Bool) (did : List (Deed U)) (p q : Part T U C) → SendsEvent sends client table p m answer lacked did q → Comes answer lacked did p q
+  comes_to : (answer : Result (Unit {0}) EventError) (lacked : Bool) (did : List (Deed U)) (p q : Part T U C)
+      → SendsEvent sends client table p m answer lacked did q → Comes answer lacked did p q
   comes_to answer lacked did p q h =
       elim (split_bool p.is_killed h) [
         | inl (dead, (is, calm, none, same)) ↦ is_dropped dead is calm none same
@@ -128,7 +138,8 @@ module _ {T U C : Type 0} (sends : T → Queue → Result ℕ IoFault → T → 
 
 -- ---- the call
 
-module _ {T U G C : Type 0} (w : World T G C) (before after : BackendState T U G C) (message : Message IdParts Token) (answer : Result (Unit {0}) EventError) where
+module _ {T U G C : Type 0} (w : World T G C) (before after : BackendState T U G C) (message : Message IdParts Token)
+    (answer : Result (Unit {0}) EventError) where
   abbrev m : SessionMessage
   m = session_content message
 
@@ -145,20 +156,24 @@ module _ {T U G C : Type 0} (w : World T G C) (before after : BackendState T U G
                 | is_dropped dead is calm none stays ↦
                     rw is (inl (ap (option_map (λ (y : Part T U C). y.is_killed)) there ∙ ap Some dead, nothing_changes one (nothing_new _ _ p q did there stays (ap notes_in none) same)))
                 | is_denied e other live check is calm none stays ↦
-                    rw is (was_denied e other (inr (p, there, live, check), nothing_changes one (nothing_new _ _ p q did there stays (ap notes_in none) same)))
-                | is_kept x ends live check is lacks core silent ↦ rw is (((x, ends), (p, there, live, check)), lacks, (grind (arith, option_map, core_of)), (grind (arith, append-nil)))
+                    rw is (was_denied e other
+                    (inr (p, there, live, check), nothing_changes one (nothing_new _ _ p q did there stays (ap notes_in none) same)))
+                | is_kept x ends live check is lacks core silent ↦ rw is
+                    (((x, ends), (p, there, live, check)), lacks, (grind (arith, option_map, core_of)), (grind (arith, append-nil)))
                 | is_put x ends live check is so ↦ rw is (inr (x, ends, (p, there, live, check), event_put p q x ends did there same live check so))
               ]
         ]
       where
         was_denied : (e : EventError) → (e ≡ refused.OutOfMemory → ⊥)
-            → (((client_in before m.sender.client ≡ None) × (e ≡ refused.InvalidId)) ⊎ ChecksTo before m (Err e)) × IsUnchanged before after → EventSentAs before m (Err e) after
+            → (((client_in before m.sender.client ≡ None) × (e ≡ refused.InvalidId)) ⊎ ChecksTo before m (Err e)) × IsUnchanged before after
+            → EventSentAs before m (Err e) after
         was_denied refused.OutOfMemory never so = absurd (never refl)
         was_denied _ never so = so
 
         event_put : (p q : Part T U C) (x : Object (Kept U)) (ends : Bool) (did : List (Deed U)) → client_of before.server client ≡ Some p
             → seen client after.server ≡ record { part = Some q; made = (seen client before.server).made ++ notes_in did } → p.is_killed ≡ false
-            → event_check client p.store before.server.offer.table m ≡ Ok (x, ends) → IsPut w.sends client before.server.offer.table m p x ends after.refused (notes_in did) q → EventIsPut before m.sender x ends after
+            → event_check client p.store before.server.offer.table m ≡ Ok (x, ends)
+            → IsPut w.sends client before.server.offer.table m p x ends after.refused (notes_in did) q → EventIsPut before m.sender x ends after
         event_put p q x ends did there same live check put' =
             grind (arith, and_then, named, m, waiting_of, cond, note_of_end, client, option_map, seen, append-nil, removed_named, granted_named client p.store before.server.offer.table m (x, ends) check)
 
@@ -192,6 +207,7 @@ module _ {T U G C : Type 0} (w : World T G C) (before after : BackendState T U G
     memory = event_memory w before after message answer one;
   }
     where
-      one : IsOfOne before after message.sender_id.client (Comes w.sends message.sender_id.client before.server.offer.table (session_content message) answer) (answer ≡ Err refused.InvalidId)
+      one : IsOfOne before after message.sender_id.client
+          (Comes w.sends message.sender_id.client before.server.offer.table (session_content message) answer) (answer ≡ Err refused.InvalidId)
       one = refine (of_one call.step message.sender_id.client (λ id lacked did p q. SendsEvent w.sends id before.server.offer.table p (session_content message) answer lacked did q) _
           (λ id s t lacked did (r, is, h). let e : r ≡ answer = cc in rw e at h) refl refl refl) (comes_to w.sends message.sender_id.client before.server.offer.table (session_content message) answer)

@@ -61,11 +61,13 @@ module _ {T U C : Type 0} (s t : Seen T U C) where
           | inr (p, there, (q, hears, is)) ↦
               elim (split_bool p.is_killed hears) [
                 | inl (dead, (calm, none, same)) ↦ unfelt_as (nothing_new s t p q did there same (ap notes_in none) is)
-                | inr (live, tells') ↦ where_some s.part p (sym there) _ _ (was_told p q live (told sends (tells (core_of p) (messages p)) p.link lacked did q tells') is)
+                | inr (live, tells') ↦ where_some s.part p (sym there) _ _
+                    (was_told p q live (told sends (tells (core_of p) (messages p)) p.link lacked did q tells') is)
               ]
         ]
       where
-        was_told : (p q : Part T U C) → p.is_killed ≡ false → IsTold (tells (core_of p) (messages p)) lacked did q → t ≡ record { part = Some q; made = s.made ++ notes_in did }
+        was_told : (p q : Part T U C) → p.is_killed ≡ false → IsTold (tells (core_of p) (messages p)) lacked did q
+            → t ≡ record { part = Some q; made = s.made ++ notes_in did }
             → (link : LinkState T)
             × ((t ≡ record { part = Some (with_link p link); made = s.made })
             ⊎ ((p.is_killed ≡ false) × (t ≡ record { part = Some (as_killed (with_link p link)); made = s.made ++ Disconnected ConnectionClosed ∷ [] })))
@@ -92,13 +94,15 @@ no_error : {g : GlobalParts} {e : GlobalError} → ◌≡◌ {A = Result GlobalP
 no_error is = absurd cc
 
 module _ {G : Type 0} where
-  global_here : (store : Store (KeptGlobal G)) (id : Id) (x : Object (KeptGlobal G)) → (id.number == 0) ≡ false → held store id.number ≡ Some x → (x.value.serial == id.serial) ≡ true
+  global_here : (store : Store (KeptGlobal G)) (id : Id) (x : Object (KeptGlobal G)) → (id.number == 0) ≡ false → held store id.number ≡ Some x
+      → (x.value.serial == id.serial) ≡ true
       → cond (id.number == 0) None (named_in global_serial id (held store id.number)) ≡ Some x
   global_here store id x numbered holds tells' = grind (arith, cond, named_in, global_serial, held)
 
 -- ---- the calls
 
-module _ {T U G C : Type 0} {w : World T G C} {before after : BackendState T U G C} {s : Step T U G C} {answer : Reply T U} (call : Calls w before s answer after) where
+module _ {T U G C : Type 0} {w : World T G C} {before after : BackendState T U G C} {s : Step T U G C} {answer : Reply T U}
+    (call : Calls w before s answer after) where
   shared_of : AnswersShared before.server.offer (Asked s answer)
   shared_of = let (e, is, refused, by) = call.step in subst (λ (c : Call T U G C). AnswersShared before.server.offer c) is by.global
 
@@ -107,22 +111,27 @@ module _ {T U G C : Type 0} (w : World T G C) (before after : BackendState T U G
   may_be_told each = record { each = each; objects = λ o. objects_stay _ _ (each o.client) o }
 
   module _ (g : GlobalParts) where
-    loss_told : ((id : ClientParts) → (lacked : Bool) × (did : List (Deed U)) × FeelsLoss w id before.server.offer g (seen id before.server) lacked did (seen id after.server)) → MayBeTold before after
+    loss_told : ((id : ClientParts) → (lacked : Bool) × (did : List (Deed U))
+        × FeelsLoss w id before.server.offer g (seen id before.server) lacked did (seen id after.server)) → MayBeTold before after
     loss_told each = may_be_told (λ id. let (lacked, did, h) = each id in loss_as w id before.server.offer g _ _ lacked did h)
 
     -- a loss is told where the global was enabled, and memory was refused to a client that is killed now
-    loss_lacked : (id : ClientParts) (did : List (Deed U)) → FeelsLoss w id before.server.offer g (seen id before.server) true did (seen id after.server)
+    loss_lacked : (id : ClientParts) (did : List (Deed U))
+        → FeelsLoss w id before.server.offer g (seen id before.server) true did (seen id after.server)
         → (is_enabled (global_of before.server.offer.globals g) ≡ true) × KillsSome before after
     loss_lacked id did h =
         elim (split_bool (is_enabled (global_of before.server.offer.globals g)) h) [
-          | inl (enabled, feels) ↦ let (live, dead) = felt_lacked _ _ w.sends (λ p. removals p g.name) true did refl feels in (enabled, (id, live, dead))
+          | inl (enabled, feels) ↦ let (live, dead) =
+              felt_lacked _ _ w.sends (λ p. removals p g.name) true did refl feels in (enabled, (id, live, dead))
           | inr (off, (calm, nothing, stays)) ↦ absurd (true≢false calm)
         ]
 
   new_told : (i : InterfaceId) (version : ℕ) (handler : G) (r : Result GlobalParts GlobalError)
-      → ((id : ClientParts) → (lacked : Bool) × (did : List (Deed U)) × FeelsGlobal w id before.server.offer i version handler r (seen id before.server) lacked did (seen id after.server))
+      → ((id : ClientParts) → (lacked : Bool) × (did : List (Deed U))
+      × FeelsGlobal w id before.server.offer i version handler r (seen id before.server) lacked did (seen id after.server))
       → MayBeTold before after
-  new_told i version handler r each = may_be_told (λ id. let (lacked, did, h) = each id in new_as w id before.server.offer i version handler _ _ lacked did r h)
+  new_told i version handler r each =
+      may_be_told (λ id. let (lacked, did, h) = each id in new_as w id before.server.offer i version handler _ _ lacked did r h)
 
 module _ {T U G C : Type 0} {w : World T G C} {before after : BackendState T U G C} where
   pub disables_global : (g : GlobalParts) → Calls w before (step.DisableGlobal g) reply.DisableGlobal after → DisablesGlobal before g after
@@ -144,12 +153,15 @@ module _ {T U G C : Type 0} {w : World T G C} {before after : BackendState T U G
   }
 
   module _ (i : InterfaceId) (version : ℕ) (handler : G) where
-    create_each : (answer : Result GlobalParts GlobalError) → Calls w before (step.CreateGlobal i version handler) (reply.CreateGlobal answer) after → (id : ClientParts)
-        → (lacked : Bool) × (did : List (Deed U)) × FeelsGlobal w id before.server.offer i version handler answer (seen id before.server) lacked did (seen id after.server)
+    create_each : (answer : Result GlobalParts GlobalError) → Calls w before (step.CreateGlobal i version handler) (reply.CreateGlobal answer) after
+        → (id : ClientParts)
+        → (lacked : Bool) × (did : List (Deed U))
+        × FeelsGlobal w id before.server.offer i version handler answer (seen id before.server) lacked did (seen id after.server)
     create_each answer call id =
         let (lacked, did, (r, is, h)) = of_each call id in grind (arith, seen)
 
-    next : (g : GlobalParts) → Calls w before (step.CreateGlobal i version handler) (reply.CreateGlobal (Ok g)) after → IsNextGlobal before.server.offer.globals g
+    next : (g : GlobalParts) → Calls w before (step.CreateGlobal i version handler) (reply.CreateGlobal (Ok g)) after
+        → IsNextGlobal before.server.offer.globals g
     next g call = grind (arith, either_option, slice_get, no_error, nat_le, before.server.offer.table, before.server.offer.globals, shared_of call)
 
     created_as : (answer : Result GlobalParts GlobalError) → Calls w before (step.CreateGlobal i version handler) (reply.CreateGlobal answer) after
@@ -164,7 +176,8 @@ module _ {T U G C : Type 0} {w : World T G C} {before after : BackendState T U G
     )
     created_as (Err e) call = (offer_of call, λ id. let (lacked, did, (calm, none, same)) = create_each (Err e) call id in same)
 
-    pub offers_global : (answer : Result GlobalParts GlobalError) → Calls w before (step.CreateGlobal i version handler) (reply.CreateGlobal answer) after
+    pub offers_global : (answer : Result GlobalParts GlobalError)
+        → Calls w before (step.CreateGlobal i version handler) (reply.CreateGlobal answer) after
         → OffersGlobal before i version handler answer after
     offers_global answer call = record {
       global = created_as answer call;

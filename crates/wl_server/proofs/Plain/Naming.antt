@@ -34,7 +34,8 @@ module _ {U : Type 0} where
   -- ---- the id itself
 
   -- its number holds another object of its serial
-  pub named_here : (store : Store (Kept U)) (id : IdParts) (x : Object (Kept U)) → (id.number == 0) ≡ false → held store id.number ≡ Some x → (x.value.serial == id.serial) ≡ true
+  pub named_here : (store : Store (Kept U)) (id : IdParts) (x : Object (Kept U)) → (id.number == 0) ≡ false → held store id.number ≡ Some x
+      → (x.value.serial == id.serial) ≡ true
       → named store id ≡ Some x
   named_here store id x numbered holds tells = grind (arith)
 
@@ -52,14 +53,18 @@ module _ {U : Type 0} where
 
   -- One number of a store was changed, and both what it held and what it holds has this serial: an id of another number or
   -- serial names what it named.
-  pub other_named : (before after : Store (Kept U)) (n serial : ℕ) (h : Option (Object (Kept U))) → ((m : ℕ) → held after m ≡ cond (eqb m n) h (held before m)) → HasSerial serial h
-      → HasSerial serial (held before n) → (id : IdParts) → same_id (record { number = n; serial = serial }) (id_of id) ≡ false → named after id ≡ named before id
+  pub other_named : (before after : Store (Kept U)) (n serial : ℕ) (h : Option (Object (Kept U)))
+      → ((m : ℕ) → held after m ≡ cond (eqb m n) h (held before m)) → HasSerial serial h
+      → HasSerial serial (held before n) → (id : IdParts) → same_id (record { number = n; serial = serial }) (id_of id) ≡ false
+      → named after id ≡ named before id
   other_named before after n serial h holds has had id other = grind (arith, eqb, true≢false, eq-eqb, eqb-true, cond)
 
-  pub rewritten_others : (store : Store (Kept U)) (id : IdParts) (x y : Object (Kept U)) → Names store id x → y.value.serial ≡ x.value.serial → (other : IdParts)
+  pub rewritten_others : (store : Store (Kept U)) (id : IdParts) (x y : Object (Kept U)) → Names store id x → y.value.serial ≡ x.value.serial
+      → (other : IdParts)
       → same_id (id_of id) (id_of other) ≡ false → named (rewritten store id.number y) other ≡ named store other
   rewritten_others store id x y by same other differ = grind (arith, other_named, held_rewritten, eqb-true)
 
-  pub removed_others : (store : Store (Kept U)) (id : IdParts) (x : Object (Kept U)) → Names store id x → (other : IdParts) → same_id (id_of id) (id_of other) ≡ false
+  pub removed_others : (store : Store (Kept U)) (id : IdParts) (x : Object (Kept U)) → Names store id x → (other : IdParts)
+      → same_id (id_of id) (id_of other) ≡ false
       → named (removed store id.number) other ≡ named store other
   removed_others store id x by other differ = grind (arith, other_named, removed, held_removed, nothing_has, eqb-true)

@@ -99,12 +99,14 @@ module _ {U G C : Type 0} (a : Around G C) (c : Core U C) where
   -- if its objects are these
   keeps_by : (o : Objects (Kept U)) → IdsStay (objects_in c) o → (v : Verdict (Core U C) (Told U)) → objects_in v.core ≡ o → objects_in v.starved ≡ o
       → ((d : Core U C) → objects_in (v.last d) ≡ objects_in d) → Keeps v
-  keeps_by o stay v core starved last = record { carried = λ put others wrote is written. (grind (arith, objects_in, closed_down)); starved = λ asks. (grind (arith, objects_in)) }
+  keeps_by o stay v core starved last =
+      record { carried = λ put others wrote is written. (grind (arith, objects_in, closed_down)); starved = λ asks. (grind (arith, objects_in)) }
 
   breaks_keeps : (code : ℕ) (text : List ℕ) → Keeps (breaks a c code text)
   breaks_keeps code text = keeps_by (objects_in c) (ids_same (objects_in c)) (breaks a c code text) refl refl (λ d. refl)
 
-  converted_keeps : (m : WireMessage) (receiver : Object (Kept U)) (row : MessageRow) (o : Outcome U) → Came (λ ids objects. IdsStay (objects_in c) objects) o
+  converted_keeps : (m : WireMessage) (receiver : Object (Kept U)) (row : MessageRow) (o : Outcome U)
+      → Came (λ ids objects. IdsStay (objects_in c) objects) o
       → Keeps (converted a c m receiver row o)
   converted_keeps m receiver row (Wrong w objects) so = keeps_by objects so.1 _ refl refl (λ d. refl)
   converted_keeps m receiver row (Whole d args) so = keeps_by d.objects so.0 _ refl refl (λ e. refl)
@@ -113,7 +115,8 @@ module _ {U G C : Type 0} (a : Around G C) (c : Core U C) where
   other_keeps m receiver row =
       let so = converted_keeps m receiver row (convert a.client receiver.version (start (objects_in c) row) [] m.args)
       (converts a.client receiver.version (λ ids objects. IdsStay (objects_in c) objects)
-      (λ ids o n i valid so. (grind (arith, is_some, objects_in c, ids_by_new o n i receiver.version valid))) (λ ids o n x there so. so) (λ ids o so. so)
+      (λ ids o n i valid so. (grind (arith, is_some, objects_in c, ids_by_new o n i receiver.version valid))) (λ ids o n x there so. so)
+      (λ ids o so. so)
       (start (objects_in c) row) [] m.args (ids_same (objects_in c), λ id among. among)) in
       either_request (nat_lt receiver.version row.since) Keeps (breaks_keeps 1 _) so
 
@@ -130,7 +133,8 @@ module _ {U G C : Type 0} (a : Around G C) (c : Core U C) where
 
 -- ---- a reading
 
-module _ {T U G C : Type 0} (sends : T → Queue → Result ℕ IoFault → T → Type 0) (receives : T → ℕ → Result Queue IoFault → T → Type 0) (a : Around G C) where
+module _ {T U G C : Type 0} (sends : T → Queue → Result ℕ IoFault → T → Type 0) (receives : T → ℕ → Result Queue IoFault → T → Type 0)
+    (a : Around G C) where
   pub reads_keep : (left : ℕ) (before : ReaderState T (Core U C)) (turns : List Turn) (out : Gives (Told U)) (end : ReaderState T (Core U C))
       → Reads sends (server a) receives left before turns out end → IdsStay (objects_in before.core) (objects_in end.core)
   reads_keep left before turns out end reads =
@@ -146,14 +150,19 @@ module _ {T U G C : Type 0} (sends : T → Queue → Result ℕ IoFault → T �
 
 -- ---- of one client
 
-module _ {T U G C : Type 0} (sends : T → Queue → Result ℕ IoFault → T → Type 0) (receives : T → ℕ → Result Queue IoFault → T → Type 0) (a : Around G C) where
+module _ {T U G C : Type 0} (sends : T → Queue → Result ℕ IoFault → T → Type 0) (receives : T → ℕ → Result Queue IoFault → T → Type 0)
+    (a : Around G C) where
   -- what a reading is of a client that is stored: nothing is read, since an action is open, or it is killed; or it is read
-  pub data Comes (r : Reading) (answer : Result Handed ActionError) (left : Reading) (lacked : Bool) (did : List (Deed U)) (p q : Part T U C) : Type 0 where
+  pub data Comes (r : Reading) (answer : Result Handed ActionError) (left : Reading) (lacked : Bool) (did : List (Deed U))
+      (p q : Part T U C) : Type 0 where
     is_open : IsSome p.action → answer ≡ Err ActionOpen → left ≡ r → lacked ≡ false → did ≡ [] → q ≡ p → Comes r answer left lacked did p q
-    is_dead : p.action ≡ None → p.is_killed ≡ true → answer ≡ Err (Io fault.Pipe) → left ≡ r → lacked ≡ false → did ≡ [] → q ≡ p → Comes r answer left lacked did p q
+    is_dead : p.action ≡ None → p.is_killed ≡ true → answer ≡ Err (Io fault.Pipe) → left ≡ r → lacked ≡ false → did ≡ [] → q ≡ p
+        → Comes r answer left lacked did p q
     is_read : p.action ≡ None → p.is_killed ≡ false → (turns : List Turn) (out : Gives (Told U)) (end : ReaderState T (Core U C))
-        → Reads sends (server a) receives r.turns_left (reader_part p) turns out end → answer ≡ answered out.stopped out.gave → left ≡ read_on r out.left (handled_in turns)
-        → lacked ≡ out.refused → q ≡ part_of end → notes_in did ≡ notes_in (end_deeds {U = U} end.core.ended) → ReadingEnds sends receives a (reader_part p) turns answer lacked out.left end
+        → Reads sends (server a) receives r.turns_left (reader_part p) turns out end → answer ≡ answered out.stopped out.gave
+        → left ≡ read_on r out.left (handled_in turns)
+        → lacked ≡ out.refused → q ≡ part_of end → notes_in did ≡ notes_in (end_deeds {U = U} end.core.ended)
+        → ReadingEnds sends receives a (reader_part p) turns answer lacked out.left end
         → MemoryOf answer lacked → IdsStay (objects_in (core_of p)) (objects_in end.core) → Comes r answer left lacked did p q
 
   comes_to : (r : Reading) (answer : Result Handed ActionError) (left : Reading) (lacked : Bool) (did : List (Deed U)) (p q : Part T U C)
@@ -165,31 +174,39 @@ module _ {T U G C : Type 0} (sends : T → Queue → Result ℕ IoFault → T �
             elim (split_bool p.is_killed g) [
               | inl (dead, (says, same, calm, none, stays)) ↦ is_dead idle dead says same calm none stays
               | inr (live, (turns, out, end, reads, says, left_is, lacks, did_so, ends)) ↦
-                  is_read idle live turns out end reads says left_is lacks ends (ap notes_in did_so ∙ notes_of_reading sends receives a r.turns_left (reader_part p) turns out end reads)
+                  is_read idle live turns out end reads says left_is lacks ends
+                  (ap notes_in did_so ∙ notes_of_reading sends receives a r.turns_left (reader_part p) turns out end reads)
                   (rw (says, lacks) (reading_ends sends receives a r.turns_left p turns out end live idle reads))
-                  (rw (says, lacks) (reading_memory sends receives a r.turns_left p turns out end live idle reads)) (reads_keep sends receives a r.turns_left (reader_part p) turns out end reads)
+                  (rw (says, lacks) (reading_memory sends receives a r.turns_left p turns out end live idle reads))
+                  (reads_keep sends receives a r.turns_left (reader_part p) turns out end reads)
             ]
       ]
 
-  handed_out : (h : Handed) (start : ReaderState T (Core U C)) (turns : List Turn) (end : ReaderState T (Core U C)) → ComesOfLast sends receives a h start turns end
+  handed_out : (h : Handed) (start : ReaderState T (Core U C)) (turns : List Turn) (end : ReaderState T (Core U C))
+      → ComesOfLast sends receives a h start turns end
       → IsHandedOut a.table a.client h (part_of end)
-  handed_out (Request sender opcode args is_destructor created) start turns end (earlier, es, before, split, led, (m, link, read, its)) = grind (arith, held, id_at, request_row)
+  handed_out (Request sender opcode args is_destructor created) start turns end (earlier, es, before, split, led, (m, link, read, its)) =
+      grind (arith, held, id_at, request_row)
   handed_out (Bind global object) start turns end
       (earlier, es, before, split, led, (m, link, read, (x, interface, version, kept, held_before, registry, args, there, named', may, of, of_interface, free, holds, open'))) = grind (arith, fresh_object)
 
-  open_as : (start : ReaderState T (Core U C)) (turns : List Turn) (answer : Result Handed ActionError) (lacked : Bool) (left : ℕ) (end : ReaderState T (Core U C)) (s t : Seen T U C)
-      → ReadingEnds sends receives a start turns answer lacked left end → t ≡ record { part = Some (part_of end); made = s.made ++ notes_in (end_deeds {U = U} end.core.ended) }
+  open_as : (start : ReaderState T (Core U C)) (turns : List Turn) (answer : Result Handed ActionError) (lacked : Bool) (left : ℕ)
+      (end : ReaderState T (Core U C)) (s t : Seen T U C)
+      → ReadingEnds sends receives a start turns answer lacked left end
+      → t ≡ record { part = Some (part_of end); made = s.made ++ notes_in (end_deeds {U = U} end.core.ended) }
       → OpenReadAs a.table a.client answer s (part_of end) t
   open_as start turns answer lacked left end s t ends is = grind (arith, handed_out, notes_in, end_deeds, append-nil, true≢false, answer)
 
 -- ---- the call
 
-module _ {T U G C : Type 0} (w : World T G C) (before after : BackendState T U G C) (id : ClientParts) (r : Reading) (answer : Result Action ActionError) (left : Reading) where
+module _ {T U G C : Type 0} (w : World T G C) (before after : BackendState T U G C) (id : ClientParts) (r : Reading)
+    (answer : Result Action ActionError) (left : Reading) where
   abbrev here : Around G C
   here = around w id before.server.offer
 
   abbrev pub IsReading : Type 0
-  IsReading = IsOfOne before after id (Comes w.sends w.receives here r (action_content answer) left) ((action_content answer ≡ Err (Io fault.InvalidInput)) × (left ≡ r))
+  IsReading = IsOfOne before after id (Comes w.sends w.receives here r (action_content answer) left)
+      ((action_content answer ≡ Err (Io fault.InvalidInput)) × (left ≡ r))
 
   module _ (one : IsReading) where
     pub reads_as : ReadAs before.server.offer.table id (action_content answer) (seen id before.server) (seen id after.server)
@@ -199,7 +216,8 @@ module _ {T U G C : Type 0} (w : World T G C) (before after : BackendState T U G
           | became p q did there so same ↦
               elim so [
                 | is_open some says l calm none stays ↦ inr (p, there, inl (some, says, nothing_new _ _ p q did there stays (ap notes_in none) same))
-                | is_dead idle dead says l calm none stays ↦ inr (p, there, inr (inl (idle, dead, says, nothing_new _ _ p q did there stays (ap notes_in none) same)))
+                | is_dead idle dead says l calm none stays ↦ inr
+                    (p, there, inr (inl (idle, dead, says, nothing_new _ _ p q did there stays (ap notes_in none) same)))
                 | is_read idle live turns out end reads says l lacks is noted ends memory ids ↦
                     inr (p, there, inr (inr (idle, live, (part_of end, open_as w.sends w.receives here (reader_part p) turns _ _ _ end _ _ ends (same ∙ (grind (arith)))))))
               ]
@@ -221,15 +239,18 @@ module _ {T U G C : Type 0} (w : World T G C) (before after : BackendState T U G
     names_old : (other : IdParts) → IsOld (client_in before other.client) other → object_in after other ≡ object_in before other
     names_old other old =
         names_stay one other
-        (λ about did p q there so. ids_old p q did so (subst (λ (o : Option (Part T U C)). IsOld o other) (rw (same_is id other.client about) at there) old))
+        (λ about did p q there so. ids_old p q did so
+        (subst (λ (o : Option (Part T U C)). IsOld o other) (rw (same_is id other.client about) at there) old))
       where
-        ids_old : (p q : Part T U C) (did : List (Deed U)) → Comes w.sends w.receives here r (action_content answer) left after.refused did p q → IsOld (Some p) other
+        ids_old : (p q : Part T U C) (did : List (Deed U)) → Comes w.sends w.receives here r (action_content answer) left after.refused did p q
+            → IsOld (Some p) other
             → named q.store other ≡ named p.store other
         ids_old p q did so old =
             elim so [
               | is_open some says l calm none stays ↦ ap (λ (x : Part T U C). named x.store other) stays
               | is_dead idle dead says l calm none stays ↦ ap (λ (x : Part T U C). named x.store other) stays
-              | is_read idle live turns out end reads says l lacks is noted ends memory ids ↦ ap (λ (x : Part T U C). named x.store other) is ∙ ids.ids other old
+              | is_read idle live turns out end reads says l lacks is noted ends memory ids ↦ ap (λ (x : Part T U C). named x.store other) is
+                  ∙ ids.ids other old
             ]
 
     pub reads_client : ReadsClient before id answer after
@@ -245,13 +266,15 @@ module _ {T U G C : Type 0} (w : World T G C) (before after : BackendState T U G
               elim so [
                 | is_open some says l calm none stays ↦ absurd (grind (arith))
                 | is_dead idle dead says l calm none stays ↦ absurd (grind (arith, true≢false))
-                | is_read idle live turns out end reads says l lacks is noted ends memory ids ↦ rw e (turns, out, end, reads, says, lacks, ends, l, same ∙ (grind (arith)))
+                | is_read idle live turns out end reads says l lacks is noted ends memory ids ↦ rw e
+                    (turns, out, end, reads, says, lacks, ends, l, same ∙ (grind (arith)))
               ]
         ]
 
 module _ {T U G C : Type 0} (w : World T G C) (before after : BackendState T U G C) (id : ClientParts) where
   abbrev Reads' : Reading → Result Action ActionError → Reading → ClientParts → Change T U C
-  Reads' r answer left client lacked did p q = NextAction w.sends w.receives (around w client before.server.offer) r p (action_content answer) left lacked did q
+  Reads' r answer left client lacked did p q =
+      NextAction w.sends w.receives (around w client before.server.offer) r p (action_content answer) left lacked did q
 
   next_action_one : (answer : Result Action ActionError) → Calls w before (step.NextAction id) (reply.NextAction answer) after
       → (left : Reading) × IsReading w before after id new_reading answer left
@@ -267,17 +290,20 @@ module _ {T U G C : Type 0} (w : World T G C) (before after : BackendState T U G
       → Makes w before.server (Asked (step.NextActionWithin id reading) (reply.NextActionWithin answer left)) after.refused after.server
       → IsReading w before after id reading answer left
   within_one reading left answer made =
-      refine (of_one made id (Reads' reading answer left) _ (λ client s t lacked did (a, l, is, h). let e : a ≡ answer = cc in let same : l ≡ left = cc in rw (e, same) at h) refl refl refl)
+      refine (of_one made id (Reads' reading answer left) _
+      (λ client s t lacked did (a, l, is, h). let e : a ≡ answer = cc in let same : l ≡ left = cc in rw (e, same) at h) refl refl refl)
       (comes_to w.sends w.receives (around w id before.server.offer) reading (action_content answer) left)
 
-  pub next_action_reads : (answer : Result Action ActionError) → Calls w before (step.NextAction id) (reply.NextAction answer) after → ReadsClient before id answer after
+  pub next_action_reads : (answer : Result Action ActionError) → Calls w before (step.NextAction id) (reply.NextAction answer) after
+      → ReadsClient before id answer after
   next_action_reads answer call = let (left, one) = next_action_one answer call in reads_client w before after id new_reading answer left one
 
   pub next_action_ends : (answer : Result Action ActionError) → Calls w before (step.NextAction id) (reply.NextAction answer) after
       → (left : Reading) × EndsForAReason w before id new_reading answer left after
   next_action_ends answer call = let (left, one) = next_action_one answer call in (left, ends_for_a_reason w before after id new_reading answer left one)
 
-  pub reads_within : (reading left : Reading) (answer : Result Action ActionError) → Calls w before (step.NextActionWithin id reading) (reply.NextActionWithin answer left) after
+  pub reads_within : (reading left : Reading) (answer : Result Action ActionError)
+      → Calls w before (step.NextActionWithin id reading) (reply.NextActionWithin answer left) after
       → ReadsWithin before id reading answer left after
   reads_within reading left answer call =
       let one = within_one reading left answer call.step in
@@ -293,5 +319,7 @@ module _ {T U G C : Type 0} (w : World T G C) (before after : BackendState T U G
       }
 
   pub next_action_within_ends : (reading left : Reading) (answer : Result Action ActionError)
-      → Calls w before (step.NextActionWithin id reading) (reply.NextActionWithin answer left) after → EndsForAReason w before id reading answer left after
-  next_action_within_ends reading left answer call = ends_for_a_reason w before after id reading answer left (within_one reading left answer call.step)
+      → Calls w before (step.NextActionWithin id reading) (reply.NextActionWithin answer left) after
+      → EndsForAReason w before id reading answer left after
+  next_action_within_ends reading left answer call =
+      ends_for_a_reason w before after id reading answer left (within_one reading left answer call.step)

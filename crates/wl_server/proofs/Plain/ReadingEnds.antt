@@ -74,12 +74,14 @@ module _ {U : Type 0} where
   bare_given [] events bare = bare
   bare_given (m ∷ put) events bare = bare_given put events bare
 
-module _ {T U G C : Type 0} (sends : T → Queue → Result ℕ IoFault → T → Type 0) (receives : T → ℕ → Result Queue IoFault → T → Type 0) (a : Around G C) where
+module _ {T U G C : Type 0} (sends : T → Queue → Result ℕ IoFault → T → Type 0) (receives : T → ℕ → Result Queue IoFault → T → Type 0)
+    (a : Around G C) where
   -- what it hands out
   abbrev IsBare : Verdict (Core U C) (Told U) → Type 0
   IsBare v = (d : Core U C) → Bare (told_deeds (v.events d))
 
-  converted_bare : (c : Core U C) (m : WireMessage) (receiver : Object (Kept U)) (row : MessageRow) (o : Outcome U) → IsBare (converted a c m receiver row o)
+  converted_bare : (c : Core U C) (m : WireMessage) (receiver : Object (Kept U)) (row : MessageRow) (o : Outcome U)
+      → IsBare (converted a c m receiver row o)
   converted_bare c m receiver row o d = grind (arith, o, told_deeds)
 
   verdict_bare : (c : Core U C) (v : Verdict (Core U C) (Told U)) → IsBare v → Keeps (server a) (λ c gave d. Bare (deeds_in gave)) c v
@@ -106,7 +108,8 @@ module _ {T U G C : Type 0} (sends : T → Queue → Result ℕ IoFault → T �
 
   -- only the end of the client is noted
   pub notes_of_reading : (left : ℕ) (before : ReaderState T (Core U C)) (turns : List Turn) (out : Gives (Told U)) (end : ReaderState T (Core U C))
-      → Reads sends (server a) receives left before turns out end → notes_in (deeds_of (exchanges_in turns) out.gave end.core) ≡ notes_in (end_deeds {U = U} end.core.ended)
+      → Reads sends (server a) receives left before turns out end
+      → notes_in (deeds_of (exchanges_in turns) out.gave end.core) ≡ notes_in (end_deeds {U = U} end.core.ended)
   notes_of_reading left before turns out end reads = grind (arith, notes_append, exchanges_in, deeds_in, end_deeds, notes_of_exchanges, reads_bare)
 
 -- ---- how it ends
@@ -116,7 +119,8 @@ module _ {T U G C : Type 0} (sends : T → Queue → Result ℕ IoFault → T �
 abbrev is_new : {Id Fd : Type 0} → Argument Id Fd → Bool
 is_new a = is_new_id (type_of a)
 
-new_in_both : (signature : List ArgumentType) (args : List WireArgument) (payload : List ℕ) (fds : List Token) → ReadsArguments signature args payload fds
+new_in_both : (signature : List ArgumentType) (args : List WireArgument) (payload : List ℕ) (fds : List Token)
+    → ReadsArguments signature args payload fds
     → list_any is_new_id signature ≡ list_any is_new args
 unfolding ReadsArguments
 new_in_both [] [] payload fds r = refl
@@ -127,7 +131,8 @@ new_on_the_wire : (args : List (Argument IdParts Token)) → is_some (new_id_in 
 new_on_the_wire [] = refl
 new_on_the_wire (x ∷ args) = grind (arith, x, new_on_the_wire args)
 
-module _ {T U G C : Type 0} (sends : T → Queue → Result ℕ IoFault → T → Type 0) (a : Around G C) (p : ReaderState T (Core U C)) (m : WireMessage) (link : LinkState T) where
+module _ {T U G C : Type 0} (sends : T → Queue → Result ℕ IoFault → T → Type 0) (a : Around G C) (p : ReaderState T (Core U C)) (m : WireMessage)
+    (link : LinkState T) where
   -- a message that was read has its signature from the table
   pub read_signed : ReadsAs sends (server a) p (Ok m) link
       → (signature : List ArgumentType)
@@ -137,7 +142,8 @@ module _ {T U G C : Type 0} (sends : T → Queue → Result ℕ IoFault → T �
 
   -- it is to an object that is kept, and the table has the request
   pub read_row : ReadsAs sends (server a) p (Ok m) link
-      → (receiver : Object (Kept U)) × (row : MessageRow) × (held p.core.store m.sender ≡ Some receiver) × (request_row a.table receiver.interface m.opcode ≡ Some row)
+      → (receiver : Object (Kept U)) × (row : MessageRow) × (held p.core.store m.sender ≡ Some receiver)
+      × (request_row a.table receiver.interface m.opcode ≡ Some row)
   read_row read = grind (arith, read_signed, option_map, row_in)
 
   -- it makes an object by the table exactly if one of its arguments is a new number
@@ -153,13 +159,15 @@ module _ {U : Type 0} where
 module _ {U : Type 0} (client : ClientParts) (version : ℕ) where
   -- The object of this id is new, and of this version.
   abbrev IsMade : Store (Kept U) → Store (Kept U) → IdParts → Type 0
-  IsMade before after id = (id.client ≡ client) × (held before id.number ≡ None) × (held after id.number ≡ Some (fresh_object id.interface version id.serial None))
+  IsMade before after id =
+      (id.client ≡ client) × (held before id.number ≡ None) × (held after id.number ≡ Some (fresh_object id.interface version id.serial None))
 
   -- The arguments have no new id, and made nothing. Or they have one, and made its object, of the interface that was left.
   abbrev pub Making : Converting U → Converting U → List (Argument IdParts Token) → Type 0
   Making d e more =
       ((new_id_in more ≡ None) × (e.created ≡ d.created))
-      ⊎ ((id : IdParts) × (d.child ≡ Some id.interface) × (new_id_in more ≡ Some id) × (e.created ≡ Some id) × IsMade d.objects.store e.objects.store id)
+      ⊎ ((id : IdParts) × (d.child ≡ Some id.interface) × (new_id_in more ≡ Some id) × (e.created ≡ Some id)
+      × IsMade d.objects.store e.objects.store id)
 
   -- what one argument became
   abbrev One : Converting U → WireArgument → Converted U → Type 0
@@ -167,14 +175,17 @@ module _ {U : Type 0} (client : ClientParts) (version : ℕ) where
       (wire_argument next.0 ≡ x) × Grown d.objects.store next.1.objects.store
       × ((s : Store (Kept U)) (more : List (Argument IdParts Token)) → Grown next.1.objects.store s → ObjectsFit client s next.1.kinds next.1.asked more
       → ObjectsFit client s d.kinds d.asked (next.0 ∷ more))
-      × ((e : Converting U) (more : List (Argument IdParts Token)) → Grown next.1.objects.store e.objects.store → Making next.1 e more → Making d e (next.0 ∷ more))
+      × ((e : Converting U) (more : List (Argument IdParts Token)) → Grown next.1.objects.store e.objects.store → Making next.1 e more
+      → Making d e (next.0 ∷ more))
   One d x (Err w) = Unit {0}
 
   one_object : (d : Converting U) (n : ℕ) (null b : Bool) → allows_null d.kinds ≡ null → eqb n 0 ≡ b
-      → One d (arg.Object n) (with_object_argument d (cond b (cond null (Ok (null_id client)) (Err wrong.NullObject)) (object_found client (next_interface d.asked) n (held d.objects.store n))))
+      → One d (arg.Object n) (with_object_argument d
+      (cond b (cond null (Ok (null_id client)) (Err wrong.NullObject)) (object_found client (next_interface d.asked) n (held d.objects.store n))))
   one_object d n null b h1 h2 = grind (arith, with_object_argument, eqb-true)
 
-  one_new : (d : Converting U) (n : ℕ) (child : Option InterfaceId) → d.child ≡ child → One d (arg.NewId n) (with_new_argument client version d n child)
+  one_new : (d : Converting U) (n : ℕ) (child : Option InterfaceId) → d.child ≡ child
+      → One d (arg.NewId n) (with_new_argument client version d n child)
   one_new d n None left = tt
   one_new d n (Some i) left = go (is_valid_new d.objects n) refl
     where
@@ -220,7 +231,8 @@ module _ {U : Type 0} (client : ClientParts) (version : ℕ) where
       × ObjectsFit client e.objects.store d.kinds d.asked more × Making d e more
   Came d done args (Wrong w objects) = Unit {0}
 
-  came_then : (d next : Converting U) (done : List (Argument IdParts Token)) (b : Argument IdParts Token) (x : WireArgument) (args : List WireArgument) → One d x (Ok (b, next))
+  came_then : (d next : Converting U) (done : List (Argument IdParts Token)) (b : Argument IdParts Token) (x : WireArgument)
+      (args : List WireArgument) → One d x (Ok (b, next))
       → (o : Outcome U) → Came next (done ++ b ∷ []) args o → Came d done (x ∷ args) o
   came_then d next done b x args (is, grown, fit, makes) (Whole e all) (more, all_is, numbers, grown', fits', made) = (
     b ∷ more,
@@ -235,12 +247,15 @@ module _ {U : Type 0} (client : ClientParts) (version : ℕ) where
   goes_on : (d : Converting U) (done : List (Argument IdParts Token)) (x : WireArgument) (args : List WireArgument) (r : Converted U) → One d x r
       → ((next : Converting U) (all : List (Argument IdParts Token)) → Came next all args (convert client version next all args))
       → Came d done (x ∷ args) (going_on r d.objects (λ b next. convert client version next (done ++ b ∷ []) args))
-  goes_on d done x args (Ok (b, next)) so rest = came_then d next done b x args so (convert client version next (done ++ b ∷ []) args) (rest next (done ++ b ∷ []))
+  goes_on d done x args (Ok (b, next)) so rest =
+      came_then d next done b x args so (convert client version next (done ++ b ∷ []) args) (rest next (done ++ b ∷ []))
   goes_on d done x args (Err w) so rest = tt
 
-  pub converts : (d : Converting U) (done : List (Argument IdParts Token)) (args : List WireArgument) → Came d done args (convert client version d done args)
+  pub converts : (d : Converting U) (done : List (Argument IdParts Token)) (args : List WireArgument)
+      → Came d done args (convert client version d done args)
   converts d done [] = ([], sym (append-nil done), refl, λ k x there. there, tt, inl (refl, refl))
-  converts d done (x ∷ args) = goes_on d done x args (convert_one client version d x) (grind (arith, one_object, allows_null, eqb, one_new)) (λ next all. converts next all args)
+  converts d done (x ∷ args) = goes_on d done x args (convert_one client version d x) (grind (arith, one_object, allows_null, eqb, one_new))
+      (λ next all. converts next all args)
 
 -- one of two verdicts
 pub either_request : {V : Type 0} (b : Bool) (P : V → Type 0) {x y : V} → P x → P y → P (cond b x y)
@@ -255,7 +270,8 @@ pub or_true : (a b : Bool) → b ≡ true → (a || b) ≡ true
 or_true true b is = refl
 or_true false b is = is
 
-pub split_result : {A E : Type 0} {P : A → Type 0} {Q : E → Type 0} (r : Result A E) → MatchResult r P Q → ((x : A) × (r ≡ Ok x) × P x) ⊎ ((e : E) × (r ≡ Err e) × Q e)
+pub split_result : {A E : Type 0} {P : A → Type 0} {Q : E → Type 0} (r : Result A E) → MatchResult r P Q
+    → ((x : A) × (r ≡ Ok x) × P x) ⊎ ((e : E) × (r ≡ Err e) × Q e)
 split_result (Ok x) p = inl (x, refl, p)
 split_result (Err e) q = inr (e, refl, q)
 
@@ -294,14 +310,17 @@ module _ {U G C : Type 0} (a : Around G C) (c : Core U C) (P : Verdict (Core U C
   -- it holds of each bind that these arguments may ask for
   abbrev Bound : List WireArgument → Type 0
   Bound args =
-      (g : ℕ) (interface : List ℕ) (version n : ℕ) (kept : Object (KeptGlobal G)) → args ≡ arg.Uint g ∷ arg.Str (Some interface) ∷ arg.Uint version ∷ arg.NewId n ∷ []
-      → held a.globals.store g ≡ Some kept → may_bind a c g (Some interface) version kept ≡ true → is_valid_new (objects_in c) n ≡ true → P (binds a c g version n kept)
+      (g : ℕ) (interface : List ℕ) (version n : ℕ) (kept : Object (KeptGlobal G))
+      → args ≡ arg.Uint g ∷ arg.Str (Some interface) ∷ arg.Uint version ∷ arg.NewId n ∷ []
+      → held a.globals.store g ≡ Some kept → may_bind a c g (Some interface) version kept ≡ true → is_valid_new (objects_in c) n ≡ true
+      → P (binds a c g version n kept)
 
   -- they are none of a bind
   abbrev AreUnbound : List WireArgument → Type 0
   AreUnbound args = (g version n : ℕ) (name : Option (List ℕ)) → ¬ (args ≡ arg.Uint g ∷ arg.Str name ∷ arg.Uint version ∷ arg.NewId n ∷ [])
 
-  bound_case : (args : List WireArgument) → (AreUnbound args → P (garbled c)) → ((code : ℕ) (text : List ℕ) → P (breaks a c code text)) → Bound args → P (registry_request a c args)
+  bound_case : (args : List WireArgument) → (AreUnbound args → P (garbled c)) → ((code : ℕ) (text : List ℕ) → P (breaks a c code text)) → Bound args
+      → P (registry_request a c args)
   bound_case args garbled' breaks' bound = grind (arith, args, held, binds_to, may_bind, is_valid_new, objects_in, true≢false)
 
   -- ---- a request to a display
@@ -314,17 +333,21 @@ module _ {U G C : Type 0} (a : Around G C) (c : Core U C) (P : Verdict (Core U C
       → ((n : ℕ) → P (syncs a c n)) → ((n : ℕ) → P (registers a c n)) → P (display_request a c opcode args)
   asked_case opcode args garbled' breaks' syncs' registers' = grind (arith, new_id_text, args, eqb opcode 0, objects_in c, true≢false)
 
-module _ {T U G C : Type 0} (sends : T → Queue → Result ℕ IoFault → T → Type 0) (receives : T → ℕ → Result Queue IoFault → T → Type 0) (a : Around G C) where
+module _ {T U G C : Type 0} (sends : T → Queue → Result ℕ IoFault → T → Type 0) (receives : T → ℕ → Result Queue IoFault → T → Type 0)
+    (a : Around G C) where
   -- what is answered at the end of a reading for what the message at the front came to in this turn
   abbrev pub Answers : Turn → ReaderState T (Core U C) → Result Handed ActionError → ReaderState T (Core U C) → Type 0
   Answers t before (Ok h) end = (end.core.is_killed ≡ false) × (end.core.ended ≡ None) × TookOne t × ComesOfFront sends a h before end
-  Answers t before (Err (Io fault.Proto)) end = FoundNoMessage sends a t before × (end.core.ended ≡ Some ConnectionClosed) × LeavesClient fault.Proto end.core
+  Answers t before (Err (Io fault.Proto)) end =
+      FoundNoMessage sends a t before × (end.core.ended ≡ Some ConnectionClosed) × LeavesClient fault.Proto end.core
   Answers t before (Err (Io fault.Pipe)) end = TookMessage sends a t before × IsSome end.core.ended × LeavesClient fault.Pipe end.core
   Answers t before (Err e) end = ⊥
 
-  answers_end : (t : Turn) (before : ReaderState T (Core U C)) (refused : Bool) (left : ℕ) (answer : Result Handed ActionError) (end : ReaderState T (Core U C)) → Answers t before answer end
+  answers_end : (t : Turn) (before : ReaderState T (Core U C)) (refused : Bool) (left : ℕ) (answer : Result Handed ActionError)
+      (end : ReaderState T (Core U C)) → Answers t before answer end
       → ReadingEnds sends receives a before (t ∷ []) answer refused left end
-  answers_end t before refused left (Ok h) end (live, fresh, (es, is), comes) = (live, fresh, ([], es, before, ap (λ (u : Turn). u ∷ []) is, refl, comes))
+  answers_end t before refused left (Ok h) end (live, fresh, (es, is), comes) =
+      (live, fresh, ([], es, before, ap (λ (u : Turn). u ∷ []) is, refl, comes))
   answers_end t before refused left (Err (Io fault.Proto)) end (found, is, leaves) = (inr (([], t, before, refl, refl, found), is), leaves)
   answers_end t before refused left (Err (Io fault.Pipe)) end (took, is, leaves) = (inr (([], t, before, refl, refl, took), is), leaves)
   answers_end t before refused left _ end so = absurd so
@@ -332,11 +355,13 @@ module _ {T U G C : Type 0} (sends : T → Queue → Result ℕ IoFault → T �
   -- what a verdict came to: the client is read on, and nothing is answered; or this is answered
   abbrev pub Turned : Turn → ReaderState T (Core U C) → List (Given (Told U)) → Bool → ReaderState T (Core U C) → Type 0
   Turned t before first lacked mid =
-      (IsRead mid.core × Silent first × (lacked ≡ false)) ⊎ ((reads_on mid.core ≡ false) × (Answers t before (action_in first) mid × MemoryOf (action_in first) lacked))
+      (IsRead mid.core × Silent first × (lacked ≡ false))
+      ⊎ ((reads_on mid.core ≡ false) × (Answers t before (action_in first) mid × MemoryOf (action_in first) lacked))
 
   abbrev Turns : (List Sending → Turn) → ReaderState T (Core U C) → Verdict (Core U C) (Told U) → LinkState T → Type 0
   Turns turn before v link =
-      (es : List Sending) (first : List (Given (Told U))) (lacked : Bool) (mid : ReaderState T (Core U C)) → CarriesOut sends (server a) v link es first lacked mid
+      (es : List Sending) (first : List (Given (Told U))) (lacked : Bool) (mid : ReaderState T (Core U C))
+      → CarriesOut sends (server a) v link es first lacked mid
       → Turned (turn es) before first lacked mid
 
   -- a killed client is read no more
@@ -345,7 +370,8 @@ module _ {T U G C : Type 0} (sends : T → Queue → Result ℕ IoFault → T �
 
   -- ---- bytes that are no message
 
-  pub garbled_turns : (turn : List Sending → Turn) (before : ReaderState T (Core U C)) (c : Core U C) → IsRead c → ((es : List Sending) → FoundNoMessage sends a (turn es) before)
+  pub garbled_turns : (turn : List Sending → Turn) (before : ReaderState T (Core U C)) (c : Core U C) → IsRead c
+      → ((es : List Sending) → FoundNoMessage sends a (turn es) before)
       → (link : LinkState T) → Turns turn before (garbled c) link
   garbled_turns turn before c h1 h2 link = grind (arith, true≢false, not_read, action_in, behind_puts, not, is_none, is_some, lacks_memory, no_flush)
 
@@ -354,7 +380,8 @@ module _ {T U G C : Type 0} (sends : T → Queue → Result ℕ IoFault → T �
   abbrev Ended : Core U C → Type 0
   Ended e = (e.is_killed ≡ true) × IsSome e.ended × (e.action ≡ None)
 
-  ended_turned : (t : Turn) (before : ReaderState T (Core U C)) (first : List (Given (Told U))) (lacked : Bool) (mid : ReaderState T (Core U C)) → TookMessage sends a t before
+  ended_turned : (t : Turn) (before : ReaderState T (Core U C)) (first : List (Given (Told U))) (lacked : Bool) (mid : ReaderState T (Core U C))
+      → TookMessage sends a t before
       → action_in first ≡ Err (Io fault.Pipe) → Ended mid.core → Turned t before first lacked mid
   ended_turned t before first lacked mid took is ended = grind (arith, not_read)
 
@@ -375,20 +402,23 @@ module _ {T U G C : Type 0} (sends : T → Queue → Result ℕ IoFault → T �
   handed_both [] y = refl
   handed_both (e ∷ x) y = ap (λ (es : List (Given (Told U))). HandedOut e ∷ es) (handed_both x y)
 
-  replies_turns : (turn : List Sending → Turn) (before : ReaderState T (Core U C)) (m : Core U C) (puts : List Said) (did : List (Deed U)) → Mute did → IsRead m
+  replies_turns : (turn : List Sending → Turn) (before : ReaderState T (Core U C)) (m : Core U C) (puts : List Said) (did : List (Deed U)) → Mute did
+      → IsRead m
       → ((es : List Sending) → TookMessage sends a (turn es) before) → (link : LinkState T) → Turns turn before (replies m puts did) link
   replies_turns turn before m puts did h1 h2 h3 link = grind (arith, true≢false, is_some, put_and_gave, map, stops_if, stops_when, lacks_memory, no_flush, append-nil, append_assoc, behind_puts, came_to, server, replies, ended_turned, action_in, handed_both, not_read)
 
   -- ---- an action
 
   hands_out_turns : (before : ReaderState T (Core U C)) (m : Core U C) (action : OpenAction) (h : Handed) → m.is_killed ≡ false → m.ended ≡ None
-      → ((link : LinkState T) → ComesOfFront sends a h before (record { core = record m { action = Some action }; link = link })) → (link : LinkState T)
+      → ((link : LinkState T) → ComesOfFront sends a h before (record { core = record m { action = Some action }; link = link }))
+      → (link : LinkState T)
       → Turns Handled before (hands_out m action h) link
   hands_out_turns before m action h live fresh comes link es first lacked mid by =
       let (came, (put, given)) = carried (server a) (λ c f. refl) sends (hands_out m action h) link es first lacked mid by in
       let says : action_in first ≡ Ok h = ap action_in given ∙ behind_puts put _ in
       let core : mid.core ≡ record m { action = Some action } = grind (arith, came, true≢false) in
-      let is : mid ≡ record { core = record m { action = Some action }; link = mid.link } = ap (λ (c : Core U C). let x : ReaderState T (Core U C) = record { core = c; link = mid.link } in x) core in
+      let is : mid ≡ record { core = record m { action = Some action }; link = mid.link } = ap (λ (c : Core U C). let x : ReaderState T
+      (Core U C) = record { core = c; link = mid.link } in x) core in
       inr ((grind (arith, core, live)), rw says (((grind (arith, core)), (grind (arith, core)), (es, refl), rw is (comes mid.link)), (grind (arith, came))))
 
   module _ (c : Core U C) (r : IsRead c) (from link : LinkState T) (m : WireMessage)
@@ -399,12 +429,15 @@ module _ {T U G C : Type 0} (sends : T → Queue → Result ℕ IoFault → T �
     took : (es : List Sending) → TookMessage sends a (Handled es) here
     took es = (m, link, read)
 
-    converted_turns : (receiver : Object (Kept U)) (row : MessageRow) → held c.store m.sender ≡ Some receiver → request_row a.table receiver.interface m.opcode ≡ Some row
+    converted_turns : (receiver : Object (Kept U)) (row : MessageRow) → held c.store m.sender ≡ Some receiver
+        → request_row a.table receiver.interface m.opcode ≡ Some row
         → (o : Outcome U)
         → Came a.client receiver.version (start (objects_in c) row) [] m.args o → Turns Handled here (converted a c m receiver row o) link
-    converted_turns receiver row holds has (Wrong w objects) came = breaks_turns Handled here (with_objects c objects) 0 _ (record { live = r.live; idle = r.idle; fresh = r.fresh }) took link
+    converted_turns receiver row holds has (Wrong w objects) came =
+        breaks_turns Handled here (with_objects c objects) 0 _ (record { live = r.live; idle = r.idle; fresh = r.fresh }) took link
     converted_turns receiver row holds has (Whole d args) (more, is, numbers, grown, fit, made) =
-        hands_out_turns here (with_objects c d.objects) (opened.Request id row.is_destructor d.created) (deeds.Request id m.opcode args row.is_destructor d.created) r.live r.fresh
+        hands_out_turns here (with_objects c d.objects) (opened.Request id row.is_destructor d.created)
+        (deeds.Request id m.opcode args row.is_destructor d.created) r.live r.fresh
         (λ l. (
           m,
           link,
@@ -418,17 +451,20 @@ module _ {T U G C : Type 0} (sends : T → Queue → Result ℕ IoFault → T �
         by_row : row_in a.table (held c.store m.sender) m.opcode ≡ Some row
         by_row = ap (λ (o : Option (Object (Kept U))). row_in a.table o m.opcode) holds ∙ has
 
-        made_so : MakesItsObject a.client d.objects.store row receiver.version more d.created × MatchOption d.created (Unit {0}) (λ id. held c.store id.number ≡ None)
+        made_so : MakesItsObject a.client d.objects.store row receiver.version more d.created
+            × MatchOption d.created (Unit {0}) (λ id. held c.store id.number ≡ None)
         made_so = grind (arith, is_some, new_on_the_wire, is_new, a.client, receiver.version, objects_in c, m.args, makes_new sends a here m link read row by_row)
 
-    other_turns : (receiver : Object (Kept U)) (row : MessageRow) → held c.store m.sender ≡ Some receiver → request_row a.table receiver.interface m.opcode ≡ Some row
+    other_turns : (receiver : Object (Kept U)) (row : MessageRow) → held c.store m.sender ≡ Some receiver
+        → request_row a.table receiver.interface m.opcode ≡ Some row
         → Turns Handled here (other_request a c m receiver row) link
     other_turns receiver row holds has =
         either_request (nat_lt receiver.version row.since) (λ v. Turns Handled here v link) (breaks_turns Handled here c 1 _ r took link)
         (converted_turns receiver row holds has (convert a.client receiver.version (start (objects_in c) row) [] m.args)
         (converts a.client receiver.version (start (objects_in c) row) [] m.args))
 
-    binds_turns : (x : Object (Kept U)) → held c.store m.sender ≡ Some x → eqb x.interface.0 registry_id.0 ≡ true → Bound a c (λ v. Turns Handled here v link) m.args
+    binds_turns : (x : Object (Kept U)) → held c.store m.sender ≡ Some x → eqb x.interface.0 registry_id.0 ≡ true
+        → Bound a c (λ v. Turns Handled here v link) m.args
     binds_turns x holds registry g interface version n kept args there may valid =
         hands_out_turns here (with_objects c (with_made (objects_in c) n kept.interface version)) (opened.Bind (made_id a.client
         (objects_in c) n kept.interface)) (deeds.Bind (global_at g kept) (made_id a.client (objects_in c) n kept.interface)) r.live r.fresh
@@ -465,24 +501,30 @@ module _ {T U G C : Type 0} (sends : T → Queue → Result ℕ IoFault → T �
         P : Verdict (Core U C) (Told U) → Type 0
         P v = Turns Handled here v link
 
-        go : (receiver : Object (Kept U)) (row : MessageRow) → held c.store m.sender ≡ Some receiver → request_row a.table receiver.interface m.opcode ≡ Some row → (b t : Bool)
+        go : (receiver : Object (Kept U)) (row : MessageRow) → held c.store m.sender ≡ Some receiver
+            → request_row a.table receiver.interface m.opcode ≡ Some row → (b t : Bool)
             → eqb receiver.interface.0 display_id.0 ≡ b → eqb receiver.interface.0 registry_id.0 ≡ t
             → P (cond b (display_request a c m.opcode m.args) (cond t (registry_request a c m.args) (other_request a c m receiver row)))
         go receiver row holds has true t display registry =
             asked_case a c P m.opcode m.args
-            (λ unasked. garbled_turns Handled here c r (λ es. (m, link, read, (receiver, holds, inl (eqb-true receiver.interface.0 display_id.0 display, unasked)))) link)
+            (λ unasked. garbled_turns Handled here c r
+            (λ es. (m, link, read, (receiver, holds, inl (eqb-true receiver.interface.0 display_id.0 display, unasked)))) link)
             (λ code text. breaks_turns Handled here c code text r took link)
-            (λ n. replies_turns Handled here (synced a c n) (done_message (new_at a c n) ∷ deletions n) [] (λ rest. refl) (record { live = r.live; idle = r.idle; fresh = r.fresh }) took link)
-            (λ n. replies_turns Handled here (with_registry a c n) (introductions a.table (new_at a c n) 0 (shown a.views a.globals a.client c.client_data)) (Remembered (new_at a c n) ∷ []) (λ rest. refl) (record { live = r.live; idle = r.idle; fresh = r.fresh }) took link)
+            (λ n. replies_turns Handled here (synced a c n) (done_message (new_at a c n) ∷ deletions n) [] (λ rest. refl)
+            (record { live = r.live; idle = r.idle; fresh = r.fresh }) took link)
+            (λ n. replies_turns Handled here (with_registry a c n)
+            (introductions a.table (new_at a c n) 0 (shown a.views a.globals a.client c.client_data)) (Remembered (new_at a c n) ∷ []) (λ rest. refl) (record { live = r.live; idle = r.idle; fresh = r.fresh }) took link)
         go receiver row holds has false true display registry =
             bound_case a c P m.args
-            (λ unbound. garbled_turns Handled here c r (λ es. (m, link, read, (receiver, holds, inr (eqb-true receiver.interface.0 registry_id.0 registry, unbound)))) link)
+            (λ unbound. garbled_turns Handled here c r
+            (λ es. (m, link, read, (receiver, holds, inr (eqb-true receiver.interface.0 registry_id.0 registry, unbound)))) link)
             (λ code text. breaks_turns Handled here c code text r took link) (binds_turns receiver holds registry)
         go receiver row holds has false false display registry = other_turns receiver row holds has
 
   -- ---- over the turns
 
-  itself_later : (f : IoFault) (t : Turn) (turns : List Turn) (lacked refused : Bool) (left : ℕ) (end start mid : ReaderState T (Core U C)) → TurnLeads sends receives a t start mid
+  itself_later : (f : IoFault) (t : Turn) (turns : List Turn) (lacked refused : Bool) (left : ℕ) (end start mid : ReaderState T (Core U C))
+      → TurnLeads sends receives a t start mid
       → StopsItself sends receives a f mid turns refused left end → StopsItself sends receives a f start (t ∷ turns) (lacked || refused) left end
   itself_later fault.OutOfMemory t turns lacked refused left end start mid leads (so, asks) = (or_true lacked refused so, asks)
   itself_later fault.Proto t turns lacked refused left end start mid leads
@@ -494,14 +536,17 @@ module _ {T U G C : Type 0} (sends : T → Queue → Result ℕ IoFault → T �
   -- another turn stands before
   ends_later : (t : Turn) (turns : List Turn) (answer : Result Handed ActionError) (lacked refused : Bool) (left : ℕ) (end : ReaderState T (Core U C))
       → (start mid : ReaderState T (Core U C)) → TurnLeads sends receives a t start mid
-      → ReadingEnds sends receives a mid turns answer refused left end → ReadingEnds sends receives a start (t ∷ turns) answer (lacked || refused) left end
+      → ReadingEnds sends receives a mid turns answer refused left end
+      → ReadingEnds sends receives a start (t ∷ turns) answer (lacked || refused) left end
   ends_later t turns (Ok h) lacked refused left end start mid leads (live, fresh, (earlier, es, before, split, led, comes)) =
       (live, fresh, (t ∷ earlier, es, before, ap (λ (us : List Turn). t ∷ us) split, (mid, leads, led), comes))
   ends_later t turns (Err ActionOpen) lacked refused left end start mid leads so = so
   ends_later t turns (Err (Io f)) lacked refused left end start mid leads (inl last, leaves) = (inl (later_turn f t turns last), leaves)
-  ends_later t turns (Err (Io f)) lacked refused left end start mid leads (inr so, leaves) = (inr (itself_later f t turns lacked refused left end start mid leads so), leaves)
+  ends_later t turns (Err (Io f)) lacked refused left end start mid leads (inr so, leaves) =
+      (inr (itself_later f t turns lacked refused left end start mid leads so), leaves)
 
-  pub still_answered : (stopped : Option IoFault) (first gave : List (Given (Told U))) → Silent first → answered stopped (first ++ gave) ≡ answered stopped gave
+  pub still_answered : (stopped : Option IoFault) (first gave : List (Given (Told U))) → Silent first
+      → answered stopped (first ++ gave) ≡ answered stopped gave
   still_answered None first gave silent = silent gave
   still_answered (Some f) first gave silent = refl
 
@@ -512,7 +557,8 @@ module _ {T U G C : Type 0} (sends : T → Queue → Result ℕ IoFault → T �
   MemoryAt out = MemoryOf (answered out.stopped out.gave) out.refused
 
   -- the reading stops here
-  halts_end : (left : ℕ) (before : ReaderState T (Core U C)) (out : Gives (Told U)) → IsRead before.core → Halts sends (server a) left before out → Done before [] out before
+  halts_end : (left : ℕ) (before : ReaderState T (Core U C)) (out : Gives (Told U)) → IsRead before.core → Halts sends (server a) left before out
+      → Done before [] out before
   halts_end left before out r (inl (lacks, none, is)) = rw is (inr (none, lacks), (r.live, r.fresh, r.idle))
   halts_end left before out r (inr (inl (asks, is))) = rw is (inr (refl, inl asks), (r.live, r.fresh, r.idle))
   halts_end left before out r (inr (inr (lacks, (n, one, is)))) = rw is (inr (refl, inr lacks), (r.live, r.fresh, r.idle))
@@ -525,20 +571,25 @@ module _ {T U G C : Type 0} (sends : T → Queue → Result ℕ IoFault → T �
   no_more left mid end (Handled es ∷ turns) rest off h = absurd (true≢false (sym h.0 ∙ off))
   no_more left mid end (Unread es ∷ turns) rest off h = absurd (true≢false (sym h.0 ∙ off))
 
-  module _ (t : Turn) (start mid end : ReaderState T (Core U C)) (left : ℕ) (turns : List Turn) (first : List (Given (Told U))) (lacked : Bool) (rest out : Gives (Told U)) where
-    then_ends : out ≡ given_first first lacked rest → TurnLeads sends receives a t start mid → Turned t start first lacked mid → Reads sends (server a) receives left mid turns rest end
+  module _ (t : Turn) (start mid end : ReaderState T (Core U C)) (left : ℕ) (turns : List Turn) (first : List (Given (Told U))) (lacked : Bool)
+      (rest out : Gives (Told U)) where
+    then_ends : out ≡ given_first first lacked rest → TurnLeads sends receives a t start mid → Turned t start first lacked mid
+        → Reads sends (server a) receives left mid turns rest end
         → (IsRead mid.core → Done mid turns rest end) → Done start (t ∷ turns) out end
     then_ends h1 h2 h3 h4 h5 =
         grind (arith, given_first, still_answered, ends_later, answered, no_more, later_turn, itself_later, stops, reads_on, action_in, append-nil, answers_end, true≢false)
 
-    then_memory : out ≡ given_first first lacked rest → Turned t start first lacked mid → Reads sends (server a) receives left mid turns rest end → (IsRead mid.core → MemoryAt rest) → MemoryAt out
+    then_memory : out ≡ given_first first lacked rest → Turned t start first lacked mid → Reads sends (server a) receives left mid turns rest end
+        → (IsRead mid.core → MemoryAt rest) → MemoryAt out
     then_memory h1 h2 h3 h4 = grind (arith, still_answered, answered, true≢false, given_first, no_more, action_in, append-nil)
 
-    then_both : out ≡ given_first first lacked rest → TurnLeads sends receives a t start mid → Turned t start first lacked mid → Reads sends (server a) receives left mid turns rest end
+    then_both : out ≡ given_first first lacked rest → TurnLeads sends receives a t start mid → Turned t start first lacked mid
+        → Reads sends (server a) receives left mid turns rest end
         → (IsRead mid.core → Done mid turns rest end × MemoryAt rest) → Done start (t ∷ turns) out end × MemoryAt out
     then_both split leads turned more on = (then_ends split leads turned more (λ r. (on r).0), then_memory split turned more (λ r. (on r).1))
 
-  pub read_ends : (left : ℕ) (before : ReaderState T (Core U C)) (turns : List Turn) (out : Gives (Told U)) (end : ReaderState T (Core U C)) → IsRead before.core
+  pub read_ends : (left : ℕ) (before : ReaderState T (Core U C)) (turns : List Turn) (out : Gives (Told U)) (end : ReaderState T (Core U C))
+      → IsRead before.core
       → Reads sends (server a) receives left before turns out end → Done before turns out end × MemoryAt out
   read_ends left before [] out end r (same, stops') = grind (arith, halts_end, when_true, reads_on, reads_of, true≢false, not, is_none)
   read_ends left before (Received got ∷ turns) out end r (on, lacks, (n, is, (link, filled, room, h))) =
@@ -560,10 +611,14 @@ module _ {T U G C : Type 0} (sends : T → Queue → Result ℕ IoFault → T �
       (grind (arith, garbled_turns, server)) more (λ r'. read_ends left mid turns rest end r' more)
 
   -- a reading of a live client without an open action
-  pub reading_ends : (left : ℕ) (before : Part T U C) (turns : List Turn) (out : Gives (Told U)) (end : ReaderState T (Core U C)) → before.is_killed ≡ false → before.action ≡ None
+  pub reading_ends : (left : ℕ) (before : Part T U C) (turns : List Turn) (out : Gives (Told U)) (end : ReaderState T (Core U C))
+      → before.is_killed ≡ false → before.action ≡ None
       → Reads sends (server a) receives left (reader_part before) turns out end → Done (reader_part before) turns out end
-  reading_ends left before turns out end live idle reads = (read_ends left (reader_part before) turns out end (record { live = live; idle = idle; fresh = refl }) reads).0
+  reading_ends left before turns out end live idle reads =
+      (read_ends left (reader_part before) turns out end (record { live = live; idle = idle; fresh = refl }) reads).0
 
-  pub reading_memory : (left : ℕ) (before : Part T U C) (turns : List Turn) (out : Gives (Told U)) (end : ReaderState T (Core U C)) → before.is_killed ≡ false → before.action ≡ None
+  pub reading_memory : (left : ℕ) (before : Part T U C) (turns : List Turn) (out : Gives (Told U)) (end : ReaderState T (Core U C))
+      → before.is_killed ≡ false → before.action ≡ None
       → Reads sends (server a) receives left (reader_part before) turns out end → MemoryAt out
-  reading_memory left before turns out end live idle reads = (read_ends left (reader_part before) turns out end (record { live = live; idle = idle; fresh = refl }) reads).1
+  reading_memory left before turns out end live idle reads =
+      (read_ends left (reader_part before) turns out end (record { live = live; idle = idle; fresh = refl }) reads).1

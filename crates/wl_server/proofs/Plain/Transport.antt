@@ -52,7 +52,8 @@ module _ {T U C : Type 0} (t : T) where
 abbrev Does : {T U C : Type 0} → T → ClientParts → Bool → List (Deed U) → Part T U C → Part T U C → Type 0
 Does t id lacked did p q = Quietly lacked did (WithTransport (λ _ t'. t' ≡ t) p q)
 
-module _ {T U G C : Type 0} (w : World T G C) (before : BackendState T U G C) (id : ClientParts) (t : T) (change : IsChange w before.server id t (server_over before.server id t)) where
+module _ {T U G C : Type 0} (w : World T G C) (before : BackendState T U G C) (id : ClientParts) (t : T)
+    (change : IsChange w before.server id t (server_over before.server id t)) where
   abbrev after : BackendState T U G C
   after = record { server = server_over before.server id t; refused = false }
 
@@ -60,7 +61,8 @@ module _ {T U G C : Type 0} (w : World T G C) (before : BackendState T U G C) (i
   one = of_one change.step id (Does t) (Unit {0}) (λ other s s' lacked did h. h) refl refl refl
 
   -- what no transport changes is as before
-  keeps_all : {A : Type 0} (f : Option (Part T U C) → A) → ((p : Part T U C) (link : LinkState T) → f (Some (with_link p link)) ≡ f (Some p)) → (other : ClientParts)
+  keeps_all : {A : Type 0} (f : Option (Part T U C) → A) → ((p : Part T U C) (link : LinkState T) → f (Some (with_link p link)) ≡ f (Some p))
+      → (other : ClientParts)
       → f (seen other (server_over before.server id t)).part ≡ f (seen other before.server).part
   keeps_all f same other = stays one f other (λ about did p q there r. ap (λ (x : Part T U C). f (Some x)) r.2.2 ∙ same p _)
 
@@ -85,7 +87,8 @@ module _ {T U G C : Type 0} (w : World T G C) (before : BackendState T U G C) (i
           next = λ told. next_stays t before.server.last_client id.slot before.server.clients told;
           objects = λ other. keeps_all (option_map (λ p. map (λ e. id_at other e.0 e.1) (finmap.entries p.store.objects))) (λ p link. refl) other;
           name = λ views g other.
-              keeps_all (λ x. and_then x (λ p. and_then (global_of before.server.offer.globals g) (name_if views other p.client_data g.name))) (λ p link. refl) other;
+              keeps_all (λ x. and_then x (λ p. and_then (global_of before.server.offer.globals g) (name_if views other p.client_data g.name)))
+              (λ p link. refl) other;
         };
         memory = refl;
       }

@@ -43,26 +43,32 @@ use Rattle.std.proofs.Math.Bool.{or-false}
 
 module _ {U : Type 0} where
   -- an object that is ended is the one that the id names
-  pub ended_named : (store : Store (Kept U)) (sender : IdParts) (x : Object (Kept U)) (is_destructor : Bool) → ended_by store sender is_destructor ≡ Some x
+  pub ended_named : (store : Store (Kept U)) (sender : IdParts) (x : Object (Kept U)) (is_destructor : Bool)
+      → ended_by store sender is_destructor ≡ Some x
       → named store sender ≡ Some x
   ended_named store sender x h4 is = grind (arith, none-some)
 
-module _ {T U C : Type 0} (sends : T → Queue → Result ℕ IoFault → T → Type 0) (client : ClientParts) (s : Stored T U C) (sender : IdParts) (is_destructor : Bool) where
+module _ {T U C : Type 0} (sends : T → Queue → Result ℕ IoFault → T → Type 0) (client : ClientParts) (s : Stored T U C) (sender : IdParts)
+    (is_destructor : Bool) where
   -- it was taken out at its number, and noted
-  pub ends_taken : (x : Object (Kept U)) (n : ℕ) (wrote : Result (Unit {0}) IoFault) (link : LinkState T) (store : Store (Kept U)) (registries : List Id)
-      (made same_made : List (Happening U)) (times : NoteTimes) → Some x ≡ ended_by s.part.store sender is_destructor → n ≡ sender.number → Puts sends s.part.link (deletions n) wrote link
+  pub ends_taken : (x : Object (Kept U)) (n : ℕ) (wrote : Result (Unit {0}) IoFault) (link : LinkState T) (store : Store (Kept U))
+      (registries : List Id)
+      (made same_made : List (Happening U)) (times : NoteTimes) → Some x ≡ ended_by s.part.store sender is_destructor → n ≡ sender.number
+      → Puts sends s.part.link (deletions n) wrote link
       → false ≡ lacks_memory wrote → store ≡ removed s.part.store n
       → ((y : Object (Kept U)) → held s.part.store n ≡ Some y
       → (registries ≡ registries_without s.part.registries n y) × (made ≡ same_made ++ note_of_end client n y))
       → same_made ≡ s.made → EndsSender sends client s sender is_destructor (Ok wrote)
       (record { serial = s.serial; part = record s.part { link = link; store = store; registries = registries }; made = made; times = times })
-  ends_taken x n wrote link store registries made same_made times ended-is n-is puts lacks store-is left same-is = grind (arith, named_is_held, ended_named, deletions, no_times, registries_without, note_of_end)
+  ends_taken x n wrote link store registries made same_made times ended-is n-is puts lacks store-is left same-is =
+      grind (arith, named_is_held, ended_named, deletions, no_times, registries_without, note_of_end)
 
 -- ---- what it leaves
 
 module _ {U : Type 0} where
   -- data that an object is given make none at a number that holds none
-  pub still_gone : (store : Store (Kept U)) (n : ℕ) (created : Option IdParts) (u : Option U) → held store n ≡ None → held (store_with_data store created u) n ≡ None
+  pub still_gone : (store : Store (Kept U)) (n : ℕ) (created : Option IdParts) (u : Option U) → held store n ≡ None
+      → held (store_with_data store created u) n ≡ None
   still_gone store n created u h1 = grind (arith, named, data_given, rewritten_other, with_user_data, named_is_held)
 
   -- an object that left is named no more, whatever data the new one was given
@@ -83,7 +89,8 @@ where_none h1 is h3 h4 h = grind (arith, none-some)
 pub where_some : {X : Type 0} (o : Option X) (x : X) → Some x ≡ o → (A : Type 0) (B : X → Type 0) → B x → MatchOption o A B
 where_some {X} o x is A B h = subst (λ (o : Option X). MatchOption o A B) is h
 
-module _ {T U C : Type 0} (sends : T → Queue → Result ℕ IoFault → T → Type 0) (client : ClientParts) (s : Stored T U C) (sender : IdParts) (is_destructor : Bool)
+module _ {T U C : Type 0} (sends : T → Queue → Result ℕ IoFault → T → Type 0) (client : ClientParts) (s : Stored T U C) (sender : IdParts)
+    (is_destructor : Bool)
     (created : Option IdParts) (u : Option U) where
   -- the action is finished
   abbrev finished : Stored T U C → Stored T U C
@@ -93,7 +100,8 @@ module _ {T U C : Type 0} (sends : T → Queue → Result ℕ IoFault → T → 
   ReachedBy o refused after = IsCarried sends (ends client (core_of s.part) sender o created u) s refused after
 
   -- the object stays where there was no memory
-  stays : (x : Object (Kept U)) (e : OutOfMemory) (after : Stored T U C) → named s.part.store sender ≡ Some x → EndsObject sends client s sender x (Err e) after
+  stays : (x : Object (Kept U)) (e : OutOfMemory) (after : Stored T U C) → named s.part.store sender ≡ Some x
+      → EndsObject sends client s sender x (Err e) after
       → ReachedBy (Some x) true after
   stays x e after kept (inl (asks, same)) =
       (core_of s.part, s.part.link, inr (asks, refl, refl, refl), ap untimed same ∙ rw kept (made_end s.serial s.part s.made))
@@ -146,16 +154,20 @@ module _ {T U C : Type 0} (sends : T → Queue → Result ℕ IoFault → T → 
   RequestDoes answer refused after =
       Does s (λ p did q. FinishesOpen sends client p (opened.Request sender is_destructor created) u answer refused did q) after
 
-  pub request_ends : (answer : Result (Unit {0}) (FinishRefused (Option U))) (refused : Bool) (after : Stored T U C) → None ≡ refusal s.part.is_killed created u
-      → answer ≡ unless_refused (record { error = finish.OutOfMemory; user_data = u }) refused → ReachedBy (ended_by s.part.store sender is_destructor) refused after
+  pub request_ends : (answer : Result (Unit {0}) (FinishRefused (Option U))) (refused : Bool) (after : Stored T U C)
+      → None ≡ refusal s.part.is_killed created u
+      → answer ≡ unless_refused (record { error = finish.OutOfMemory; user_data = u }) refused
+      → ReachedBy (ended_by s.part.store sender is_destructor) refused after
       → RequestDoes answer refused after
   request_ends answer refused after none is reached =
       let t = tells_carried sends (ends_request client (core_of s.part) sender is_destructor created u) s after refused reached in
       (t.0, t.1, where_none (refusal s.part.is_killed created u) none _ (λ e. Refuses s.part u e answer refused t.0 t.1) (is, t.2), t.3)
 
-  pub request_refused : (e : FinishError) → Some e ≡ refusal s.part.is_killed created u → RequestDoes (Err (record { error = e; user_data = u })) (is_out_of_memory e) s
+  pub request_refused : (e : FinishError) → Some e ≡ refusal s.part.is_killed created u
+      → RequestDoes (Err (record { error = e; user_data = u })) (is_out_of_memory e) s
   request_refused e some =
-      does_quietly s (λ p did q. FinishesOpen sends client p (opened.Request sender is_destructor created) u (Err (record { error = e; user_data = u })) (is_out_of_memory e) did q)
+      does_quietly s (λ p did q. FinishesOpen sends client p (opened.Request sender is_destructor created) u
+      (Err (record { error = e; user_data = u })) (is_out_of_memory e) did q)
       s.part
       (grind (arith, where_some, refusal, is_out_of_memory, is_some, is_none, not))
 

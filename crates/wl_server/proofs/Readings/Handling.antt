@@ -113,7 +113,8 @@ module _ {T U C : Type 0} (sends : T → Queue → Result ℕ IoFault → T → 
       (quiet_reply did quiet (core_of s.part))
       (refl, refl, live.0, live.1, λ rest. (quiet (stops_if (core_of s.part))).1 rest ∙ rw live.0 refl)
 
-  pub replied : (s after : Stored T U C) (link : LinkState T) (puts : List Said) (did : List (Deed U)) (wrote : Result (Unit {0}) IoFault) (end : MessageEnd)
+  pub replied : (s after : Stored T U C) (link : LinkState T) (puts : List Said) (did : List (Deed U)) (wrote : Result (Unit {0}) IoFault)
+      (end : MessageEnd)
       (h : Handed) → AreQuiet did → Live s.part → Puts sends s.part.link puts wrote link
       → MatchResult wrote (λ _. (end ≡ came.Continues) × (after ≡ linked s link))
       (λ f. (end ≡ came.Ends (broken_with (lacks_memory (Err f)))) × Does (linked s link) (λ p did q. Kills p ConnectionClosed did q) after)

@@ -57,7 +57,8 @@ module _ {U C : Type 0} where
   pub tells_put : {T : Type 0} (sends : T → Queue → Result ℕ IoFault → T → Type 0) (v : Verdict (Core U C) (Told U)) (before mid after : LinkState T)
       (wrote : Result (Unit {0}) IoFault) (others : List Sending) (lacked : Bool)
       → Puts sends before v.puts wrote mid → FlushesOut sends v.flushes mid others lacked after
-      → (did : List (Deed U)) × Tells sends v before (lacks_memory wrote || lacked) did (part_of (record { core = came_to speaker v wrote; link = after }))
+      → (did : List (Deed U)) × Tells sends v before (lacks_memory wrote || lacked) did
+      (part_of (record { core = came_to speaker v wrote; link = after }))
       × (notes_in did ≡ told_notes (v.events (came_to speaker v wrote)) ++ notes_in (end_deeds (came_to speaker v wrote).ended))
   tells_put sends v before mid after wrote others lacked (es, put, puts) flushed =
       let core : Core U C = came_to speaker v wrote in

@@ -61,7 +61,8 @@ module _ {T U C : Type 0} where
 
 -- ---- a read under the signature of the request at the front
 
-module _ {T U : Type 0} (table : List InterfaceRow) (store : Store (Kept U)) (link : LinkState T) (r : FrontRequest) (front : IsFront table store link r) (after : LinkState T) where
+module _ {T U : Type 0} (table : List InterfaceRow) (store : Store (Kept U)) (link : LinkState T) (r : FrontRequest)
+    (front : IsFront table store link r) (after : LinkState T) where
   pub read_in : (answer : Result WireMessage MessageParseError) → ReadOne (λ _ _ f. f ≡ Some r.desc.now.signature.items) link answer after
       → ReadsIn table store link answer after
   read_in answer read = grind (arith, nat_le, option_map, row_in)
@@ -70,7 +71,8 @@ module _ {T U : Type 0} (table : List InterfaceRow) (store : Store (Kept U)) (li
       → row_in table (held store m.sender) m.opcode ≡ Some (message_row r.desc.now)
   row_read m read = grind (arith, true≢false, is_ok, front.row)
 
-module _ {T U G C : Type 0} (sends : T → Queue → Result ℕ IoFault → T → Type 0) (receives : T → ℕ → Result Queue IoFault → T → Type 0) (a : Around G C) where
+module _ {T U G C : Type 0} (sends : T → Queue → Result ℕ IoFault → T → Type 0) (receives : T → ℕ → Result Queue IoFault → T → Type 0)
+    (a : Around G C) where
   -- ---- joining
 
   pub goes_none : (s : Stored T U C) (r : Reading) → r.read ≤ most → Live s.part → ReadsOn sends receives a s r s r
@@ -86,7 +88,8 @@ module _ {T U G C : Type 0} (sends : T → Queue → Result ℕ IoFault → T �
     made = refl;
   }
 
-  pub goes_goes : (s m e : Stored T U C) (r q t : Reading) → ReadsOn sends receives a s r m q → ReadsOn sends receives a m q e t → ReadsOn sends receives a s r e t
+  pub goes_goes : (s m e : Stored T U C) (r q t : Reading) → ReadsOn sends receives a s r m q → ReadsOn sends receives a m q e t
+      → ReadsOn sends receives a s r e t
   goes_goes s m e r q t one two = record {
     first = one.first ++ two.first;
     gave = one.gave ++ two.gave;
@@ -100,7 +103,8 @@ module _ {T U G C : Type 0} (sends : T → Queue → Result ℕ IoFault → T �
     made = two.made ∙ one.made;
   }
 
-  pub goes_ends : (s m e : Stored T U C) (r q t : Reading) (answer : Result Handed NoAction) → ReadsOn sends receives a s r m q → EndsAs sends receives a m q answer e t
+  pub goes_ends : (s m e : Stored T U C) (r q t : Reading) (answer : Result Handed NoAction) → ReadsOn sends receives a s r m q
+      → EndsAs sends receives a m q answer e t
       → EndsAs sends receives a s r answer e t
   goes_ends s m e r q t answer one two = record {
     turns = one.first ++ two.turns;
@@ -239,7 +243,8 @@ module _ {T U G C : Type 0} (sends : T → Queue → Result ℕ IoFault → T �
     times = s.times;
   }
 
-  pub message_taken : (s : Stored T U C) (r r' : Reading) (link : LinkState T) (objects objects' : ClientObjects U) (response : Response) (f : Found) (args : List (Argument IdParts Token))
+  pub message_taken : (s : Stored T U C) (r r' : Reading) (link : LinkState T) (objects objects' : ClientObjects U) (response : Response) (f : Found)
+      (args : List (Argument IdParts Token))
       (to : MessageResult) (after : Stored T U C)
       → Live s.part → core_with (core_of s.part) s.part.client_data objects ≡ core_of s.part
       → TookRequest a s.part.client_data objects s.part.link (Ok response) f args objects' link
@@ -263,7 +268,8 @@ module _ {T U G C : Type 0} (sends : T → Queue → Result ℕ IoFault → T �
   pub goes_within : (s m : Stored T U C) (r q : Reading) → ReadsOn sends receives a s r m q → q.read ≤ most
   goes_within s m r q g = let e = g.read in omega (arith, e)
 
-  module _ (s : Stored T U C) (r q : Reading) (live : Live s.part) (within : r.read ≤ most) (lacks : LacksIn sends receives a s.part) (left : r.turns_left ≡ suc q.turns_left)
+  module _ (s : Stored T U C) (r q : Reading) (live : Live s.part) (within : r.read ≤ most) (lacks : LacksIn sends receives a s.part)
+      (left : r.turns_left ≡ suc q.turns_left)
       (read : q.read ≡ r.read) where
     -- a receive, and what follows
     receive_reads : (rc : Result Queue IoFault) (answer : Result (Unit {0}) IoFault) (link : LinkState T) (turns : List Turn) (out : Gives (Told U))
@@ -323,13 +329,15 @@ pub notes_of_exchanges : {U : Type 0} (turns : List Turn) → notes_in {U = U} (
 notes_of_exchanges [] = refl
 notes_of_exchanges {U} (turn ∷ turns) = grind (arith, notes_append, notes_of_sends, notes_of_exchanges {U = U} turns, turn)
 
-module _ {T U G C : Type 0} (sends : T → Queue → Result ℕ IoFault → T → Type 0) (receives : T → ℕ → Result Queue IoFault → T → Type 0) (a : Around G C)
+module _ {T U G C : Type 0} (sends : T → Queue → Result ℕ IoFault → T → Type 0) (receives : T → ℕ → Result Queue IoFault → T → Type 0)
+    (a : Around G C)
     (s after : Stored T U C) (r r' : Reading) where
   abbrev pub NextDoes : Result Handed ActionError → Bool → Type 0
   NextDoes answer refused = Does s (λ p did q. NextAction sends receives a r p answer r' refused did q) after
 
   -- a reading that ended is what is told of one
-  pub reading_done : (answer : Result Handed NoAction) → Live s.part → EndsAs sends receives a s r answer after r' → NextDoes (answer_of answer) (refused_of answer)
+  pub reading_done : (answer : Result Handed NoAction) → Live s.part → EndsAs sends receives a s r answer after r'
+      → NextDoes (answer_of answer) (refused_of answer)
   reading_done answer live e =
       let did : List (Deed U) = deeds_of (exchanges_in e.turns) e.out.gave e.end.core in
       let notes : notes_in did ≡ notes_in (end_deeds {U = U} e.end.core.ended)

@@ -108,6 +108,7 @@ pub one_name : (interface request rest : List ℕ) → interface ++ (codes "." +
 one_name interface request rest = sym (append_assoc interface (codes "." ++ request) rest)
 
 -- the name of a request that was looked up for an object
-pub free_looked_up : {U : Type 0} (table : List InterfaceRow) (accepted : IsAcceptedTable table) (x : Option (Object (Kept U))) (opcode : ℕ) (row : MessageRow)
+pub free_looked_up : {U : Type 0} (table : List InterfaceRow) (accepted : IsAcceptedTable table) (x : Option (Object (Kept U))) (opcode : ℕ)
+    (row : MessageRow)
     → Some row ≡ row_in table x opcode → IsFree row.name
 free_looked_up table accepted h3 opcode row is = grind (arith, none-some, free_request)

@@ -145,7 +145,8 @@ module _ {T U G C : Type 0} (sends : T → Queue → Result ℕ IoFault → T �
 -- ---- arguments that are words
 
 -- each type has its word
-pub long_enough : {U : Type 0} (store : Store (Kept U)) (kinds : List ArgumentType) (asked : List InterfaceId) (bytes : List ℕ) → words_fit store kinds asked bytes ≡ true
+pub long_enough : {U : Type 0} (store : Store (Kept U)) (kinds : List ArgumentType) (asked : List InterfaceId) (bytes : List ℕ)
+    → words_fit store kinds asked bytes ≡ true
     → 4 * length kinds ≤ length bytes
 long_enough store [] asked bytes fit = omega arith
 long_enough store (k ∷ kinds) asked bytes fit = grind (arith, and_parts, nat_le, length, word_fits, next_interface, first_word, leb-true, asked_after, drop, length-drop, long_enough store kinds (asked_after k asked) (drop 4 bytes))
@@ -176,7 +177,8 @@ module _ {U : Type 0} (client : ClientParts) (version : ℕ) (objects : Objects 
       (a : WireArgument) × (piece : List ℕ) × (bytes ≡ piece ++ x.1) × (token a ≡ []) × (fd_count (k ∷ kinds) ≡ fd_count kinds) × IsPiece k a piece
       × (convert_one client version (at (k ∷ kinds) asked) a ≡ Ok (x.0, at kinds (asked_after k asked)))
 
-  object_is : (null : AllowNull) (kinds : List ArgumentType) (asked : InterfaceId) (n : ℕ) → object_fits objects.store (allows_null (kind.Object null ∷ [])) asked n ≡ true
+  object_is : (null : AllowNull) (kinds : List ArgumentType) (asked : InterfaceId) (n : ℕ)
+      → object_fits objects.store (allows_null (kind.Object null ∷ [])) asked n ≡ true
       → object_argument client objects.store (allows_null (kind.Object null ∷ kinds)) asked n ≡ Ok (handed_object client objects.store n)
   object_is h1 kinds asked n is = grind (arith, true≢false, held)
 
@@ -222,7 +224,8 @@ module _ {U : Type 0} (client : ClientParts) (version : ℕ) (objects : Objects 
     one_front k x found = by_word k x found
 
   -- the bytes are arguments of these types, which take no token, and these are converted, behind `done`, to all that is handed out
-  fronts_convert : (kinds : List ArgumentType) (asked : List InterfaceId) (bytes : List ℕ) (fds : List Token) (done handed : List (Argument IdParts Token))
+  fronts_convert : (kinds : List ArgumentType) (asked : List InterfaceId) (bytes : List ℕ) (fds : List Token)
+      (done handed : List (Argument IdParts Token))
       → fronts client objects.store done kinds asked bytes ≡ Some handed
       → (args : List WireArgument) × ReadsArgs kinds args bytes fds × (fd_count kinds ≡ 0)
       × ((left : List InterfaceId) × (convert client version (at kinds asked) done args ≡ Whole (at [] left) handed))
@@ -251,7 +254,8 @@ module _ {U : Type 0} (client : ClientParts) (version : ℕ) (objects : Objects 
 -- ---- what is handed out
 
 module _ {U : Type 0} (client : ClientParts) (version : ℕ) (objects : Objects (Kept U)) (row : MessageRow) (payload : List ℕ) (fds : List Token) where
-  pub fronts_hand_out : (handed : List (Argument IdParts Token)) → fronts client objects.store [] row.signature row.arg_interfaces payload ≡ Some handed
+  pub fronts_hand_out : (handed : List (Argument IdParts Token))
+      → fronts client objects.store [] row.signature row.arg_interfaces payload ≡ Some handed
       → HandsOut client version objects row payload fds None objects handed
   fronts_hand_out handed found =
       let (args, reads, no_fd, (left, converts)) =
@@ -285,7 +289,8 @@ module _ {U : Type 0} (client : ClientParts) (version : ℕ) (objects : Objects 
 
 -- ---- a request that is handed out
 
-module _ {T U G C : Type 0} (sends : T → Queue → Result ℕ IoFault → T → Type 0) (receives : T → ℕ → Result Queue IoFault → T → Type 0) (a : Around G C)
+module _ {T U G C : Type 0} (sends : T → Queue → Result ℕ IoFault → T → Type 0) (receives : T → ℕ → Result Queue IoFault → T → Type 0)
+    (a : Around G C)
     (s : Stored T U C) (live : Live s.part) (front : FrontRequest) (is_front : IsFront a.table s.part.store s.part.link front)
     (created : Option IdParts) (objects : Objects (Kept U)) (handed_args : List (Argument IdParts Token))
     (put : IsPut a.client (objects_of s.part) s.part.link front objects handed_args created) where

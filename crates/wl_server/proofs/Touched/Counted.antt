@@ -38,8 +38,10 @@ module _ {T U C : Type 0} where
     pub step : (k : ℕ) (x : Option (Stored T U C)) → slice_get clients k ≡ Some x → rest k ≡ one k x + rest (k + 1)
     pub none : (k : ℕ) (x : Option (Stored T U C)) → IsQuiet x → one k x ≡ 0
 
-  pub counts_notes : (waits : Bool) (clients : List (Option (Stored T U C))) → Counts clients (λ k. count_leaving waits (drop k clients)) (λ k x. length (to_gather waits x))
-  counts_notes waits clients = record { step = λ k x here. ap (count_leaving waits) (rest_at clients k x here); none = λ k x calm. ap length (quiet_notes waits x calm) }
+  pub counts_notes : (waits : Bool) (clients : List (Option (Stored T U C)))
+      → Counts clients (λ k. count_leaving waits (drop k clients)) (λ k x. length (to_gather waits x))
+  counts_notes waits clients =
+      record { step = λ k x here. ap (count_leaving waits) (rest_at clients k x here); none = λ k x calm. ap length (quiet_notes waits x calm) }
 
   pub counts_places : (waits : Bool) (clients : List (Option (Stored T U C)))
       → Counts clients (λ k. count_places waits (map times_of (drop k clients))) (λ k x. length (places_of waits 0 (times_of x)))
@@ -48,7 +50,8 @@ module _ {T U C : Type 0} where
   pub counts_collected : {A : Type 0} (give : ℕ → Option (Stored T U C) → List A) → ((k : ℕ) (x : Option (Stored T U C)) → IsQuiet x → give k x ≡ [])
       → (clients : List (Option (Stored T U C))) → Counts clients (λ k. length (collected give k (drop k clients))) (λ k x. length (give k x))
   counts_collected give none clients = record {
-    step = λ k x here. ap (λ l. length (collected give k l)) (rest_at clients k x here) ∙ length-append (give k x) (collected give (k + 1) (drop (k + 1) clients));
+    step = λ k x here. ap (λ l. length (collected give k l)) (rest_at clients k x here)
+        ∙ length-append (give k x) (collected give (k + 1) (drop (k + 1) clients));
     none = λ k x calm. ap length (none k x calm);
   }
 
@@ -58,7 +61,8 @@ module _ {T U C : Type 0} where
     pub pass : (P : ℕ → Type 0) → P from → ((k : ℕ) (x : Option (Stored T U C)) → slice_get clients k ≡ Some x → IsQuiet x → P k → P (k + 1)) → P to
     pass P is step =
         carry P from to up is
-        (λ k low high before. (let (x, here) = there clients k (omega (arith, within, high)) in step k x here (out_here IsQuiet words clients k x here (out k low high) quiet) before))
+        (λ k low high before. (let (x, here) = there clients k (omega (arith, within, high)) in step k x here
+        (out_here IsQuiet words clients k x here (out k low high) quiet) before))
 
     pub passed : (rest : ℕ → ℕ) (one : ℕ → Option (Stored T U C) → ℕ) → Counts clients rest one → rest from ≡ rest to
     passed rest one counts =
@@ -73,11 +77,13 @@ module _ {T U C : Type 0} where
     pub pass_placed : (waits : Bool) (order : List NotePlace) → Placed waits clients from order → Placed waits clients to order
     pass_placed waits order h1 = grind (arith, pass, placed_more, places_at, length, quiet_notes, same_both, carry, there, out_here, to_gather)
 
-    pub pass_numbers : (waits : Bool) (order : List NotePlace) → order ++ all_places waits from (map times_of (drop from clients)) ≡ all_places waits 0 (map times_of clients)
+    pub pass_numbers : (waits : Bool) (order : List NotePlace)
+        → order ++ all_places waits from (map times_of (drop from clients)) ≡ all_places waits 0 (map times_of clients)
         → order ++ all_places waits to (map times_of (drop to clients)) ≡ all_places waits 0 (map times_of clients)
     pass_numbers waits order is =
         pass (λ k. order ++ all_places waits k (map times_of (drop k clients)) ≡ all_places waits 0 (map times_of clients)) is
-        (λ k x here calm before. placed_so_far waits clients k x order order here before (sym (ap (λ l. order ++ l) (quiet_places waits k x calm) ∙ append-nil order)))
+        (λ k x here calm before. placed_so_far waits clients k x order order here before
+        (sym (ap (λ l. order ++ l) (quiet_places waits k x calm) ∙ append-nil order)))
 
 -- ---- a count that stops at the greatest number
 

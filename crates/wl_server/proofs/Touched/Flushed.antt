@@ -22,7 +22,8 @@ use Rattle.wl_link.specs.Puts.{lacks_memory}
 
 module _ {T U C : Type 0} where
   module _ (sends : T → Queue → Result ℕ IoFault → T → Type 0) where
-    pub sent_felt : (slot : ℕ) (place : Option (Stored T U C)) → HasSent place → PlaceFeels (λ id p lacked did q. FlushesLive sends p lacked did q) slot place false place
+    pub sent_felt : (slot : ℕ) (place : Option (Stored T U C)) → HasSent place
+        → PlaceFeels (λ id p lacked did q. FlushesLive sends p lacked did q) slot place false place
     sent_felt slot None sent = (refl, refl)
     sent_felt slot (Some s) sent = (s, at s.part.is_killed refl, refl)
       where
@@ -32,7 +33,8 @@ module _ {T U C : Type 0} where
             (Ok tt)) did q) s.part ([], s.part.link, (refl, (sent, refl, refl), refl), refl, refl, refl))
 
     -- a flush of a client that has sent all leaves it so
-    pub sent_flushed : (s s' : Stored T U C) (answer : Result (Unit {0}) IoFault) (lacked : Bool) → Does s (λ p did q. FlushedTo sends p answer lacked did q) s'
+    pub sent_flushed : (s s' : Stored T U C) (answer : Result (Unit {0}) IoFault) (lacked : Bool)
+        → Does s (λ p did q. FlushedTo sends p answer lacked did q) s'
         → s.part.link.outgoing.bytes ≡ [] → s'.part.link.outgoing.bytes ≡ []
     sent_flushed s s' answer lacked (did, q, (es, link, (chain, flushes, to), refused, did_so, same), made) sent =
         ap (λ (x : Stored T U C). x.part.link.outgoing.bytes) made ∙ (ap (λ (p : Part T U C). p.link.outgoing.bytes) same ∙ left es flushes)
@@ -42,13 +44,15 @@ module _ {T U C : Type 0} where
         left (e ∷ es) (some, offer, rest) = absurd (some sent)
 
     -- a flush makes no note, and kills no client
-    pub quiet_flushed : (s s' : Stored T U C) (answer : Result (Unit {0}) IoFault) (lacked : Bool) → Does s (λ p did q. FlushedTo sends p answer lacked did q) s'
+    pub quiet_flushed : (s s' : Stored T U C) (answer : Result (Unit {0}) IoFault) (lacked : Bool)
+        → Does s (λ p did q. FlushedTo sends p answer lacked did q) s'
         → s'.times ≡ s.times → IsCalm s → IsCalm s'
     quiet_flushed s s' answer lacked h5 times calm = grind (arith, notes_in, notes_of_sends)
 
     -- the clients that were not touched are passed over
     pub felt_on : (refused : Bool) (from to : ℕ) (start now : List (Option (Stored T U C))) (words : List ℕ) → from ≤ to → to ≤ length now
-        → ((k : ℕ) → from ≤ k → k < to → IsOut words k) → AllSent words now → AllFeel (λ id p lacked did q. FlushesLive sends p lacked did q) refused from start now
+        → ((k : ℕ) → from ≤ k → k < to → IsOut words k) → AllSent words now
+        → AllFeel (λ id p lacked did q. FlushesLive sends p lacked did q) refused from start now
         → AllFeel (λ id p lacked did q. FlushesLive sends p lacked did q) refused to start now
     felt_on refused from to start now words up within out sent all =
         carry (λ k. AllFeel (λ id p lacked did q. FlushesLive sends p lacked did q) refused k start now) from to up all

@@ -28,14 +28,18 @@ module _ {T U C : Type 0} where
 
   same_emptied : (waits : Bool) (clients clients' : List (Option (Stored T U C))) (k : ℕ) → all_emptied waits clients' ≡ all_emptied waits clients
       → option_map (emptied waits) (stored_at k clients') ≡ option_map (emptied waits) (stored_at k clients)
-  same_emptied waits clients clients' k same = grind (arith, same, stored_map (option_map (emptied waits)) refl clients k, stored_map (option_map (emptied waits)) refl clients' k)
+  same_emptied waits clients clients' k same =
+      grind (arith, same, stored_map (option_map (emptied waits)) refl clients k, stored_map (option_map (emptied waits)) refl clients' k)
 
-  pub sent_emptied : (waits : Bool) (words : List ℕ) (clients clients' : List (Option (Stored T U C))) → all_emptied waits clients' ≡ all_emptied waits clients
+  pub sent_emptied : (waits : Bool) (words : List ℕ) (clients clients' : List (Option (Stored T U C)))
+      → all_emptied waits clients' ≡ all_emptied waits clients
       → AllSent words clients → AllSent words clients'
   sent_emptied waits words clients clients' same =
-      out_each HasSent words clients clients' (λ k. (λ h2. grind (arith, is_some, stored_at k clients, stored_at k clients', same_emptied waits clients clients' k same)))
+      out_each HasSent words clients clients'
+      (λ k. (λ h2. grind (arith, is_some, stored_at k clients, stored_at k clients', same_emptied waits clients clients' k same)))
 
-  quiet_as : (o o' : Option (Stored T U C)) → option_map (emptied false) o' ≡ option_map (emptied false) o → TakesFirst (times_of o) (times_of o') → IsNumbered o'
+  quiet_as : (o o' : Option (Stored T U C)) → option_map (emptied false) o' ≡ option_map (emptied false) o → TakesFirst (times_of o) (times_of o')
+      → IsNumbered o'
       → IsQuiet o → IsQuiet o'
   quiet_as o o' h1 h2 h3 h4 = grind (arith, is_some, both_none, nil_from_length)
 
@@ -61,7 +65,8 @@ module _ {T U C : Type 0} where
   calm_staying (Some s) none waits numbered = grind (arith, both_none s.made s.part.waiting none, nil_from_length, s.part.is_killed)
 
   module _ (sends : T → Queue → Result ℕ IoFault → T → Type 0) where
-    sent_place : (k : ℕ) (lacked : Bool) (before after : Option (Option (Stored T U C))) → FeltAt (λ id p lacked did q. FlushesKilled sends p lacked did q) k before lacked after
+    sent_place : (k : ℕ) (lacked : Bool) (before after : Option (Option (Stored T U C)))
+        → FeltAt (λ id p lacked did q. FlushesKilled sends p lacked did q) k before lacked after
         → HasSent (option_map_or (λ s. s) before None) → HasSent (option_map_or (λ s. s) after None)
     sent_place k lacked None after (none, is) sent = rw is tt
     sent_place k lacked (Some None) after (place, (none, gone), is) sent = grind (arith, option_map_or)
@@ -73,10 +78,12 @@ module _ {T U C : Type 0} where
         ])
 
     sent_killed : (words : List ℕ) (refused : Bool) (clients clients' : List (Option (Stored T U C)))
-        → AllFeel (λ id p lacked did q. FlushesKilled sends p lacked did q) refused (length clients) clients clients' → AllSent words clients → AllSent words clients'
+        → AllFeel (λ id p lacked did q. FlushesKilled sends p lacked did q) refused (length clients) clients clients' → AllSent words clients
+        → AllSent words clients'
     sent_killed words refused clients clients' all = grind (arith, out_each, nat_lt, length, sent_place)
 
-    pub sent_cleaned : (words : List ℕ) (clients clients' : List (Option (Stored T U C))) (notes notes' : List (Note U)) (refused : Bool) (given : List (ClientParts × T))
+    pub sent_cleaned : (words : List ℕ) (clients clients' : List (Option (Stored T U C))) (notes notes' : List (Note U)) (refused : Bool)
+        (given : List (ClientParts × T))
         → CleansUp sends clients notes refused clients' notes' given → AllSent words clients → AllSent words clients'
     sent_cleaned words clients clients' notes notes' refused given by sent =
         rw by.stay
@@ -85,8 +92,10 @@ module _ {T U C : Type 0} where
         (sent_emptied true words by.flushed by.left by.gathers.rest (sent_killed words refused clients by.flushed by.flushes sent)))
 
     -- after a cleanup no client has a note, and each is live
-    pub quiet_cleaned : (words : List ℕ) (clients clients' : List (Option (Stored T U C))) (notes notes' : List (Note U)) (refused : Bool) (given : List (ClientParts × T))
-        → CleansUp sends clients notes refused clients' notes' given → NoneWaits (map times_of clients') → AllNumbered clients' → AllQuiet words clients'
+    pub quiet_cleaned : (words : List ℕ) (clients clients' : List (Option (Stored T U C))) (notes notes' : List (Note U)) (refused : Bool)
+        (given : List (ClientParts × T))
+        → CleansUp sends clients notes refused clients' notes' given → NoneWaits (map times_of clients') → AllNumbered clients'
+        → AllQuiet words clients'
     quiet_cleaned words clients clients' notes notes' refused given by waits numbered =
         out_all IsQuiet words clients'
         (λ k out. (grind (arith, by.stay, stored_map staying refl by.left k, calm_staying, by.all k, times_stored clients' k, waits k, numbered k)))

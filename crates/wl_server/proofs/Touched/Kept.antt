@@ -41,29 +41,34 @@ module _ {T U C : Type 0} where
     pub out_none : (words : List ℕ) (clients : List (Option (Stored T U C))) → ((k : ℕ) → IsOut words k → ⊥) → AllOut P words clients
     out_none words clients none = out_all words clients (λ k out. absurd (none k out))
 
-    pub out_here : (words : List ℕ) (clients : List (Option (Stored T U C))) (k : ℕ) (x : Option (Stored T U C)) → slice_get clients k ≡ Some x → IsOut words k
+    pub out_here : (words : List ℕ) (clients : List (Option (Stored T U C))) (k : ℕ) (x : Option (Stored T U C)) → slice_get clients k ≡ Some x
+        → IsOut words k
         → AllOut P words clients → P x
     unfolding AllOut
     out_here words clients k x here out all = subst P (ap place_at here) (all k out)
 
     -- one client becomes another of which it is so, too
-    pub out_set : (words : List ℕ) (clients : List (Option (Stored T U C))) (slot : ℕ) (x x' : Option (Stored T U C)) → slice_get clients slot ≡ Some x → (P x → P x')
+    pub out_set : (words : List ℕ) (clients : List (Option (Stored T U C))) (slot : ℕ) (x x' : Option (Stored T U C))
+        → slice_get clients slot ≡ Some x → (P x → P x')
         → AllOut P words clients → AllOut P words (slice_set clients slot x')
     unfolding AllOut
     out_set words clients slot x x' here keeps all k out = grind (arith, slice_set, eqb-true, get_set_same, get_set_other, other_of)
 
     -- ---- a slot is taken out of the set
 
-    pub out_taken : (words words' : List ℕ) (clients : List (Option (Stored T U C))) (slot : ℕ) (x : Option (Stored T U C)) (flag : Bool) → TakesOut slot flag words words'
+    pub out_taken : (words words' : List ℕ) (clients : List (Option (Stored T U C))) (slot : ℕ) (x : Option (Stored T U C)) (flag : Bool)
+        → TakesOut slot flag words words'
         → slice_get clients slot ≡ Some x → (IsTrue flag → P x) → AllOut P words clients → AllOut P words' clients
     unfolding AllOut
     out_taken words words' clients slot x flag takes here is all k out = grind (arith)
 
   -- ---- both sets
 
-  pub stay_touched : (touched touched' : Touched) (clients : List (Option (Stored T U C))) → StayTouched touched touched' → AreTouched touched clients → AreTouched touched' clients
+  pub stay_touched : (touched touched' : Touched) (clients : List (Option (Stored T U C))) → StayTouched touched touched' → AreTouched touched clients
+      → AreTouched touched' clients
   unfolding AllOut
-  stay_touched touched touched' clients stay are = record { sent = λ k out. are.sent k (stay.to_send k out); quiet = λ k out. are.quiet k (stay.to_note k out) }
+  stay_touched touched touched' clients stay are =
+      record { sent = λ k out. are.sent k (stay.to_send k out); quiet = λ k out. are.quiet k (stay.to_note k out) }
 
   pub none_touched : (touched : Touched) → AreTouched {T = T} {U = U} {C = C} touched []
   unfolding AllOut

@@ -68,7 +68,8 @@ offer_of is_disabled = record {
   default_limit = 4096;
 }
 
-no_other : (is_disabled : Bool) (n : ℕ) (x : Object (KeptGlobal ℕ)) → held (offer_of is_disabled).globals.store n ≡ Some x → (n ≡ 1) × (quad_global is_disabled ≡ x)
+no_other : (is_disabled : Bool) (n : ℕ) (x : Object (KeptGlobal ℕ)) → held (offer_of is_disabled).globals.store n ≡ Some x
+    → (n ≡ 1) × (quad_global is_disabled ≡ x)
 no_other is_disabled n x holds =
     elim (cases_eq n 1) [
       | inl same ↦ (same, same_Some (quad_global is_disabled) x (sym (stored_here empty_store 1 (quad_global is_disabled) n same) ∙ holds))

@@ -79,7 +79,8 @@ module _ (globals : Globals ℕ) (c : Core ℕ Bool) where
   a_sync_of_the_servers_range = refl
 
   -- a new id that is not the first unused one, while the others hold objects
-  a_sync_of_a_number_too_far : is_valid_new (objects_in c) 5 ≡ false → display_request around c 0 (arg.NewId 5 ∷ []) ≡ breaks around c 0 (new_id_text 5)
+  a_sync_of_a_number_too_far : is_valid_new (objects_in c) 5 ≡ false
+      → display_request around c 0 (arg.NewId 5 ∷ []) ≡ breaks around c 0 (new_id_text 5)
   a_sync_of_a_number_too_far taken = rw taken refl
 
   -- ---- requests to a registry
@@ -188,7 +189,8 @@ module _ (store : Store (Kept ℕ)) where
   granted_events = (refl, refl)
 
   -- an object that is not kept comes before one of another interface
-  found_objects : (found_fault {U = ℕ} (fits quad_id) None ≡ Some refused.InvalidId) × (found_fault (fits registry_id) (Some quad) ≡ Some refused.WrongInterface)
+  found_objects : (found_fault {U = ℕ} (fits quad_id) None ≡ Some refused.InvalidId)
+      × (found_fault (fits registry_id) (Some quad) ≡ Some refused.WrongInterface)
       × (found_fault (fits anonymous_id) (Some quad) ≡ None)
   found_objects = (refl, refl, refl)
 
@@ -198,7 +200,8 @@ module _ (store : Store (Kept ℕ)) where
   objects = record { store = store; last_serial = 1 }
 
   -- null where it may stand is the client's id of number 0
-  null_arguments : (object_argument client store true quad_id 0 ≡ Ok (id_in client 0 0 anonymous_id)) × (object_argument client store false quad_id 0 ≡ Err wrong.NullObject)
+  null_arguments : (object_argument client store true quad_id 0 ≡ Ok (id_in client 0 0 anonymous_id))
+      × (object_argument client store false quad_id 0 ≡ Err wrong.NullObject)
   null_arguments = (refl, refl)
 
   -- two nulls: the first may stand, the second is refused; and a new id of the server's
@@ -281,7 +284,8 @@ module _ (sends : ℕ → Queue → Result ℕ IoFault → ℕ → Type 0) (p : 
   abbrev told : Part ℕ ℕ Bool
   told = record p { registries = at 2 1 ∷ at 4 3 ∷ [] }
 
-  two_registries : (news table told true one ≡ global_message table (at 2 1) one ∷ making false (global_message table (at 4 3) one) ∷ []) × (news table told false one ≡ [])
+  two_registries : (news table told true one ≡ global_message table (at 2 1) one ∷ making false (global_message table (at 4 3) one) ∷ [])
+      × (news table told false one ≡ [])
       × (removals told 1 ≡ removal_message 1 (at 2 1) ∷ removal_message 1 (at 4 3) ∷ [])
   two_registries = (refl, refl, refl)
 
@@ -290,17 +294,20 @@ module _ (sends : ℕ → Queue → Result ℕ IoFault → ℕ → Type 0) (p : 
   a_cleanup_of_a_live_client live = rw live (refl, refl, refl, refl)
 
   -- a killed client on which nothing waits to be sent: its waiting notes, then its objects by number; and its transport
-  a_cleanup_of_a_killed_client : p.is_killed ≡ true → p.link.outgoing.bytes ≡ [] → p.waiting ≡ happened.Destroyed (id_in client 0xFF000000 1 quad_id) 1 ∷ []
+  a_cleanup_of_a_killed_client : p.is_killed ≡ true → p.link.outgoing.bytes ≡ []
+      → p.waiting ≡ happened.Destroyed (id_in client 0xFF000000 1 quad_id) 1 ∷ []
       → entries p.store.objects ≡ (1, display_object) ∷ (0xFF000001, fresh_object quad_id 3 2 (Some 2)) ∷ []
       → Cleaned sends client p false
-      (Noted (happened.Destroyed (id_in client 0xFF000000 1 quad_id) 1) ∷ Noted (happened.Destroyed (id_in client 0xFF000001 2 quad_id) 2) ∷ Left (at 0xFF000001 2) ∷ [])
+      (Noted (happened.Destroyed (id_in client 0xFF000000 1 quad_id) 1) ∷ Noted (happened.Destroyed (id_in client 0xFF000001 2 quad_id) 2) ∷ Left
+      (at 0xFF000001 2) ∷ [])
       (p.link.transport ∷ []) None
   a_cleanup_of_a_killed_client killed empty waiting kept =
       rw killed (rw waiting (rw kept ([], Ok tt, _, ([], p.link, (refl, (empty, refl, refl), refl), refl, refl, refl), refl, refl, refl)))
 
 -- the objects that a client has when it is taken out: those with data are noted, by ascending number
 objects_that_leave : objects_leave client ((1, display_object {U = ℕ}) ∷ (3, quad) ∷ (0xFF000001, fresh_object quad_id 3 5 (Some 2)) ∷ [])
-    ≡ Noted (happened.Destroyed (id_in client 3 2 quad_id) 6) ∷ Left (at 3 2) ∷ Noted (happened.Destroyed (id_in client 0xFF000001 5 quad_id) 2) ∷ Left (at 0xFF000001 5) ∷ []
+    ≡ Noted (happened.Destroyed (id_in client 3 2 quad_id) 6) ∷ Left (at 3 2) ∷ Noted
+    (happened.Destroyed (id_in client 0xFF000001 5 quad_id) 2) ∷ Left (at 0xFF000001 5) ∷ []
 objects_that_leave = refl
 
 -- a registry that is destroyed is told no more, and another object of that number does not matter

@@ -137,7 +137,8 @@ module _ (rows : List InterfaceRow) where
       × (offer_after offer (added (Err (table_error.UnknownInterface 0))) ≡ offer)
   more_interfaces = (refl, refl)
 
-  refused_interfaces : (lacks_growth (added (Err table_error.OutOfMemory)) ≡ true) × (lacks_growth (added (Err (table_error.UnknownInterface 0))) ≡ false)
+  refused_interfaces : (lacks_growth (added (Err table_error.OutOfMemory)) ≡ true)
+      × (lacks_growth (added (Err (table_error.UnknownInterface 0))) ≡ false)
   refused_interfaces = (refl, refl)
 
 -- ---- memory
@@ -156,7 +157,8 @@ module _ (w : World ℕ ℕ Bool) (made : List (Happening ℕ)) where
   abbrev Answers : Step ℕ ℕ ℕ Bool → Reply ℕ ℕ → Type 0
   Answers call answer = PartStep w client offer call answer out false [] out
 
-  an_event_of_none : (m : Message IdParts Token) → same_client m.sender_id.client client ≡ true → Answers (step.SendEvent m) (reply.SendEvent (Err event.InvalidId))
+  an_event_of_none : (m : Message IdParts Token) → same_client m.sender_id.client client ≡ true
+      → Answers (step.SendEvent m) (reply.SendEvent (Err event.InvalidId))
   an_event_of_none m own = (_, refl, rw own (refl, (refl, refl, refl)))
 
   an_error_of_none : (text : _) → Answers (step.PostError (id_in client 3 2 quad_id) 0 text) reply.PostError
@@ -207,7 +209,8 @@ module _ (w : World ℕ ℕ Bool) (lacks : ClientParts → Bool) (did : ClientPa
   a_global_of_nobody g by = none_lacks (λ id. nobody id (by.each id)) (by.refused.0 refl)
     where
       nobody : (id : ClientParts)
-          → PartStep w id (new_offer table) (step.CreateGlobal (record { 0 = 4 }) 3 7) (reply.CreateGlobal (Ok g)) nothing_seen (lacks id) (did id) (seen id after)
+          → PartStep w id (new_offer table) (step.CreateGlobal (record { 0 = 4 }) 3 7) (reply.CreateGlobal (Ok g)) nothing_seen (lacks id) (did id)
+          (seen id after)
           → lacks id ≡ false
       nobody id h2 = grind (arith)
 
@@ -271,7 +274,8 @@ module _ (p : Part ℕ ℕ Bool) (open' : OpenAction) (out : Vec (ClientParts ×
   }
 
   -- one that is still stored
-  still_stored : StaysKilled client (record { part = Some (dead None); made = [] }) (read_of client (Err (Io fault.Pipe)) ∷ []) (record { part = Some (dead None); made = [] })
+  still_stored : StaysKilled client (record { part = Some (dead None); made = [] }) (read_of client (Err (Io fault.Pipe)) ∷ [])
+      (record { part = Some (dead None); made = [] })
   still_stored = record {
     with_action = [];
     without_action = read_of client (Err (Io fault.Pipe)) ∷ [];
@@ -289,7 +293,8 @@ no_other_fault : ReadingAnswers client (Io fault.Pipe) (read_of client (Err (Io 
 no_other_fault says = grind (arith, true≢false)
 
 no_receive_used : ReadingAnswers client (Io fault.Pipe)
-    (entry (step.NextActionWithin client new_reading) (reply.NextActionWithin (Err (Io fault.Pipe)) (record new_reading { turns_left = 63 }))).call → ⊥
+    (entry (step.NextActionWithin client new_reading) (reply.NextActionWithin (Err (Io fault.Pipe)) (record new_reading { turns_left = 63 }))).call
+    → ⊥
 no_receive_used says = grind (arith)
 
 -- ---- ids

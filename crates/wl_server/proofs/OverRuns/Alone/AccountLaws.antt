@@ -20,7 +20,8 @@ use Rattle.wl_server.specs.Runs.{Leads}
 use Rattle.wl_server.specs.Server.{ServerState, new_server}
 use Rattle.wl_server.specs.Steps.{Entry, Makes, OneStep, StepOf}
 
-pub is_accounted_for : {T U G C : Type 0} (w : World T G C) → IsWithinOffer w.sends → (table : List InterfaceRow) (run : List (Entry T U G C)) (after : ServerState T U G C)
+pub is_accounted_for : {T U G C : Type 0} (w : World T G C) → IsWithinOffer w.sends
+    → (table : List InterfaceRow) (run : List (Entry T U G C)) (after : ServerState T U G C)
     → Leads w (new_server table) run after → IsAccountedFor w table run after
 is_accounted_for w within table run after leads = record {
   isolated = is_isolated w table run after leads;
@@ -35,13 +36,15 @@ is_accounted_for w within table run after leads = record {
 -- ---- a public call
 
 -- a history that led to where a call begins goes on with it
-goes_on : {T U G C : Type 0} (w : World T G C) {before after : ServerState T U G C} {e : Entry T U G C} → OneStep w before e after → IsWithinOffer w.sends
+goes_on : {T U G C : Type 0} (w : World T G C) {before after : ServerState T U G C} {e : Entry T U G C} → OneStep w before e after
+    → IsWithinOffer w.sends
     → StaysAccountedFor w before e after
 goes_on w {before} {after} {e} one within table run leads =
     let longer = join_runs w (new_server table) before after run (e ∷ []) leads (after, one, refl) in
     (longer, is_accounted_for w within table (run ++ e ∷ []) after longer)
 
-pub calls : {T U G C : Type 0} (w : World T G C) (before : BackendState T U G C) (call : Step T U G C) (answer : Reply T U) (after : BackendState T U G C)
+pub calls : {T U G C : Type 0} (w : World T G C) (before : BackendState T U G C) (call : Step T U G C) (answer : Reply T U)
+    (after : BackendState T U G C)
     → StepOf w before.server call answer after.refused after.server → Calls w before call answer after
 calls w before call answer after (e, is, refused, one) = record { step = (e, is, refused, one); accounted = goes_on w one }
 
@@ -49,6 +52,7 @@ pub is_change : {T U G C : Type 0} (w : World T G C) (before : ServerState T U G
     → Makes w before (Changed id t) false after → IsChange w before id t after
 is_change w before id t after (e, is, refused, one) = record { step = (e, is, refused, one); accounted = goes_on w one }
 
-pub is_growth : {T U G C : Type 0} (w : World T G C) (before : BackendState T U G C) (rows : List InterfaceRow) (answer : Result (Unit {0}) TableError)
+pub is_growth : {T U G C : Type 0} (w : World T G C) (before : BackendState T U G C) (rows : List InterfaceRow)
+    (answer : Result (Unit {0}) TableError)
     (after : BackendState T U G C) → Makes w before.server (Grown rows answer) after.refused after.server → IsGrowth w before rows answer after
 is_growth w before rows answer after (e, is, refused, one) = record { step = (e, is, refused, one); accounted = goes_on w one }

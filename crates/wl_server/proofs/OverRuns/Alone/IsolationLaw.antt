@@ -72,7 +72,8 @@ module _ {T U G C : Type 0} where
   offer_run w before after [] same = ap (λ (s : ServerState T U G C). s.offer) same
   offer_run w before after (e ∷ run) (mid, by, leads) = grind (arith, offer_over, offer_run w mid after run leads)
 
-  pub offer_over_one : (offer : Offer G) (run : List (Entry T U G C)) (e : Entry T U G C) → offer_over offer (run ++ e ∷ []) ≡ offer_after (offer_over offer run) e.call
+  pub offer_over_one : (offer : Offer G) (run : List (Entry T U G C)) (e : Entry T U G C)
+      → offer_over offer (run ++ e ∷ []) ≡ offer_after (offer_over offer run) e.call
   offer_over_one offer [] e = refl
   offer_over_one offer (f ∷ run) e = offer_over_one (offer_after offer f.call) run e
 
@@ -89,7 +90,8 @@ module _ {T U G C : Type 0} where
   join_runs w before mid after (e ∷ run) more (next, by, first) leads = (next, by, join_runs w next mid after run more first leads)
 
   -- one more entry of a client's own run, or of another's
-  alone_more : (w : World T G C) (id : ClientParts) (before mid after : Seen T U C) (offer : Offer G) (e : Entry T U G C) (run : List (Entry T U G C)) (b : Bool)
+  alone_more : (w : World T G C) (id : ClientParts) (before mid after : Seen T U C) (offer : Offer G) (e : Entry T U G C) (run : List (Entry T U G C))
+      (b : Bool)
       → concerns id e.call ≡ b → IsNotInserted id e.call
       → PartCall w id offer e.call before (e.lacks id) (e.did id) mid
       → Alone w id (offer_after offer e.call) mid (mine id run) after
@@ -97,7 +99,8 @@ module _ {T U G C : Type 0} where
   alone_more w id before mid after offer e run b h1 h2 h3 h4 = grind (arith, mine, other_call, true≢false)
 
   -- what is held of a client that was inserted before is what its own calls and the shared ones lead to
-  pub alone_run : (w : World T G C) (id : ClientParts) (before after : ServerState T U G C) (run : List (Entry T U G C)) → id.serial ≤ before.last_client
+  pub alone_run : (w : World T G C) (id : ClientParts) (before after : ServerState T U G C) (run : List (Entry T U G C))
+      → id.serial ≤ before.last_client
       → Leads w before run after → Alone w id before.offer (seen id before) (mine id run) (seen id after)
   alone_run w id before after [] born same = ap (λ (s : ServerState T U G C). seen id s) same
   alone_run w id before after (e ∷ run) born (mid, by, leads) =
@@ -109,7 +112,8 @@ module _ {T U G C : Type 0} where
   new_unborn table = record { each = λ id late. refl }
 
   -- a client that is stored was given its serial before
-  pub known_before : (w : World T G C) (table : List InterfaceRow) (run : List (Entry T U G C)) (after : ServerState T U G C) → Leads w (new_server table) run after
+  pub known_before : (w : World T G C) (table : List InterfaceRow) (run : List (Entry T U G C)) (after : ServerState T U G C)
+      → Leads w (new_server table) run after
       → (id : ClientParts) (p : Part T U C) → (seen id after).part ≡ Some p → id.serial ≤ after.last_client
   known_before w table run after leads id p there = grind (arith, cases_lt, unborn_run, new_server, new_unborn, true≢false, is_some)
 
@@ -123,10 +127,12 @@ module _ {T U G C : Type 0} where
       let (r, answered, h) =
       subst (λ (c : Call T U G C). PartCall w id mid.offer c (seen id mid) (e.lacks id) (e.did id) (seen id next)) inserts (by.each id) in
       let inserted =
-      subst (λ r. InsertedAs w id mid.offer transport client_data r (seen id mid) (e.lacks id) (e.did id) (seen id next)) (sym (ap inserted_in answered)) h in
+      subst (λ r. InsertedAs w id mid.offer transport client_data r (seen id mid) (e.lacks id) (e.did id) (seen id next))
+      (sym (ap inserted_in answered)) h in
       let (link, fresh, unlacked, did, same) = rw (same_self id) at inserted in
       let begun_so : seen id next ≡ just_inserted link client_data
-      = same ∙ ap (λ (s : Seen T U C). record { part = Some (fresh_part link client_data); made = s.made ++ Initialized ∷ [] }) (born.each id (omega (arith, number))) in (
+      = same ∙ ap (λ (s : Seen T U C). record { part = Some (fresh_part link client_data); made = s.made ++ Initialized ∷ [] })
+      (born.each id (omega (arith, number))) in (
         link,
         subst (λ (o : Offer G). IsFresh transport (Some o.default_limit) link) offered fresh,
         grind (arith, just_inserted, mine, seen, offer_after, offer_over_one, new_server, alone_run, one_more e.call id (transport, client_data, inserts)),
@@ -138,7 +144,8 @@ module _ {T U G C : Type 0} where
       → IsNeverInserted id run → Leads w before run after
       → (seen id after ≡ nothing_seen) × Alone w id before.offer (nothing_seen {T = T} {U = U} {C = C}) (mine id run) nothing_seen
   unseen_run w id before after [] nothing none same = (ap (λ (s : ServerState T U G C). seen id s) same ∙ nothing, refl)
-  unseen_run w id before after (e ∷ run) nothing (far, none) (mid, by, leads) = grind (arith, nothing_seen, seen, nothing_call, alone_more, concerns, mine, unseen_run w id mid after run)
+  unseen_run w id before after (e ∷ run) nothing (far, none) (mid, by, leads) =
+      grind (arith, nothing_seen, seen, nothing_call, alone_more, concerns, mine, unseen_run w id mid after run)
 
   -- ---- what all clients share, with its replies
 
@@ -157,7 +164,8 @@ module _ {T U G C : Type 0} where
   }
 
   -- steps with their replies have deeds, of each client
-  pub performed : (w : World T G C) (before after : ServerState T U G C) (steps : List (RunEntry (Step T U G C) (Reply T U))) → Performs w before steps after
+  pub performed : (w : World T G C) (before after : ServerState T U G C) (steps : List (RunEntry (Step T U G C) (Reply T U)))
+      → Performs w before steps after
       → (run : List (Entry T U G C)) × AreOf steps run × Leads w before run after
   performed w before after [] same = ([], tt, same)
   performed w before after (r ∷ steps) (mid, (e, call, refused, by), leads) =

@@ -21,7 +21,8 @@ other_id a b other = grind (arith, eqb, eqb-true, true≢false)
 
 -- ---- one list behind another
 
-pub announced-append : (r : Id) (told : List Announced) (a b : List Said) → announced_over r told (a ++ b) ≡ announced_over r (announced_over r told a) b
+pub announced-append : (r : Id) (told : List Announced) (a b : List Said)
+    → announced_over r told (a ++ b) ≡ announced_over r (announced_over r told a) b
 announced-append r told [] b = refl
 announced-append r told (m ∷ a) b = announced-append r (cond (same_id (sender_of m) r) (announced_after told m.message) told) a b
 
@@ -73,11 +74,14 @@ module _ (r : Id) (message : Id → Said) (by : (y : Id) → sender_of (message 
       ])
 
   -- what a change makes of what holds before, if the object is among them
-  pub some_turns : (P Q : List Announced → Type 0) → ((told : List Announced) → Q told → P told) → ((told : List Announced) → P told → Q (change told))
+  pub some_turns : (P Q : List Announced → Type 0) → ((told : List Announced) → Q told → P told)
+      → ((told : List Announced) → P told → Q (change told))
       → (told : List Announced) (rs : List Id) → IsAmong rs r → P told → Q (announced_over r told (map message rs))
   some_turns P Q weak turns told [] among h = absurd among
   some_turns P Q weak turns told (y ∷ rs) (inr among) h =
-      some_turns P Q weak turns (cond (same_id (sender_of (message y)) r) (announced_after told (message y).message) told) rs among (each_keeps P (λ t k. weak _ (turns t k)) told (y ∷ []) h)
+      some_turns P Q weak turns (cond (same_id (sender_of (message y)) r) (announced_after told (message y).message) told) rs among
+      (each_keeps P (λ t k. weak _ (turns t k)) told (y ∷ []) h)
   some_turns P Q weak turns told (y ∷ rs) (inl e) h =
-      each_keeps Q (λ t k. turns t (weak t k)) (cond (same_id (sender_of (message y)) r) (announced_after told (message y).message) told) rs (subst (λ (b : Bool). Q (cond b (announced_after told (message y).message) told))
+      each_keeps Q (λ t k. turns t (weak t k)) (cond (same_id (sender_of (message y)) r) (announced_after told (message y).message) told) rs
+      (subst (λ (b : Bool). Q (cond b (announced_after told (message y).message) told))
       (sym (ap (λ (z : Id). same_id z r) (by y ∙ e) ∙ same_id_self r)) (subst Q (sym (does y told)) (turns told h)))

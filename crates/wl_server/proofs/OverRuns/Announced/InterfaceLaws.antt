@@ -38,4 +38,5 @@ module _ {T U G C : Type 0} where
   pub after_run : (offer : Offer G) (last : ℕ) (run : List (Entry T U G C)) (offer' : Offer G) (last' : ℕ) → HasInterfaces offer
       → SharedAlone offer last run offer' last' → HasInterfaces offer'
   after_run offer last [] offer' last' known (same, none) = subst (λ (o : Offer G). HasInterfaces o) (sym same) known
-  after_run offer last (e ∷ run) offer' last' known (numbered, next, rest) = grind (arith, offer_after, inserted_by, after_call, after_run (offer_after offer e.call) (last + inserted_by e.call) run offer' last' (after_call offer e.call known numbered) rest)
+  after_run offer last (e ∷ run) offer' last' known
+      (numbered, next, rest) = grind (arith, offer_after, inserted_by, after_call, after_run (offer_after offer e.call) (last + inserted_by e.call) run offer' last' (after_call offer e.call known numbered) rest)

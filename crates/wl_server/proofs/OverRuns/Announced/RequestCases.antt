@@ -21,9 +21,11 @@ module _ {U G C : Type 0} (a : Around G C) (c : Core U C) (P : Verdict (Core U C
     display_case opcode h2 = grind (arith, breaks, eqb)
 
   -- a message, of whatever kind
-  pub request_case : ((n : ℕ) → is_valid_new (objects_in c) n ≡ true → P (syncs a c n)) → ((n : ℕ) → is_valid_new (objects_in c) n ≡ true → P (registers a c n))
+  pub request_case : ((n : ℕ) → is_valid_new (objects_in c) n ≡ true → P (syncs a c n))
+      → ((n : ℕ) → is_valid_new (objects_in c) n ≡ true → P (registers a c n))
       → ((g version n : ℕ) (x : Object (KeptGlobal G)) → is_valid_new (objects_in c) n ≡ true → P (binds a c g version n x)) → (m : WireMessage)
       → ((receiver : Object (Kept U)) (row : MessageRow) → held c.store m.sender ≡ Some receiver → eqb receiver.interface.0 registry_id.0 ≡ false
       → P (other_request a c m receiver row))
       → P ((server a).handles c m)
-  request_case syncs' registers' binds' m others = grind (arith, held, row_in, eqb, display_id, registry_id, display_case, may_bind, made_at, binds, breaks, option_map_or)
+  request_case syncs' registers' binds' m others =
+      grind (arith, held, row_in, eqb, display_id, registry_id, display_case, may_bind, made_at, binds, breaks, option_map_or)

@@ -26,7 +26,8 @@ module _ {G C : Type 0} (views : G → ClientParts → C → GlobalParts → Boo
   pub among_shown : (offer : Offer G) (g : Announced) → IsAmong (shown_of views offer client client_data) g → IsShown offer g
   among_shown offer g among =
       let (s, there, is) = among_map (announced_as offer.table) (shown views offer.globals client client_data) g among in
-      let (e, in_filter, same) = among_map shown_as (filter (is_shown views client client_data) (finmap.entries offer.globals.store.objects)) s there in
+      let (e, in_filter, same) = among_map shown_as
+      (filter (is_shown views client client_data) (finmap.entries offer.globals.store.objects)) s there in
       let (kept, passes) = among_filter (is_shown views client client_data) (finmap.entries offer.globals.store.objects) e in_filter in
       let whole : announced_as offer.table (shown_as e) ≡ g = ap (announced_as offer.table) same ∙ is in
       let name : e.0 ≡ g.name = ap (λ (z : Announced). z.name) whole in
@@ -57,7 +58,8 @@ module _ {G C : Type 0} (views : G → ClientParts → C → GlobalParts → Boo
     pub only : (a : Announced) → IsShown offer' a → IsShown offer a
 
   -- the same globals, announced as before
-  pub renamed_stays : (offer offer' : Offer G) → offer'.globals ≡ offer.globals → ((a : Announced) (x : Object (KeptGlobal G)) → held offer.globals.store a.name ≡ Some x
+  pub renamed_stays : (offer offer' : Offer G) → offer'.globals ≡ offer.globals
+      → ((a : Announced) (x : Object (KeptGlobal G)) → held offer.globals.store a.name ≡ Some x
       → announced_as offer'.table (shown_as (a.name, x)) ≡ announced_as offer.table (shown_as (a.name, x))) → StaysShown offer offer'
   renamed_stays offer offer' same named = record {
     kept = λ a h. shown_in offer offer' a (λ x at. (ap (λ (globals : Globals G). held globals.store a.name) same ∙ at, named a x at)) h;
@@ -71,12 +73,14 @@ module _ {G C : Type 0} (views : G → ClientParts → C → GlobalParts → Boo
       abbrev created : Globals G
       created = record { store = stored offer.globals.store name x; last_serial = last }
 
-      pub created_old : (g : Announced) → IsShown offer g → IsShown (with_globals offer (record { store = stored offer.globals.store name x; last_serial = last })) g
+      pub created_old : (g : Announced) → IsShown offer g
+          → IsShown (with_globals offer (record { store = stored offer.globals.store name x; last_serial = last })) g
       created_old g h = shown_in offer (with_globals offer created) g
           (λ y at. (stored_other offer.globals.store name x g.name (λ same. none-some _ (sym free ∙ ap (held offer.globals.store) (sym same) ∙ at)) ∙ at, refl)) h
 
       pub created_new : is_shown views client client_data (name, x) ≡ true
-          → IsShown (with_globals offer (record { store = stored offer.globals.store name x; last_serial = last })) (announced_as offer.table (shown_as (name, x)))
+          → IsShown (with_globals offer (record { store = stored offer.globals.store name x; last_serial = last }))
+          (announced_as offer.table (shown_as (name, x)))
       created_new passes = record { global = x; at = stored_here offer.globals.store name x name refl; passes = passes; is = refl }
 
       pub created_only : (g : Announced) → IsShown (with_globals offer (record { store = stored offer.globals.store name x; last_serial = last })) g
@@ -84,7 +88,8 @@ module _ {G C : Type 0} (views : G → ClientParts → C → GlobalParts → Boo
       created_only g h =
           elim (cases_eq g.name name) [
             | inl same ↦ grind (arith, same_Some, stored_here, is_shown, announced_as, shown_as)
-            | inr other ↦ inl (shown_in (with_globals offer created) offer g (λ y at. (sym (stored_other offer.globals.store name x g.name other) ∙ at, refl)) h)
+            | inr other ↦ inl (shown_in (with_globals offer created) offer g
+                (λ y at. (sym (stored_other offer.globals.store name x g.name other) ∙ at, refl)) h)
           ]
 
     -- other globals are as they were, and what has the name is not shown
@@ -114,8 +119,10 @@ module _ {G C : Type 0} (views : G → ClientParts → C → GlobalParts → Boo
   hidden_stays offer g at none hides off = go (global_of offer.globals g) refl
     where
       go : (o : Option (Object (KeptGlobal G))) → global_of offer.globals g ≡ o → StaysShown offer (with_globals offer (at o))
-      go None is = subst (λ (globals : Globals G). StaysShown offer (with_globals offer globals)) (sym none) (record { kept = λ a h. h; only = λ a h. h })
+      go None is =
+          subst (λ (globals : Globals G). StaysShown offer (with_globals offer globals)) (sym none) (record { kept = λ a h. h; only = λ a h. h })
       go (Some x) is = record {
-        kept = λ a h. hidden_old offer g.name (at (Some x)) (hides x) a h (λ same. grind (arith, eqb, global_serial, is_enabled, is_shown, true≢false));
+        kept =
+            λ a h. hidden_old offer g.name (at (Some x)) (hides x) a h (λ same. grind (arith, eqb, global_serial, is_enabled, is_shown, true≢false));
         only = λ a h. (hidden_only offer g.name (at (Some x)) (hides x) a h).0;
       }

@@ -33,7 +33,8 @@ use Rattle.std.proofs.lemmas.Option.{none-some}
 -- ---- deeds that put nothing
 
 module _ {U : Type 0} where
-  silent_left : (client : ClientParts) (waits : Bool) (id : IdParts) (x : Object (Kept U)) (b : Bool) → IsSilent (told_deeds (cond b [] (map Did (left_deeds client waits id x))))
+  silent_left : (client : ClientParts) (waits : Bool) (id : IdParts) (x : Object (Kept U)) (b : Bool)
+      → IsSilent (told_deeds (cond b [] (map Did (left_deeds client waits id x))))
   silent_left client waits id x b = grind (arith, end_note, id_at, left_if, id_of)
 
 module _ {G C : Type 0} (views : G → ClientParts → C → GlobalParts → Bool) (client : ClientParts) (r : Id) {U : Type 0} (offer : Offer G) where
@@ -65,7 +66,8 @@ module _ {G C : Type 0} (views : G → ClientParts → C → GlobalParts → Boo
       (ap (λ (s : ℕ). record { number = id.number; serial = s }) (named_serial c.store id x is)) ∙ same))
 
   -- an object leaves, and its number is told
-  leaves_lives : {T : Type 0} (sends : T → Queue → Result ℕ IoFault → T → Type 0) (p : Part T U C) (e starved : Core U C) (waits asks : Bool) (id : IdParts) (x : Object (Kept U))
+  leaves_lives : {T : Type 0} (sends : T → Queue → Result ℕ IoFault → T → Type 0) (p : Part T U C) (e starved : Core U C) (waits asks : Bool)
+      (id : IdParts) (x : Object (Kept U))
       (link : LinkState T) (lacked : Bool) (did : List (Deed U)) (q : Part T U C) → (starved.is_killed ≡ true) ⊎ (starved ≡ core_of p)
       → (lacked ≡ false → Still (part_scene p) (scene_of e))
       → Tells sends (leaving_by client e starved waits asks id x (deletions id.number)) link lacked did q → Run p did q
@@ -83,33 +85,39 @@ module _ {G C : Type 0} (views : G → ClientParts → C → GlobalParts → Boo
       (grind (arith, others_goes, deletions, deletions_other, part_scene p, id.number)) (still (fits refl))))
       tells'
 
-  pub destroys_lives : {T : Type 0} (sends : T → Queue → Result ℕ IoFault → T → Type 0) (p : Part T U C) (id : IdParts) (answer : Result (Unit {0}) DestroyError) (lacked : Bool)
+  pub destroys_lives : {T : Type 0} (sends : T → Queue → Result ℕ IoFault → T → Type 0) (p : Part T U C) (id : IdParts)
+      (answer : Result (Unit {0}) DestroyError) (lacked : Bool)
       (did : List (Deed U)) (q : Part T U C) → (id_of id ≡ r → answer ≢ Ok tt) → Destroys sends client p id answer lacked did q → Run p did q
   destroys_lives sends p id answer lacked did q alone h =
       elim (either_option (destroyable p id) h) [
         | inl (none, (is, no_memory, nothing, same)) ↦ none_done p q did nothing same
         | inr (x, some, (is, tells')) ↦
-            leaves_lives sends p (without_noted client (core_of p) id.number x) (core_of p) true (is_some x.value.user_data) id x p.link lacked did q (inr refl)
+            leaves_lives sends p (without_noted client (core_of p) id.number x) (core_of p) true (is_some x.value.user_data) id x p.link lacked did q
+            (inr refl)
             (λ fine. without_still (core_of p) id x (grind (arith, eqb, named)) (λ same. alone same (is ∙ ap (unless_refused _) fine))) tells'
       ]
 
   -- ---- flushes, and what the program does to a transport
 
-  pub relinked_lives : {T : Type 0} (p : Part T U C) (link : LinkState T) (did : List (Deed U)) (q : Part T U C) → did ≡ [] → q ≡ with_link p link → Run p did q
+  pub relinked_lives : {T : Type 0} (p : Part T U C) (link : LinkState T) (did : List (Deed U)) (q : Part T U C) → did ≡ [] → q ≡ with_link p link
+      → Run p did q
   relinked_lives p link did q none same = grind (arith, quietly, with_link, log_of, registries_in, steady_same, part_scene)
 
   -- ---- an event
 
   module _ {T : Type 0} (sends : T → Queue → Result ℕ IoFault → T → Type 0) (m : SessionMessage) (sender : Object (Kept U)) where
-    module _ (p : Part T U C) (b : Bool) (es : List Sending) (link : LinkState T) (answer : Result (Unit {0}) EventError) (lacked : Bool) (rest did : List (Deed U)) (q : Part T U C)
+    module _ (p : Part T U C) (b : Bool) (es : List Sending) (link : LinkState T) (answer : Result (Unit {0}) EventError) (lacked : Bool)
+        (rest did : List (Deed U)) (q : Part T U C)
         (is : named p.store m.sender ≡ Some sender) (alone : id_of m.sender ≡ r → answer ≢ Ok tt) (did_so : did ≡ map Sent es ++ rest) where
       after_sends : Run p rest q → Run p did q
       after_sends lives = grind (arith, goes_so, part_scene, log_of, registries_in, log_both, silent_sends, registries_both)
 
       -- the sender is not the registry: it may leave
-      sender_lives : (d : Bool) (more : List (Deed U)) → id_of m.sender ≢ r → Tells sends (ends_sender client (core_of p) m sender d) link lacked more q → Run p more q
+      sender_lives : (d : Bool) (more : List (Deed U)) → id_of m.sender ≢ r
+          → Tells sends (ends_sender client (core_of p) m sender d) link lacked more q → Run p more q
       sender_lives false more other tells' =
-          tells_lives views client r offer sends p (tells (core_of p) []) link lacked more q (record { last = λ d killed'. killed'; starved = inl refl; silent = λ e. refl })
+          tells_lives views client r offer sends p (tells (core_of p) []) link lacked more q
+          (record { last = λ d killed'. killed'; starved = inl refl; silent = λ e. refl })
           (λ fits. steady_same views client r offer (part_scene p)) tells'
       sender_lives true more other tells' =
           leaves_lives sends p (without_noted client (core_of p) m.sender.number sender) _ true false m.sender sender link lacked more q (inl refl)
@@ -122,15 +130,19 @@ module _ {G C : Type 0} (views : G → ClientParts → C → GlobalParts → Boo
           (ap log_of rest_so) (ap registries_in rest_so)
           (goes_then views client r offer (part_scene p) (part_scene p) (part_scene q) (said m ∷ []) (log_of more) [] (registries_in more)
           (others_goes views client r offer (part_scene p) (said m ∷ []) (λ told made w ours. (other, tt))) (sender_lives b more other tells')))
-      sent_lives (Err fault.OutOfMemory) (is_err, no_memory, none, same) = grind (arith, after_sends, part_scene, log_of, registries_in, goes_so, steady_same)
+      sent_lives (Err fault.OutOfMemory) (is_err, no_memory, none, same) =
+          grind (arith, after_sends, part_scene, log_of, registries_in, goes_so, steady_same)
       sent_lives _ h = grind (arith, after_sends, tells_lives, ends_closed, core_of, silent_left, is_some, named, goes_not, part_scene, h.0)
 
     granted_lives : (p : Part T U C) (b : Bool) (answer : Result (Unit {0}) EventError) (lacked : Bool) (did : List (Deed U)) (q : Part T U C)
-        → named p.store m.sender ≡ Some sender → (id_of m.sender ≡ r → answer ≢ Ok tt) → SendsGranted sends client p m sender b answer lacked did q → Run p did q
+        → named p.store m.sender ≡ Some sender → (id_of m.sender ≡ r → answer ≢ Ok tt) → SendsGranted sends client p m sender b answer lacked did q
+        → Run p did q
     granted_lives p b answer lacked did q is alone h9 = grind (arith, none_done, sent_lives)
 
-  pub sends_lives : {T : Type 0} (sends : T → Queue → Result ℕ IoFault → T → Type 0) (p : Part T U C) (m : SessionMessage) (answer : Result (Unit {0}) EventError) (lacked : Bool)
-      (did : List (Deed U)) (q : Part T U C) → (id_of m.sender ≡ r → answer ≢ Ok tt) → SendsEvent sends client offer.table p m answer lacked did q → Run p did q
+  pub sends_lives : {T : Type 0} (sends : T → Queue → Result ℕ IoFault → T → Type 0) (p : Part T U C) (m : SessionMessage)
+      (answer : Result (Unit {0}) EventError) (lacked : Bool)
+      (did : List (Deed U)) (q : Part T U C) → (id_of m.sender ≡ r → answer ≢ Ok tt) → SendsEvent sends client offer.table p m answer lacked did q
+      → Run p did q
   sends_lives sends p m answer lacked did q alone h = grind (arith, either_bool, none_done, checked, event_check)
     where
       checked : (t : Result (Object (Kept U) × Bool) EventError) → event_check client p.store offer.table m ≡ t
@@ -151,12 +163,14 @@ module _ {G C : Type 0} (views : G → ClientParts → C → GlobalParts → Boo
       given : (created : Option IdParts) (u : Option U) → Still (scene_of over) (scene_of (core_finished c created u))
       given (Some id) (Some u) = go (named c.store id) refl
         where
-          go : (o : Option (Object (Kept U))) → named c.store id ≡ o → Still (scene_of over) (scene_of (record over { store = data_given c.store id.number o u }))
+          go : (o : Option (Object (Kept U))) → named c.store id ≡ o
+              → Still (scene_of over) (scene_of (record over { store = data_given c.store id.number o u }))
           go None e = steady_same views client r offer (scene_of over)
           go (Some x) e = wrote_goes views client r offer (scene_of over) id.number x u (named_is_held c.store id x e)
       given _ _ = steady_same views client r offer (scene_of over)
 
-  module _ {T : Type 0} (sends : T → Queue → Result ℕ IoFault → T → Type 0) (p : Part T U C) (sender : IdParts) (b : Bool) (created : Option IdParts) (u : Option U)
+  module _ {T : Type 0} (sends : T → Queue → Result ℕ IoFault → T → Type 0) (p : Part T U C) (sender : IdParts) (b : Bool) (created : Option IdParts)
+      (u : Option U)
       (open' : p.action ≡ Some (opened.Request sender b created)) (lacked : Bool) (did : List (Deed U)) (q : Part T U C) where
     ends_lives : (o : Option (Object (Kept U))) → ((x : Object (Kept U)) → o ≡ Some x → named p.store sender ≡ Some x)
         → Tells sends (ends client (core_of p) sender o created u) p.link lacked did q → Run p did q
@@ -165,15 +179,18 @@ module _ {G C : Type 0} (views : G → ClientParts → C → GlobalParts → Boo
         (record { last = λ d killed'. killed'; starved = inl refl; silent = λ e. refl })
         (λ fits. finish_still (core_of p) created u) tells'
     ends_lives (Some x) is tells' =
-        leaves_lives sends p (core_finished (without (core_of p) sender.number x) created u) (core_of p) false (is_some x.value.user_data) sender x p.link lacked did q (inr refl)
+        leaves_lives sends p (core_finished (without (core_of p) sender.number x) created u) (core_of p) false
+        (is_some x.value.user_data) sender x p.link lacked did q (inr refl)
         (λ fine.
-        goes_on views client r offer (part_scene p) (scene_of (without (core_of p) sender.number x)) (scene_of (core_finished (without (core_of p) sender.number x) created u)) [] []
+        goes_on views client r offer (part_scene p) (scene_of (without (core_of p) sender.number x))
+        (scene_of (core_finished (without (core_of p) sender.number x) created u)) [] []
         (went_goes views client r offer (scene_of (core_of p)) sender.number x (named_is_held (core_of p).store sender x (is x refl))
         (λ told made w among same. w.open_other sender b created open' among (sym (ap (λ (s : ℕ). record { number = sender.number; serial = s })
         (named_serial (core_of p).store sender x (is x refl))) ∙ same)))
         (finish_still (without (core_of p) sender.number x) created u)) tells'
 
-  pub finishes_lives : {T : Type 0} (sends : T → Queue → Result ℕ IoFault → T → Type 0) (p : Part T U C) (u : Option U) (answer : Result (Unit {0}) (FinishRefused (Option U)))
+  pub finishes_lives : {T : Type 0} (sends : T → Queue → Result ℕ IoFault → T → Type 0) (p : Part T U C) (u : Option U)
+      (answer : Result (Unit {0}) (FinishRefused (Option U)))
       (lacked : Bool) (did : List (Deed U)) (q : Part T U C) → FinishesRequest sends client p u answer lacked did q → Run p did q
   finishes_lives sends p u answer lacked did q h =
       elim (either_option p.action h) [
@@ -188,13 +205,15 @@ module _ {G C : Type 0} (views : G → ClientParts → C → GlobalParts → Boo
             ]
       ]
 
-  pub finishes_bind_lives : {T : Type 0} (p : Part T U C) (u : U) (answer : Result (Unit {0}) (FinishRefused U)) (lacked : Bool) (did : List (Deed U)) (q : Part T U C)
+  pub finishes_bind_lives : {T : Type 0} (p : Part T U C) (u : U) (answer : Result (Unit {0}) (FinishRefused U)) (lacked : Bool) (did : List (Deed U))
+      (q : Part T U C)
       → FinishesBind p u answer lacked did q → Run p did q
   finishes_bind_lives p u answer lacked did q h =
       elim (either_option p.action h) [
         | inl (none, refuses) ↦ none_done p q did refuses.2 refuses.3
         | inr (opened.Request sender b created, is, refuses) ↦ none_done p q did refuses.2 refuses.3
         | inr (opened.Bind object, is, (is', no_memory, none, same)) ↦
-            quietly p q (record p { action = None; store = store_with_data p.store (Some object) (Some u) }) did (ap log_of none, ap registries_in none) same
+            quietly p q (record p { action = None; store = store_with_data p.store (Some object) (Some u) }) did
+            (ap log_of none, ap registries_in none) same
             (finish_still (core_of p) (Some object) (Some u))
       ]

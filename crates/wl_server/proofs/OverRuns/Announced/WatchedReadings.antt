@@ -68,11 +68,13 @@ module _ {G C : Type 0} (views : G → ClientParts → C → GlobalParts → Boo
 
   -- ---- verdicts that answer
 
-  replies_handles : (c m : Core U C) (puts : List Said) (did : List (Deed U)) → log_of did ≡ [] → Change (scene_of c) puts (registries_in did) (scene_of m)
+  replies_handles : (c m : Core U C) (puts : List Said) (did : List (Deed U)) → log_of did ≡ []
+      → Change (scene_of c) puts (registries_in did) (scene_of m)
       → Handles c (replies m puts did)
   replies_handles c m puts did quiet goes = grind (arith, goes_so, scene_of, registries_in, stops_if, told_replies)
 
-  hands_out_handles : (c m : Core U C) (action : OpenAction) (h : Handed) → Change (scene_of c) [] [] (scene_of (record m { action = Some action })) → Handles c (hands_out m action h)
+  hands_out_handles : (c m : Core U C) (action : OpenAction) (h : Handed) → Change (scene_of c) [] [] (scene_of (record m { action = Some action }))
+      → Handles c (hands_out m action h)
   hands_out_handles c m action h goes = grind (arith, scene_of)
 
   -- ---- a display's
@@ -101,7 +103,8 @@ module _ {G C : Type 0} (views : G → ClientParts → C → GlobalParts → Boo
 
   -- ---- a registry's
 
-  binds_handles : (c : Core U C) (g version n : ℕ) (x : Object (KeptGlobal G)) → is_valid_new (objects_in c) n ≡ true → Handles c (binds (around_of views client offer) c g version n x)
+  binds_handles : (c : Core U C) (g version n : ℕ) (x : Object (KeptGlobal G)) → is_valid_new (objects_in c) n ≡ true
+      → Handles c (binds (around_of views client offer) c g version n x)
   binds_handles c g version n x valid =
       hands_out_handles c made (opened.Bind id) (deeds.Bind (global_at g x) id)
       (goes_then views client r offer (scene_of c) (scene_of made) (scene_of (record made { action = Some (opened.Bind id) })) [] [] [] []
@@ -126,7 +129,8 @@ module _ {G C : Type 0} (views : G → ClientParts → C → GlobalParts → Boo
     id = id_at client m.sender receiver
 
     -- the action is open, and then the arguments make their objects
-    converted_handles : (outcome : Outcome U) → ((e : Core U C) → Came (Over e (objects_in c)) outcome) → Handles c (converted (around_of views client offer) c m receiver row outcome)
+    converted_handles : (outcome : Outcome U) → ((e : Core U C) → Came (Over e (objects_in c)) outcome)
+        → Handles c (converted (around_of views client offer) c m receiver row outcome)
     converted_handles (Wrong w objects) came = breaks_handles c (with_objects c objects) 0 (fault_text offer.table receiver.interface row w)
     converted_handles (Whole d args) came =
         let opening : Core U C = record c { action = Some (opened.Request id row.is_destructor d.created) } in
@@ -138,13 +142,15 @@ module _ {G C : Type 0} (views : G → ClientParts → C → GlobalParts → Boo
     other_handles = go (nat_lt receiver.version row.since)
       where
         go : (b : Bool) → Handles c (cond b
-            (breaks (around_of views client offer) c 1 (since_text m.opcode receiver.version row.since (name_of offer.table receiver.interface.0) m.sender))
+            (breaks (around_of views client offer) c 1
+            (since_text m.opcode receiver.version row.since (name_of offer.table receiver.interface.0) m.sender))
             (converted (around_of views client offer) c m receiver row (convert client receiver.version (start (objects_in c) row) [] m.args)))
         go true = breaks_handles c c 1 _
         go false =
             converted_handles (convert client receiver.version (start (objects_in c) row) [] m.args)
             (λ e. converts client receiver.version (Over e (objects_in c))
-            (λ ids o n i valid so. goes_then views client r offer _ _ _ [] [] [] [] so (born_goes views client r offer (scene_of (with_objects e o)) n (made_object o i receiver.version) (valid_new o n valid).0 refl))
+            (λ ids o n i valid so. goes_then views client r offer _ _ _ [] [] [] [] so
+            (born_goes views client r offer (scene_of (with_objects e o)) n (made_object o i receiver.version) (valid_new o n valid).0 refl))
             (λ ids o n x there so. so) (λ ids o so. so) (start (objects_in c) row) [] m.args
             (steady_same views client r offer (scene_of (with_objects e (objects_in c))), λ id among. among))
 
@@ -166,10 +172,13 @@ module _ {G C : Type 0} (views : G → ClientParts → C → GlobalParts → Boo
     none_gave c gave none = subst (λ (g : List (Given (Told U))). Gave c g c) (sym none) (steady_same views client r offer (scene_of c))
 
     gave_then : (c m e : Core U C) (first rest : List (Given (Told U))) → Gave c first m → Gave m rest e → Gave c (first ++ rest) e
-    gave_then c m e first rest one more = grind (arith, goes_so, scene_of, log_of, deeds_in, registries_in, deeds_append, log_both, registries_both, goes_then)
+    gave_then c m e first rest one more =
+        grind (arith, goes_so, scene_of, log_of, deeds_in, registries_in, deeds_append, log_both, registries_both, goes_then)
 
-    turn_lives : (before : ReaderState T (Core U C)) (link : LinkState T) (v : Verdict (Core U C) (Told U)) → Handles before.core v → (es : List Sending) (first : List (Given (Told U)))
-        (lacked : Bool) (mid : ReaderState T (Core U C)) → CarriesOut sends (server (around_of views client offer)) v link es first lacked mid → Gave before.core first mid.core
+    turn_lives : (before : ReaderState T (Core U C)) (link : LinkState T) (v : Verdict (Core U C) (Told U)) → Handles before.core v
+        → (es : List Sending) (first : List (Given (Told U)))
+        (lacked : Bool) (mid : ReaderState T (Core U C)) → CarriesOut sends (server (around_of views client offer)) v link es first lacked mid
+        → Gave before.core first mid.core
     turn_lives before link v h es first lacked mid by =
         verdict_lives views client r offer before.core v first lacked mid.core (λ told. h.leads)
         (carried_to sends (server (around_of views client offer)) (λ d f. refl) before.core v h.forms link es first lacked mid by)
@@ -180,17 +189,21 @@ module _ {G C : Type 0} (views : G → ClientParts → C → GlobalParts → Boo
     reads_lives : (left : ℕ) (before : ReaderState T (Core U C)) (turns : List Turn) (out : Gives (Told U)) (after : ReaderState T (Core U C))
         → Reads sends (server (around_of views client offer)) receives left before turns out after → Gave before.core out.gave after.core
     reads_lives left before [] out after (same, ends) =
-        subst (λ (e : ReaderState T (Core U C)). Gave before.core out.gave e.core) (sym same) (none_gave before.core out.gave (gave_none sends (around_of views client offer) left before out ends))
+        subst (λ (e : ReaderState T (Core U C)). Gave before.core out.gave e.core) (sym same)
+        (none_gave before.core out.gave (gave_none sends (around_of views client offer) left before out ends))
     reads_lives left before (Received t ∷ turns) out after (on, lacks, (n, is, (link, filled, room, h))) =
         grind (arith, either_result, counted_answer, count_of, with_link, faulted, faulted_lives, reads_lives n (with_link before link) turns out after)
     reads_lives left before (Handled es ∷ turns) out after (on, (v, link, first, lacked, mid, rest, (m, read, is), by, split, more)) =
         subst (λ (o : Gives (Told U)). Gave before.core o.gave after.core) (sym split)
         (gave_then before.core mid.core after.core first rest.gave
-        (turn_lives before link v (subst (λ (w : Verdict (Core U C) (Told U)). Handles before.core w) (sym is) (handles before.core m)) es first lacked mid by)
+        (turn_lives before link v (subst (λ (w : Verdict (Core U C) (Told U)). Handles before.core w) (sym is)
+        (handles before.core m)) es first lacked mid by)
         (reads_lives left mid turns rest after more))
-    reads_lives left before (Unread es ∷ turns) out after (on, (v, link, first, lacked, mid, rest, (read, same, is), by, split, more)) = grind (arith, gave_then, turn_lives, garbled_handles, reads_lives left mid turns rest after more)
+    reads_lives left before (Unread es ∷ turns) out after (on, (v, link, first, lacked, mid, rest, (read, same, is), by, split, more)) =
+        grind (arith, gave_then, turn_lives, garbled_handles, reads_lives left mid turns rest after more)
 
-    pub next_action_lives : (t : Reading) (p : Part T U C) (answer : Result Handed ActionError) (t' : Reading) (lacked : Bool) (did : List (Deed U)) (q : Part T U C)
+    pub next_action_lives : (t : Reading) (p : Part T U C) (answer : Result Handed ActionError) (t' : Reading) (lacked : Bool) (did : List (Deed U))
+        (q : Part T U C)
         → NextAction sends receives (record { table = offer.table; client = client; globals = offer.globals; views = views }) t p answer t' lacked did q
         → PartLives views client r offer offer p did q
     next_action_lives t p answer t' lacked did q h1 = grind (arith, either_option, either_bool, turned, goes_so, part_scene, scene_of, log_of, deeds_in, registries_in, reads_lives, reader_part, append-nil, none_gave, gave_none, around_of, either_result, counted_answer, count_of, with_link, faulted, faulted_lives, gave_then, turn_lives, handles, garbled_handles, steady_same)

@@ -57,7 +57,8 @@ module _ {U : Type 0} where
   given_told : (put : List Said) (events : List (Told U)) (gave : List (Given (Told U))) → deeds_in gave ≡ map Put put ++ told_deeds events
       → log_of (told_deeds events) ≡ [] → (log_of (deeds_in gave) ≡ put) × (registries_in (deeds_in gave) ≡ registries_in (told_deeds events))
   given_told put events gave is none =
-      let d = ap doings_in is ∙ doings_in_both (map Put put) (told_deeds events) ∙ ap (λ (x : Doings U). joined x (doings_in (told_deeds events))) (doings_puts put) in
+      let d = ap doings_in is ∙ doings_in_both (map Put put) (told_deeds events)
+      ∙ ap (λ (x : Doings U). joined x (doings_in (told_deeds events))) (doings_puts put) in
       (ap (λ (x : Doings U). x.put) d ∙ ap (λ (l : List Said). put ++ l) none ∙ append-nil put, ap (λ (x : Doings U). x.registries) d)
 
   module _ {C : Type 0} where
@@ -93,15 +94,19 @@ module _ {U C : Type 0} where
       × (registries_in (deeds_in gave) ≡ registries_in (told_deeds (v.events (v.last v.core))))))
 
   module _ {T : Type 0} (sends : T → Queue → Result ℕ IoFault → T → Type 0) (reader : Reader (Core U C) (Told U) (Finish U))
-      (breaks : (d : Core U C) (f : IoFault) → reader.broken d f ≡ closed_down d) (c : Core U C) (v : Verdict (Core U C) (Told U)) (forms : Forms c v) where
-    came : (link mid after : LinkState T) (first others : List Sending) (put : List Said) (wrote : Result (Unit {0}) IoFault) (lacked : Bool) (gave : List (Given (Told U)))
+      (breaks : (d : Core U C) (f : IoFault) → reader.broken d f ≡ closed_down d) (c : Core U C) (v : Verdict (Core U C) (Told U))
+      (forms : Forms c v) where
+    came : (link mid after : LinkState T) (first others : List Sending) (put : List Said) (wrote : Result (Unit {0}) IoFault) (lacked : Bool)
+        (gave : List (Given (Told U)))
         (refused : Bool) (e : Core U C) → PutsOut sends link v.puts first put wrote mid → FlushesOut sends v.flushes mid others lacked after
-        → e ≡ came_to reader v wrote → deeds_in gave ≡ map Put put ++ told_deeds (v.events (came_to reader v wrote)) → refused ≡ lacks_memory wrote || lacked
+        → e ≡ came_to reader v wrote → deeds_in gave ≡ map Put put ++ told_deeds (v.events (came_to reader v wrote))
+        → refused ≡ lacks_memory wrote || lacked
         → CameTo c v gave refused e
     came link mid after first others put (Ok u) lacked gave refused e puts flushed core deeds is =
         let (said, regs) = given_told put (v.events (v.last v.core)) gave deeds (forms.silent (v.last v.core)) in
         inr (inr (core, λ off. is ∙ (grind (arith, true≢false, v.flushes)), said ∙ all_put sends link v.puts first put mid puts, regs))
-    came link mid after first others put (Err fault.OutOfMemory) lacked gave refused e puts flushed core deeds is = grind (arith, either_result, given_told, registries_in, told_deeds)
+    came link mid after first others put (Err fault.OutOfMemory) lacked gave refused e puts flushed core deeds is =
+        grind (arith, either_result, given_told, registries_in, told_deeds)
     came link mid after first others put _ lacked gave refused e puts flushed core deeds is = grind (arith)
 
     pub carried_to : (link : LinkState T) (es : List Sending) (gave : List (Given (Told U))) (refused : Bool) (after : ReaderState T (Core U C))
@@ -119,7 +124,8 @@ module _ {G C : Type 0} (views : G → ClientParts → C → GlobalParts → Boo
   Leads c v = CoreLives c v.puts (registries_in (told_deeds (v.events (v.last v.core)))) (v.last v.core)
 
   pub verdict_lives : (c : Core U C) (v : Verdict (Core U C) (Told U)) (gave : List (Given (Told U))) (refused : Bool) (e : Core U C)
-      → ((v.flushes ≡ false → refused ≡ false) → Leads c v) → CameTo c v gave refused e → CoreLives c (log_of (deeds_in gave)) (registries_in (deeds_in gave)) e
+      → ((v.flushes ≡ false → refused ≡ false) → Leads c v) → CameTo c v gave refused e
+      → CoreLives c (log_of (deeds_in gave)) (registries_in (deeds_in gave)) e
   verdict_lives c v gave refused e leads h7 = grind (arith, goes_not, scene_of, log_of, deeds_in, registries_in, goes_so, steady_same, told_deeds)
 
   -- ---- a part
@@ -128,10 +134,13 @@ module _ {G C : Type 0} (views : G → ClientParts → C → GlobalParts → Boo
   PartLives offer' p did q = Goes views client r offer offer' (part_scene p) (log_of did) (registries_in did) (part_scene q)
 
   -- a client to which a verdict is told
-  pub tells_lives : {T : Type 0} (sends : T → Queue → Result ℕ IoFault → T → Type 0) (p : Part T U C) (v : Verdict (Core U C) (Told U)) (link : LinkState T) (refused : Bool)
-      (did : List (Deed U)) (after : Part T U C) → Forms (core_of p) v → ((v.flushes ≡ false → refused ≡ false) → Leads (core_of p) v) → Tells sends v link refused did after
+  pub tells_lives : {T : Type 0} (sends : T → Queue → Result ℕ IoFault → T → Type 0) (p : Part T U C) (v : Verdict (Core U C) (Told U))
+      (link : LinkState T) (refused : Bool)
+      (did : List (Deed U)) (after : Part T U C) → Forms (core_of p) v → ((v.flushes ≡ false → refused ≡ false) → Leads (core_of p) v)
+      → Tells sends v link refused did after
       → PartLives offer p did after
   tells_lives sends p v link refused did after forms leads (es, gave, end, by, is, same) =
       let so = exchanged es gave end.core in
-      let lives = verdict_lives (core_of p) v gave refused end.core leads (carried_to sends speaker (λ d f. refl) (core_of p) v forms link es gave refused end by) in
+      let lives = verdict_lives (core_of p) v gave refused end.core leads
+      (carried_to sends speaker (λ d f. refl) (core_of p) v forms link es gave refused end by) in
       grind (arith, goes_so, part_scene, scene_of, log_of, deeds_in, registries_in)

@@ -72,8 +72,10 @@ module _ {G C : Type 0} (views : G → ClientParts → C → GlobalParts → Boo
   pub record Watch {U : Type 0} (offer : Offer G) (s : Scene U C) (told : List Announced) (made : List Id) : Type 0 where
     pub bounded : (n : ℕ) (x : Object (Kept U)) → held s.store n ≡ Some x → x.value.serial ≤ s.last_serial
     pub listed : (y : Id) → IsAmong s.registries y → y.serial ≤ s.last_serial
-    pub open_bounded : (sender : IdParts) (b : Bool) (created : Option IdParts) → s.action ≡ Some (opened.Request sender b created) → sender.serial ≤ s.last_serial
-    pub open_other : (sender : IdParts) (b : Bool) (created : Option IdParts) → s.action ≡ Some (opened.Request sender b created) → IsAmong made r → id_of sender ≢ r
+    pub open_bounded : (sender : IdParts) (b : Bool) (created : Option IdParts) → s.action ≡ Some (opened.Request sender b created)
+        → sender.serial ≤ s.last_serial
+    pub open_other : (sender : IdParts) (b : Bool) (created : Option IdParts) → s.action ≡ Some (opened.Request sender b created) → IsAmong made r
+        → id_of sender ≢ r
     pub silent : s.last_serial < r.serial → told ≡ []
     pub unborn : s.last_serial < r.serial → IsAmong made r → ⊥
     pub known : IsAmong made r → IsKnown s
@@ -90,20 +92,23 @@ module _ {G C : Type 0} (views : G → ClientParts → C → GlobalParts → Boo
         → Watch offer' t (announced_over r told put) (made ++ regs)
 
   -- with these messages and registries
-  pub goes_so : {U : Type 0} (offer offer' : Offer G) (s t : Scene U C) (put put' : List Said) (regs regs' : List Id) → put' ≡ put → regs' ≡ regs → Goes offer offer' s put regs t
+  pub goes_so : {U : Type 0} (offer offer' : Offer G) (s t : Scene U C) (put put' : List Said) (regs regs' : List Id) → put' ≡ put → regs' ≡ regs
+      → Goes offer offer' s put regs t
       → Goes offer offer' s put' regs' t
   goes_so offer offer' s t put put' regs regs' same same' goes = grind (arith)
 
   module _ {U : Type 0} (offer : Offer G) where
     -- nothing is put, and no registry made
-    pub steady : (s t : Scene U C) → t.is_killed ≡ s.is_killed → ((told : List Announced) (made : List Id) → Watch offer s told made → Watch offer t told made)
+    pub steady : (s t : Scene U C) → t.is_killed ≡ s.is_killed
+        → ((told : List Announced) (made : List Id) → Watch offer s told made → Watch offer t told made)
         → Goes offer offer s [] [] t
     steady s t same watch = grind (arith, append-nil)
 
     pub steady_same : (s : Scene U C) → Goes offer offer s [] [] s
     steady_same s = steady s s refl (λ told made w. w)
 
-    pub goes_then : (s m t : Scene U C) (a b : List Said) (c d : List Id) → Goes offer offer s a c m → Goes offer offer m b d t → Goes offer offer s (a ++ b) (c ++ d) t
+    pub goes_then : (s m t : Scene U C) (a b : List Said) (c d : List Id) → Goes offer offer s a c m → Goes offer offer m b d t
+        → Goes offer offer s (a ++ b) (c ++ d) t
     goes_then s m t a b c d first second = grind (arith, append_assoc, announced-append)
 
     pub goes_on : (s m t : Scene U C) (a : List Said) (c : List Id) → Goes offer offer s a c m → Goes offer offer m [] [] t → Goes offer offer s a c t
@@ -112,19 +117,22 @@ module _ {G C : Type 0} (views : G → ClientParts → C → GlobalParts → Boo
     -- ---- who speaks
 
     -- nor is a kept object of another interface
-    pub kept_other : (s : Scene U C) (told : List Announced) (made : List Id) → Watch offer s told made → IsOurs s made → (n : ℕ) (x : Object (Kept U))
+    pub kept_other : (s : Scene U C) (told : List Announced) (made : List Id) → Watch offer s told made → IsOurs s made
+        → (n : ℕ) (x : Object (Kept U))
         → held s.store n ≡ Some x → eqb x.interface.0 registry_id.0 ≡ false → id_at_number n x ≢ r
     kept_other s told made h1 h2 n x h3 h4 = grind (arith, held, true≢false, eqb, registry_id)
 
     -- messages of others
-    pub others_goes : (s : Scene U C) (put : List Said) → ((told : List Announced) (made : List Id) → Watch offer s told made → IsOurs s made → AreOfOthers r put)
+    pub others_goes : (s : Scene U C) (put : List Said)
+        → ((told : List Announced) (made : List Id) → Watch offer s told made → IsOurs s made → AreOfOthers r put)
         → Goes offer offer s put [] s
     others_goes s put others = grind (arith, append-nil, others_say)
 
     -- ---- objects come, change and go
 
     -- a new object takes a free number and the next serial
-    born_watch : (s : Scene U C) (n : ℕ) (x : Object (Kept U)) → held s.store n ≡ None → x.value.serial ≡ s.last_serial + 1 → (told : List Announced) (made : List Id)
+    born_watch : (s : Scene U C) (n : ℕ) (x : Object (Kept U)) → held s.store n ≡ None → x.value.serial ≡ s.last_serial + 1
+        → (told : List Announced) (made : List Id)
         → Watch offer s told made → Watch offer (record s { store = stored s.store n x; last_serial = s.last_serial + 1 }) told made
     born_watch s n x free serial told made w = grind (arith, stored_here, stored_other, held)
 
@@ -164,7 +172,8 @@ module _ {G C : Type 0} (views : G → ClientParts → C → GlobalParts → Boo
 
     -- a bind is open, or nothing is
     pub set_action_goes : (s : Scene U C) (action : Option OpenAction)
-        → ((sender : IdParts) (b : Bool) (created : Option IdParts) → action ≡ Some (opened.Request sender b created) → ⊥) → Goes offer offer s [] [] (record s { action = action })
+        → ((sender : IdParts) (b : Bool) (created : Option IdParts) → action ≡ Some (opened.Request sender b created) → ⊥)
+        → Goes offer offer s [] [] (record s { action = action })
     set_action_goes s action none = steady s _ refl (λ told made w. (grind (arith)))
 
     -- ---- a registry is made
@@ -192,7 +201,8 @@ module _ {G C : Type 0} (views : G → ClientParts → C → GlobalParts → Boo
               listed = λ y among. (grind (arith, w.listed, among_both s.registries (new_id ∷ []) y among));
               open_bounded = born.open_bounded;
               open_other = λ sender b created is among. (grind (arith, w.open_other sender b created is, w.open_bounded sender b created is, among_both made (new_id ∷ []) r among));
-              silent = λ later. others (λ same. (let e = ap (λ (i : Id). i.serial) same in omega (arith, later, e))) ∙ w.silent (omega (arith, later));
+              silent =
+                  λ later. others (λ same. (let e = ap (λ (i : Id). i.serial) same in omega (arith, later, e))) ∙ w.silent (omega (arith, later));
               unborn = λ later among. (grind (arith, w.unborn, among_both made (new_id ∷ []) r among));
               known = λ among. (grind (arith, born.known, among_first, among_later, stored_here, among_both made (new_id ∷ []) r among));
               tells = λ among. (elim (among_both made (new_id ∷ []) r among) [
@@ -215,12 +225,14 @@ module _ {G C : Type 0} (views : G → ClientParts → C → GlobalParts → Boo
   module _ {U : Type 0} (offer offer' : Offer G) (s : Scene U C) where
     -- all registries are told of it, each in a message of its own
     pub told_all : (message : Id → Said) → ((y : Id) → sender_of (message y) ≡ y) → (told : List Announced) (made : List Id)
-        → (IsAmong s.registries r → TellsShown offer s.client_data told → TellsShown offer' s.client_data (announced_over r told (map message s.registries)))
+        → (IsAmong s.registries r → TellsShown offer s.client_data told
+        → TellsShown offer' s.client_data (announced_over r told (map message s.registries)))
         → Watch offer s told made → Watch offer' s (announced_over r told (map message s.registries)) made
     told_all message by told made tells w = grind (arith, announced_over, map, others_say, told_others)
 
     -- none is told
-    pub told_none : StaysShown views client s.client_data offer offer' → (told : List Announced) (made : List Id) → Watch offer s told made → Watch offer' s told made
+    pub told_none : StaysShown views client s.client_data offer offer' → (told : List Announced) (made : List Id) → Watch offer s told made
+        → Watch offer' s told made
     told_none stays told made w = record {
       bounded = w.bounded;
       listed = w.listed;

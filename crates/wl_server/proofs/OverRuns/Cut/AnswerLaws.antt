@@ -153,11 +153,13 @@ module _ {U G C : Type 0} (a : Around G C) where
 
   -- ---- a verdict that was carried out
 
-  came_broken : (v : Verdict (Core U C) (Told U)) (f : IoFault) → lacks_memory (Err f) ≡ false → came_to (server a) v (Err f) ≡ v.last (closed_down v.core)
+  came_broken : (v : Verdict (Core U C) (Told U)) (f : IoFault) → lacks_memory (Err f) ≡ false
+      → came_to (server a) v (Err f) ≡ v.last (closed_down v.core)
   came_broken v h2 ample = grind (arith, true≢false)
 
   module _ {T : Type 0} (sends : T → Queue → Result ℕ IoFault → T → Type 0) where
-    carried_says : (v : Verdict (Core U C) (Told U)) → Speaks v → (before : LinkState T) (es : List Sending) (gave : List (Given (Told U))) (refused : Bool)
+    carried_says : (v : Verdict (Core U C) (Told U)) → Speaks v
+        → (before : LinkState T) (es : List Sending) (gave : List (Given (Told U))) (refused : Bool)
         (after : ReaderState T (Core U C)) → refused ≡ false → CarriesOut sends (server a) v before es gave refused after → Says gave after.core
     carried_says v h1 before es gave refused after h2 h3 = grind
         (arith, true≢false, both_false, came_broken, is_ok, came_to, server, beside_given, reads_on, answers_given)
@@ -177,9 +179,11 @@ module _ {U C : Type 0} where
     pub answered : IsAnswered c out e
 
   -- what a verdict said, and then the rest
-  joins_so : (c mid e : Core U C) (first : List (Given (Told U))) (lacked : Bool) (rest out : Gives (Told U)) → out ≡ given_first first lacked rest → Says first mid
+  joins_so : (c mid e : Core U C) (first : List (Given (Told U))) (lacked : Bool) (rest out : Gives (Told U)) → out ≡ given_first first lacked rest
+      → Says first mid
       → ReadsSo mid rest e → (reads_on mid ≡ false → (rest.stopped ≡ None) × (rest.gave ≡ []) × (e ≡ mid)) → ReadsSo c out e
-  joins_so c mid e first lacked rest out h1 h2 h3 h4 = grind (arith, deeds_append, beside_both, deeds_in, ap₂, answers_in, answers_both, reads_on, given_first, true≢false, append-nil)
+  joins_so c mid e first lacked rest out h1 h2 h3 h4 =
+      grind (arith, deeds_append, beside_both, deeds_in, ap₂, answers_in, answers_both, reads_on, given_first, true≢false, append-nil)
 
 module _ {T U G C : Type 0} (sends : T → Queue → Result ℕ IoFault → T → Type 0) (receives : T → ℕ → Result Queue IoFault → T → Type 0)
     (a : Around G C) where
@@ -189,7 +193,8 @@ module _ {T U G C : Type 0} (sends : T → Queue → Result ℕ IoFault → T �
   reads_off left p after (Received r ∷ turns) out off h = absurd (true≢false (sym h.0 ∙ off))
   reads_off left p after (t ∷ turns) out off h = absurd (true≢false (sym h.0 ∙ off))
 
-  pub reads_so : (left : ℕ) (p after : ReaderState T (Core U C)) (turns : List Turn) (out : Gives (Told U)) → Reads sends (server a) receives left p turns out after
+  pub reads_so : (left : ℕ) (p after : ReaderState T (Core U C)) (turns : List Turn) (out : Gives (Told U))
+      → Reads sends (server a) receives left p turns out after
       → out.refused ≡ false → IsSound p.core → ReadsSo p.core out after.core
   reads_so left p after [] out (same, ends) ample sound = grind (arith, reads_on, server, stops)
   reads_so left p after (Received r ∷ turns) out (on, lacks, (n, is, (link, filled, finds, h))) ample sound =
@@ -198,7 +203,8 @@ module _ {T U G C : Type 0} (sends : T → Queue → Result ℕ IoFault → T �
       let calm = both_false lacked rest.refused (sym ample ∙ ap (λ (o : Gives (Told U)). o.refused) split) in
       let ready : IsReady p.core = grind (arith, is_none, true≢false, p.core) in
       let says = carried_says a sends v (subst (Speaks a) (sym is) (handles_speaks a p.core m ready)) link es first lacked mid calm.0 carried in
-      joins_so p.core mid.core after.core first lacked rest out split says (reads_so left mid after turns rest more calm.1 says.sound) (λ off. reads_off left mid after turns rest off more)
+      joins_so p.core mid.core after.core first lacked rest out split says (reads_so left mid after turns rest more calm.1 says.sound)
+      (λ off. reads_off left mid after turns rest off more)
   reads_so left p after (Unread es ∷ turns) out
       (on, (v, link, first, lacked, mid, rest, (read, same, is), carried, split, more)) ample sound = grind (arith, both_false, garbled_speaks, is_none, true≢false, carried_says, joins_so, reads_off, reads_so left mid after turns rest more)
 
@@ -221,7 +227,8 @@ module _ {U G C : Type 0} (a : Around G C) where
     quiet : (d : Core U C) → IsBeside (map HandedOut (v.events d))
     none : (d : Core U C) → answers_in (map HandedOut (v.events d)) ≡ []
 
-  ending_is_finish : (c : Core U C) (id : IdParts) (x : Option (Object (Kept U))) (created : Option IdParts) (u : Option U) → c.is_killed ≡ false → c.ended ≡ None
+  ending_is_finish : (c : Core U C) (id : IdParts) (x : Option (Object (Kept U))) (created : Option IdParts) (u : Option U) → c.is_killed ≡ false
+      → c.ended ≡ None
       → IsFinishVerdict (ends a.client c id x created u)
   ending_is_finish c id x created u h1 h2 = grind (arith, is_some)
 

@@ -41,7 +41,8 @@ use Rattle.wl_server.specs.Runs.{Alone, Own}
 
 module _ {T U G C : Type 0} (sends : T → Queue → Result ℕ IoFault → T → Type 0) (a : Around G C) where
   pub carried_alike : (v : Verdict (Core U C) (Told U)) (link : LinkState T) (es : List Sending) (gave : List (Given (Told U))) (refused : Bool)
-      (after : ReaderState T (Core U C)) → CarriesOut sends speaker v link es gave refused after → CarriesOut sends (server a) v link es gave refused after
+      (after : ReaderState T (Core U C)) → CarriesOut sends speaker v link es gave refused after
+      → CarriesOut sends (server a) v link es gave refused after
   carried_alike v link es gave refused after h1 = grind (arith, came_to, speaker, put_and_gave)
 
   -- an accepted end of a live client's request is what the reader makes of these data, with the same deeds
@@ -88,8 +89,10 @@ module _ {T U G C : Type 0} (sends : T → Queue → Result ℕ IoFault → T �
 module _ {T U G C : Type 0} (sends : T → Queue → Result ℕ IoFault → T → Type 0) (receives : T → ℕ → Result Queue IoFault → T → Type 0)
     (a : Around G C) where
   -- a reading of a live client with no action open is one of the reader
-  pub reads_to : (r : Reading) (p : Part T U C) (answer : Result Handed ActionError) (r' : Reading) (refused : Bool) (did : List (Deed U)) (q : Part T U C)
-      → p.is_killed ≡ false → p.action ≡ None → NextAction sends receives a r p answer r' refused did q → ReadsTo sends receives a r p answer r' refused did q
+  pub reads_to : (r : Reading) (p : Part T U C) (answer : Result Handed ActionError) (r' : Reading) (refused : Bool) (did : List (Deed U))
+      (q : Part T U C)
+      → p.is_killed ≡ false → p.action ≡ None → NextAction sends receives a r p answer r' refused did q
+      → ReadsTo sends receives a r p answer r' refused did q
   reads_to r p answer r' refused did q live unopened h = grind (arith, none-some, true≢false)
 
 -- ---- what is open
@@ -98,7 +101,8 @@ module _ {T U G C : Type 0} (w : World T G C) (id : ClientParts) (offer : Offer 
   abbrev here : Around G C
   here = around w id offer
 
-  pub of_part : (R : Part T U C → Part T U C → Type 0) (missing : Type 0) (lacked : Bool) (did : List (Deed U)) (p : Part T U C) → before.part ≡ Some p
+  pub of_part : (R : Part T U C → Part T U C → Type 0) (missing : Type 0) (lacked : Bool) (did : List (Deed U)) (p : Part T U C)
+      → before.part ≡ Some p
       → OnPart before R missing lacked did after → (q : Part T U C) × R p q × (after ≡ record { part = Some q; made = before.made ++ notes_in did })
   of_part R missing lacked did p there h = grind (arith, none-some, same_Some)
 
@@ -148,7 +152,8 @@ module _ {T U G C : Type 0} (w : World T G C) (before after : ServerState T U G 
   -- what the call is to this client
   of_call : (id : ClientParts) (e : Entry T U G C) (call : Call T U G C) → e.call ≡ call → OneStep w before e after
       → PartCall w id before.offer call (seen id before) (e.lacks id) (e.did id) (seen id after)
-  of_call id e call is by = subst (λ (c : Call T U G C). PartCall w id before.offer c (seen id before) (e.lacks id) (e.did id) (seen id after)) is (by.each id)
+  of_call id e call is by =
+      subst (λ (c : Call T U G C). PartCall w id before.offer c (seen id before) (e.lacks id) (e.did id) (seen id after)) is (by.each id)
 
   pub histories_cut : (call : Call T U G C) → HistoriesAreCut w before call after
   histories_cut (Asked (step.NextAction id) (reply.NextAction answer)) e call by =
@@ -201,8 +206,10 @@ module _ {T U C : Type 0} (sends : T → Queue → Result ℕ IoFault → T → 
   goes_hold s t d h1 h2 = grind (arith, unfelt, notes_taken, within, moves_hold, holds_at, taken_out)
 
 module _ {T U G C : Type 0} (w : World T G C) (id : ClientParts) where
-  pub run_holds : (offer : Offer G) (s : Seen T U C) (run : List (Own T U G C)) (t : Seen T U C) → AreMine id run → Alone w id offer s run t → SeenHolds s → SeenHolds t
+  pub run_holds : (offer : Offer G) (s : Seen T U C) (run : List (Own T U G C)) (t : Seen T U C) → AreMine id run → Alone w id offer s run t
+      → SeenHolds s → SeenHolds t
   run_holds offer s [] t own same holds = subst SeenHolds (sym same) holds
   run_holds offer s (e ∷ run) t own (mid, by, alone) holds =
       run_holds (offer_after offer e.call) mid run t own.1 alone
-      (goes_hold w.sends w.receives id s mid (doings_of (handed_by id e.call e.did) e.did) (call_goes true w id offer e.call s e.lacked e.did mid own.0 by (λ cleans. refl)) holds)
+      (goes_hold w.sends w.receives id s mid (doings_of (handed_by id e.call e.did) e.did)
+      (call_goes true w id offer e.call s e.lacked e.did mid own.0 by (λ cleans. refl)) holds)

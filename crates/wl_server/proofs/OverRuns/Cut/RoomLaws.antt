@@ -57,28 +57,36 @@ module _ {T U G C : Type 0} (sends : T → Queue → Result ℕ IoFault → T �
     (a : Around G C) where
   -- the receives among the deeds of a reading are those of its turns
   pub received_deeds : (left : ℕ) (p : Part T U C) (after : ReaderState T (Core U C)) (turns : List Turn) (out : Gives (Told U))
-      → Reads sends (server a) receives left (reader_part p) turns out after → came_in (deeds_of (exchanges_in turns) out.gave after.core) ≡ received U turns
+      → Reads sends (server a) receives left (reader_part p) turns out after
+      → came_in (deeds_of (exchanges_in turns) out.gave after.core) ≡ received U turns
   received_deeds left p after turns out reads = grind (arith, came_both, exchanges_in, deeds_in, end_deeds, no_more, came_in, (reads_bare sends receives a left (reader_part p) turns out after reads).1, reader_part, append-nil)
 
   -- behind a receive that brought no byte, one is free
-  leaves_room : (left : ℕ) (p after : ReaderState T (Core U C)) (turns : List Turn) (out : Gives (Told U)) → Reads sends (server a) receives left p turns out after
+  leaves_room : (left : ℕ) (p after : ReaderState T (Core U C)) (turns : List Turn) (out : Gives (Told U))
+      → Reads sends (server a) receives left p turns out after
       → (r : Result Queue IoFault) → IsAmong (received U turns) r → BringsNone r → Leaves after.link
   leaves_room left p after [] out reads r among none = absurd among
   leaves_room left p after (Received s ∷ turns) out (on, lacks, (n, is, (link, filled, finds, h))) r among none =
       grind (arith, none_fails, failed_finds receives p.link link s, counted_answer (count_of s), leaves_room n (with_link p link) after turns out)
-  leaves_room left p after (Handled es ∷ turns) out (on, (v, link, first, lacked, mid, rest, found, by, split, more)) r among none = grind (arith, none_sent, exchanges_in, leaves_room left mid after turns rest more r)
-  leaves_room left p after (Unread es ∷ turns) out (on, (v, link, first, lacked, mid, rest, found, by, split, more)) r among none = grind (arith, none_sent, exchanges_in, leaves_room left mid after turns rest more r)
+  leaves_room left p after (Handled es ∷ turns) out (on, (v, link, first, lacked, mid, rest, found, by, split, more)) r among none =
+      grind (arith, none_sent, exchanges_in, leaves_room left mid after turns rest more r)
+  leaves_room left p after (Unread es ∷ turns) out (on, (v, link, first, lacked, mid, rest, found, by, split, more)) r among none =
+      grind (arith, none_sent, exchanges_in, leaves_room left mid after turns rest more r)
 
   -- so it is of each reading of a client
-  pub next_action_room : (reading : Reading) (p : Part T U C) (answer : Result Handed ActionError) (left : Reading) (refused : Bool) (did : List (Deed U)) (q : Part T U C)
+  pub next_action_room : (reading : Reading) (p : Part T U C) (answer : Result Handed ActionError) (left : Reading) (refused : Bool)
+      (did : List (Deed U)) (q : Part T U C)
       → NextAction sends receives a reading p answer left refused did q → LeavesRoom did q.link
-  next_action_room reading p answer left refused did q h = grind (arith, either_option, nothing_came, either_bool, came_in, received, received_deeds, leaves_room, reader_part)
+  next_action_room reading p answer left refused did q h =
+      grind (arith, either_option, nothing_came, either_bool, came_in, received, received_deeds, leaves_room, reader_part)
 
 -- ---- a call
 
 module _ {T U G C : Type 0} (w : World T G C) where
-  pub reads_for_room : (id target : ClientParts) (offer : Offer G) (reading : Reading) (answer : Result Handed ActionError) (left : Reading) (before after : Seen T U C)
-      (lacked : Bool) (did : List (Deed U)) (p : Part T U C) → ReadsFor w id offer target reading answer left before lacked did after → after.part ≡ Some p
+  pub reads_for_room : (id target : ClientParts) (offer : Offer G) (reading : Reading) (answer : Result Handed ActionError) (left : Reading)
+      (before after : Seen T U C)
+      (lacked : Bool) (did : List (Deed U)) (p : Part T U C) → ReadsFor w id offer target reading answer left before lacked did after
+      → after.part ≡ Some p
       → LeavesRoom did p.link
   reads_for_room id target offer reading answer left before after lacked did p h there =
       elim (either_bool (same_client target id) h) [

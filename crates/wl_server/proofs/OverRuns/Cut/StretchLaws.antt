@@ -49,8 +49,10 @@ use Rattle.wl_server.proofs.Readings.OneMessage.{deeds_append}
 
 module _ {U C : Type 0} (c e : Core U C) (out : Gives (Told U)) (on : reads_on c ≡ true) (so : ReadsSo c out e) (answer : Result Handed ActionError)
     (is : answer ≡ answered_so out.stopped out.gave) where
-  told_so : (exchanges : List (Deed U)) → ((f : IoFault) → out.stopped ≡ Some f → f ≡ fault.WouldBlock) → told_by (Some answer) (deeds_of exchanges out.gave e) ≡ answers_in out.gave
-  told_so exchanges h1 = grind (arith, told_by, deeds_of, true≢false, killed_later, deeds_in, end_deeds, was_killed, answered_so, action_first out.gave, first_of)
+  told_so : (exchanges : List (Deed U)) → ((f : IoFault) → out.stopped ≡ Some f → f ≡ fault.WouldBlock)
+      → told_by (Some answer) (deeds_of exchanges out.gave e) ≡ answers_in out.gave
+  told_so exchanges h1 =
+      grind (arith, told_by, deeds_of, true≢false, killed_later, deeds_in, end_deeds, was_killed, answered_so, action_first out.gave, first_of)
 
   blocks_so : answer ≡ Err (Io fault.WouldBlock) → out.stopped ≡ Some fault.WouldBlock
   blocks_so h1 = grind (arith, true≢false, none-some, same_Some, answered_so, action_first out.gave, first_of)
@@ -168,7 +170,8 @@ module _ {G C : Type 0} (views : G → ClientParts → C → GlobalParts → Boo
         → b ≡ true → before.part ≡ Some (part_of s) → OfClient b before R missing false did after → (q : Part Script U C) × R (part_of s) q
         × (after.part ≡ Some q)
     mine_is s before after did b R missing about there h =
-        let (q, by, same) = of_part w id offer before after R missing false did (part_of s) there (own_step b before R missing false did after about h) in
+        let (q, by, same) = of_part w id offer before after R missing false did (part_of s) there
+        (own_step b before R missing false did after about h) in
         (q, by, ap (λ (x : Seen Script U C). x.part) same)
 
     step_acts : (s : Client U) (before after : Seen Script U C) (call : Call Script U G C) (lacked : Bool) (did : List (Deed U))
@@ -271,12 +274,14 @@ module _ {G C : Type 0} (views : G → ClientParts → C → GlobalParts → Boo
 
       pub within_stretch : (q : Part Script U C) (run : Run U) → after.part ≡ Some q → Alone w id offer before run after → IsStretchWithin a p run q
           → IsStretch a p run q
-      within_stretch q run ends leads stretch = grind (arith, acts_of, same_Some, part_of, a, incoming_limit, joined, left_in, front_fits, server, reader_part)
+      within_stretch q run ends leads stretch =
+          grind (arith, acts_of, same_Some, part_of, a, incoming_limit, joined, left_in, front_fits, server, reader_part)
 
     module _ (before after : Seen Script U C) (p : Part Script U C) (begins : before.part ≡ Some p) where
       -- so two runs over which the same arrives and is finished give the same, and lead to the same, however it was cut
       abbrev SameCut : Run U → Run U → Part Script U C → Part Script U C → Type 0
-      SameCut run others q r = (beside_exchanges (history run) ≡ beside_exchanges (history others)) × (handed_out run ≡ handed_out others) × SameLeft q r
+      SameCut run others q r =
+          (beside_exchanges (history run) ≡ beside_exchanges (history others)) × (handed_out run ≡ handed_out others) × SameLeft q r
 
       pub cut_otherwise : (other : Seen Script U C) (q r : Part Script U C) (run others : Run U) → after.part ≡ Some q → other.part ≡ Some r
           → Alone w id offer before run after → Alone w id offer before others other → IsStretch a p run q → IsStretch a p others r
@@ -291,7 +296,8 @@ module _ {G C : Type 0} (views : G → ClientParts → C → GlobalParts → Boo
 
 -- ---- runs of a server
 
-pub each_part_is_cut : {U G C : Type 0} (views : G → ClientParts → C → GlobalParts → Bool) (begun : ServerState Script U G C) (run : List (Entry Script U G C))
+pub each_part_is_cut : {U G C : Type 0} (views : G → ClientParts → C → GlobalParts → Bool) (begun : ServerState Script U G C)
+    (run : List (Entry Script U G C))
     → EachPartIsCut views begun run
 each_part_is_cut views begun run earlier middle later first last split before part = λ id p q born there ends. let alone = alone_run
     (over_scripts views) id first last middle born part in grind (arith, stretch_served, seen, mine, within_stretch)

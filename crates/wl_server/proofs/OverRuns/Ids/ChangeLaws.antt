@@ -23,7 +23,8 @@ use Rattle.wl_server.specs.Server.{Seen}
 -- ---- ids
 
 module _ {U : Type 0} where
-  ended_both : (changes others : List (Change (Kept U))) → ended_in serial_of has_data (changes ++ others) ≡ ended_in serial_of has_data changes ++ ended_in serial_of has_data others
+  ended_both : (changes others : List (Change (Kept U)))
+      → ended_in serial_of has_data (changes ++ others) ≡ ended_in serial_of has_data changes ++ ended_in serial_of has_data others
   ended_both [] others = refl
   ended_both (Ended n x left ∷ changes) others = grind (arith, counted_id, serial_of, has_data, append_assoc, ended_in, ended_both changes others)
   ended_both (_ ∷ changes) others = ended_both changes others
@@ -55,14 +56,16 @@ module _ {T U C : Type 0} (sends : T → Queue → Result ℕ IoFault → T → 
   changing_so p q q' d d' is same changing = grind (arith)
 
   -- the objects and the notes that wait stay, and nothing is noted of an object
-  quiet : (p q : Part T U C) (d : Doings U) → held p.store 0 ≡ None → objects_of q ≡ objects_of p → q.waiting ≡ p.waiting → d.handed ≡ [] → d.left ≡ []
+  quiet : (p q : Part T U C) (d : Doings U) → held p.store 0 ≡ None → objects_of q ≡ objects_of p → q.waiting ≡ p.waiting → d.handed ≡ []
+      → d.left ≡ []
       → ((h : Happening U) → IsAmong d.notes h → IsNotedIn client [] h) → Changing p d q
   quiet p q d empty same waits none_handed none_left none_noted = grind (arith, held)
 
   then_changing : (p m q : Part T U C) (a b : Doings U) → Changing p a m → Changing m b q → Changing p (joined a b) q
   then_changing p m q a b first second = grind (arith, keeps_joins, serial_of, is_over, objects_of, among_both, made_first, id_of, born_first, made_later, born_later, ended_in, has_data, ended_both)
 
-  born_changing : (p : Part T U C) (n : ℕ) (x : Object (Kept U)) → held p.store 0 ≡ None → held p.store n ≡ None → n ≢ 0 → x.value.serial ≡ p.last_serial + 1
+  born_changing : (p : Part T U C) (n : ℕ) (x : Object (Kept U)) → held p.store 0 ≡ None → held p.store n ≡ None → n ≢ 0
+      → x.value.serial ≡ p.last_serial + 1
       → Changing p (handing (New (id_at client n x) ∷ [])) (record p { store = stored p.store n x; last_serial = p.last_serial + 1 })
   born_changing p n x empty free ne serial =
       let after : Objects (Kept U) = record { store = stored p.store n x; last_serial = p.last_serial + 1 } in
@@ -76,10 +79,12 @@ module _ {T U C : Type 0} (sends : T → Queue → Result ℕ IoFault → T → 
         empty = stored_other p.store n x 0 (λ same. ne (sym same)) ∙ empty;
       }
 
-  found_changing : (p : Part T U C) (n : ℕ) (x : Object (Kept U)) → held p.store 0 ≡ None → held p.store n ≡ Some x → Changing p (handing (Found (id_at client n x) ∷ [])) p
+  found_changing : (p : Part T U C) (n : ℕ) (x : Object (Kept U)) → held p.store 0 ≡ None → held p.store n ≡ Some x
+      → Changing p (handing (Found (id_at client n x) ∷ [])) p
   found_changing p n x empty holds = record {
     changes = Made (id_of (id_at client n x)) ∷ [];
-    ends = (objects_of p, (id_names client p.store n x (λ same. none-some _ (sym empty ∙ ap (held p.store) (sym same) ∙ holds)) holds, refl), tt, refl);
+    ends =
+        (objects_of p, (id_names client p.store n x (λ same. none-some _ (sym empty ∙ ap (held p.store) (sym same) ∙ holds)) holds, refl), tt, refl);
     handed = grind (arith, id_of, id_at);
     left = refl;
     noted = λ h among. absurd among;
@@ -121,12 +126,14 @@ module _ {T U C : Type 0} (sends : T → Queue → Result ℕ IoFault → T → 
 
   -- each move changes the objects so
   pub moves_change : (p q : Part T U C) (d : Doings U) → held p.store 0 ≡ None → Moves (any true) sends receives client p d q → Changing p d q
-  moves_change p q d empty (stayed is same) = changing_so p p q nothing_done d is same (quiet p p nothing_done empty refl refl refl refl (λ h among. absurd among))
+  moves_change p q d empty (stayed is same) =
+      changing_so p p q nothing_done d is same (quiet p p nothing_done empty refl refl refl refl (λ h among. absurd among))
   moves_change p q d empty (followed {m = m} {a = a} {b = b} first second is) =
       let one = moves_change p m a empty first in
       changing_so p q q (joined a b) d is refl (then_changing p m q a b one (moves_change m q b one.empty second))
   moves_change p q d empty (handed_out {a = a} ids moves among is) = grind (arith, changing_so, moves_change p q a empty moves)
-  moves_change p q d empty (moved move) = grind (arith, changing_so, quiet, born_changing, found_changing, wrote_changing, went_changing, noting, nothing_done, end_notes, id_of, id_at)
+  moves_change p q d empty (moved move) =
+      grind (arith, changing_so, quiet, born_changing, found_changing, wrote_changing, went_changing, noting, nothing_done, end_notes, id_of, id_at)
 
   -- no note is handed out by moves of the part
   pub moves_take : (p q : Part T U C) (d : Doings U) → Moves (any true) sends receives client p d q → d.taken ≡ []
@@ -146,7 +153,8 @@ module _ {T U C : Type 0} (sends : T → Queue → Result ℕ IoFault → T → 
     pub empty : held after.store 0 ≡ None
     pub handed : (h : HandedId IdParts) → IsAmong d.handed h → IsHandedIn client changes h
     pub left : d.left ≡ ended_in serial_of has_data changes
-    pub noted : (h : Happening U) → IsAmong (d.taken ++ (t.made ++ waiting_of t.part)) h → IsAmong (s.made ++ waiting_of s.part) h ⊎ IsNotedIn client changes h
+    pub noted : (h : Happening U) → IsAmong (d.taken ++ (t.made ++ waiting_of t.part)) h
+        → IsAmong (s.made ++ waiting_of s.part) h ⊎ IsNotedIn client changes h
     pub new : (h : Happening U) → IsAmong (d.notes ++ waiting_of t.part) h → IsAmong (waiting_of s.part) h ⊎ IsNotedIn client changes h
 
   -- the objects stay, and the notes that were made are perhaps handed out
@@ -166,8 +174,10 @@ module _ {T U C : Type 0} (sends : T → Queue → Result ℕ IoFault → T → 
   }
 
   -- a part goes over moves: it is kept, or taken out with no object left and nothing that waits
-  goes_part : (p q : Part T U C) (made : List (Happening U)) (d : Doings U) (kept : Option (Part T U C)) → held p.store 0 ≡ None → Moves (any true) sends receives client p d q
-      → AreObjectsOf (record { part = kept; made = made ++ d.notes }) (objects_of q) → ((h : Happening U) → IsAmong (waiting_of kept) h → IsAmong q.waiting h)
+  goes_part : (p q : Part T U C) (made : List (Happening U)) (d : Doings U) (kept : Option (Part T U C)) → held p.store 0 ≡ None
+      → Moves (any true) sends receives client p d q
+      → AreObjectsOf (record { part = kept; made = made ++ d.notes }) (objects_of q)
+      → ((h : Happening U) → IsAmong (waiting_of kept) h → IsAmong q.waiting h)
       → CallChanging (record { part = Some p; made = made }) (objects_of p) d (record { part = kept; made = made ++ d.notes })
   goes_part p q made d kept empty moves are waits =
       let changing = moves_change p q d empty moves in
@@ -180,19 +190,24 @@ module _ {T U C : Type 0} (sends : T → Queue → Result ℕ IoFault → T → 
         handed = changing.handed;
         left = changing.left;
         noted = grind (arith, in_three, among_both, among_first, among_later, moves_take p q d moves);
-        new = λ h among. elim (among_both d.notes (waiting_of kept) h among) [ inl made_now ↦ changing.noted h made_now | inr more ↦ changing.waits h (waits h more) ];
+        new = λ h among. elim (among_both d.notes
+            (waiting_of kept) h among) [ inl made_now ↦ changing.noted h made_now | inr more ↦ changing.waits h (waits h more) ];
       }
 
-  goes_from : (s t : Seen T U C) (p q : Part T U C) (o : Objects (Kept U)) (d : Doings U) (kept : Option (Part T U C)) → AreObjectsOf s o → held o.store 0 ≡ None → s.part ≡ Some p
+  goes_from : (s t : Seen T U C) (p q : Part T U C) (o : Objects (Kept U)) (d : Doings U) (kept : Option (Part T U C)) → AreObjectsOf s o
+      → held o.store 0 ≡ None → s.part ≡ Some p
       → Moves (any true) sends receives client p d q → t ≡ record { part = kept; made = s.made ++ d.notes }
-      → AreObjectsOf (record { part = kept; made = s.made ++ d.notes }) (objects_of q) → ((h : Happening U) → IsAmong (waiting_of kept) h → IsAmong q.waiting h) → CallChanging s o d t
+      → AreObjectsOf (record { part = kept; made = s.made ++ d.notes }) (objects_of q)
+      → ((h : Happening U) → IsAmong (waiting_of kept) h → IsAmong q.waiting h) → CallChanging s o d t
   goes_from s t p q o d kept are empty there moves same left waits =
       let at : o ≡ objects_of p = grind (arith, held, objects_of) in
       let changing = goes_part p q s.made d kept (subst (λ (x : Objects (Kept U)). held x.store 0 ≡ None) at empty) moves left waits in
       grind (arith, objects_of)
 
-  pub goes_change : (s t : Seen T U C) (o : Objects (Kept U)) (d : Doings U) → AreObjectsOf s o → held o.store 0 ≡ None → Goes (any true) sends receives client s d t → CallChanging s o d t
+  pub goes_change : (s t : Seen T U C) (o : Objects (Kept U)) (d : Doings U) → AreObjectsOf s o → held o.store 0 ≡ None
+      → Goes (any true) sends receives client s d t → CallChanging s o d t
   goes_change s t o d are empty (unfelt is same) = grind (arith, nothing_done, goes_still s o [] s.made are empty refl)
   goes_change s t o d are empty (notes_taken on is same) = grind (arith, nothing_done, goes_still s o s.made [] are empty refl)
   goes_change s t o d are empty (within p q there moves same) = goes_from s t p q o d (Some q) are empty there moves same refl (λ h among. among)
-  goes_change s t o d are empty (taken_out p q on there killed moves none waiting same) = goes_from s t p q o d None are empty there moves same none (λ h among. absurd among)
+  goes_change s t o d are empty (taken_out p q on there killed moves none waiting same) =
+      goes_from s t p q o d None are empty there moves same none (λ h among. absurd among)

@@ -50,15 +50,18 @@ same_named target g same = ap (λ (b : Bool). b && eqb target.serial g.serial) (
 module _ {G : Type 0} where
   -- a change of what the target names, of each id
   abbrev pub Changes : (Option (Object (KeptGlobal G)) → Option (Object (KeptGlobal G))) → Globals G → GlobalParts → Globals G → Type 0
-  Changes change globals target after = (g : GlobalParts) → global_of after g ≡ cond (same_global target g) (change (global_of globals g)) (global_of globals g)
+  Changes change globals target after =
+      (g : GlobalParts) → global_of after g ≡ cond (same_global target g) (change (global_of globals g)) (global_of globals g)
 
   -- nothing has changed, where the target names none
-  none_changes : (change : Option (Object (KeptGlobal G)) → Option (Object (KeptGlobal G))) → change None ≡ None → (globals : Globals G) (target : GlobalParts)
+  none_changes : (change : Option (Object (KeptGlobal G)) → Option (Object (KeptGlobal G))) → change None ≡ None
+      → (globals : Globals G) (target : GlobalParts)
       → global_of globals target ≡ None → Changes change globals target globals
   none_changes change nothing globals target none g = grind (arith, same_global, global_of, eqb, global_is, eqb-true, true≢false)
 
   -- the value at the name is another, or there is none
-  one_changes : (change : Option (Object (KeptGlobal G)) → Option (Object (KeptGlobal G))) → change None ≡ None → (globals after : Globals G) (target : GlobalParts) (x : Object (KeptGlobal G))
+  one_changes : (change : Option (Object (KeptGlobal G)) → Option (Object (KeptGlobal G))) → change None ≡ None
+      → (globals after : Globals G) (target : GlobalParts) (x : Object (KeptGlobal G))
       → global_of globals target ≡ Some x
       → ((g : GlobalParts) → g.name ≢ target.name → held after.store g.name ≡ held globals.store g.name)
       → ((g : GlobalParts) → g.name ≡ target.name → (z : Bool) → eqb g.name 0 ≡ z
@@ -70,29 +73,36 @@ module _ {G : Type 0} where
         | inr other ↦ grind (arith, named_at, cond, global_of, eqb, ne_eqb)
       ]
     where
-      both : (z b : Bool) → cond z None (cond b (change (Some x)) None) ≡ cond b (change (cond z None (cond b (Some x) None))) (cond z None (cond b (Some x) None))
+      both : (z b : Bool) → cond z None (cond b (change (Some x)) None)
+          ≡ cond b (change (cond z None (cond b (Some x) None))) (cond z None (cond b (Some x) None))
       both z b = grind (arith)
 
   pub disabled_changes : (globals : Globals G) (target : GlobalParts) → Changes (option_map as_disabled) globals target (disabled globals target)
-  disabled_changes globals target = grind (arith, global_of, none_changes, option_map, as_disabled, one_changes, disabled_at, rewritten_other, named_at, rewritten_here, cond, eqb)
+  disabled_changes globals target =
+      grind (arith, global_of, none_changes, option_map, as_disabled, one_changes, disabled_at, rewritten_other, named_at, rewritten_here, cond, eqb)
 
   pub freed_changes : (globals : Globals G) (target : GlobalParts) → Changes (λ o. None) globals target (freed globals target)
   freed_changes globals target = grind (arith, global_of, none_changes, one_changes, freed_at, removed_other, named_at, removed_here, none_at, eqb)
 
-  created_other : (globals : Globals G) (i : InterfaceId) (version : ℕ) (handler : G) (new : GlobalParts) → IsNextGlobal globals new → (last : ℕ) (g : GlobalParts)
+  created_other : (globals : Globals G) (i : InterfaceId) (version : ℕ) (handler : G) (new : GlobalParts) → IsNextGlobal globals new
+      → (last : ℕ) (g : GlobalParts)
       → (g.serial ≢ new.serial) → global_of (record { store = stored globals.store new.name (new_global i version new.serial handler); last_serial = last }) g ≡ global_of globals g
-  created_other globals i version handler new (least, left, next) last g older = grind (arith, new_global, cases_eq, stored_here, eqb, true≢false, ne_eqb, none_at, stored_other)
+  created_other globals i version handler new (least, left, next) last g older =
+      grind (arith, new_global, cases_eq, stored_here, eqb, true≢false, ne_eqb, none_at, stored_other)
 
   -- nor does any other id
-  pub created_elsewhere : (globals : Globals G) (i : InterfaceId) (version : ℕ) (handler : G) (new : GlobalParts) → IsNextGlobal globals new → (last : ℕ) (g : GlobalParts)
+  pub created_elsewhere : (globals : Globals G) (i : InterfaceId) (version : ℕ) (handler : G) (new : GlobalParts) → IsNextGlobal globals new
+      → (last : ℕ) (g : GlobalParts)
       → same_global new g ≡ false → global_of (record { store = stored globals.store new.name (new_global i version new.serial handler); last_serial = last }) g ≡ global_of globals g
-  created_elsewhere globals i version handler new h1 last g h2 = grind (arith, cases_eq, created_other, true≢false, same_named, eq-eqb, named_at, stored_other, new_global, stored_here, eqb, ne_eqb, none_at)
+  created_elsewhere globals i version handler new h1 last g h2 =
+      grind (arith, cases_eq, created_other, true≢false, same_named, eq-eqb, named_at, stored_other, new_global, stored_here, eqb, ne_eqb, none_at)
 
 -- ---- a call
 
 module _ {G : Type 0} where
   -- a global that is created has the next id
-  next_in : (offer : Offer G) (i : InterfaceId) (version : ℕ) (g : GlobalParts) → CreatesGlobal offer.table offer.globals i version (Ok g) → IsNextGlobal offer.globals g
+  next_in : (offer : Offer G) (i : InterfaceId) (version : ℕ) (g : GlobalParts) → CreatesGlobal offer.table offer.globals i version (Ok g)
+      → IsNextGlobal offer.globals g
   next_in offer i version g by = grind (arith, either_option, slice_get, true≢false, is_ok, either_bool, nat_le)
 
 module _ {T U G C : Type 0} where
@@ -103,7 +113,8 @@ module _ {T U G C : Type 0} where
   offered_last offer call g (i, version, handler, is) = ap (λ (c : Call T U G C). (offer_after offer c).globals.last_serial) is
 
   -- the last serial of a global never falls
-  last_grows : (offer : Offer G) (call : Call T U G C) → AnswersShared offer call → offer.globals.last_serial ≤ (offer_after offer call).globals.last_serial
+  last_grows : (offer : Offer G) (call : Call T U G C) → AnswersShared offer call
+      → offer.globals.last_serial ≤ (offer_after offer call).globals.last_serial
   last_grows offer call h1 = grind (arith, next_in, global_of)
 
   -- what the id of a global that was given before names after a call
@@ -112,12 +123,14 @@ module _ {T U G C : Type 0} where
   named_by offer call g h1 h2 = grind (arith, next_in, created_other, disabled_changes, freed_changes, either_option, slice_get, true≢false, is_ok, either_bool, nat_le, new_global, cases_eq, stored_here, eqb, ne_eqb, none_at, stored_other, global_of, none_changes, option_map, as_disabled, one_changes, disabled_at, rewritten_other, named_at, rewritten_here, freed_at, removed_other, removed_here)
 
   -- an id names after a call what it named before, or the global that the call creates
-  named_before : (offer : Offer G) (call : Call T U G C) (g : GlobalParts) → AnswersShared offer call → IsSome (global_of (offer_after offer call).globals g)
+  named_before : (offer : Offer G) (call : Call T U G C) (g : GlobalParts) → AnswersShared offer call
+      → IsSome (global_of (offer_after offer call).globals g)
       → IsSome (global_of offer.globals g) ⊎ Offers g call
   named_before offer (Asked (step.CreateGlobal i version handler) (reply.CreateGlobal (Ok new))) g by some =
       elim (cases_Bool (same_global new g)) [
         | inl same ↦ inr (i, version, handler, ap (λ (x : GlobalParts). Asked (step.CreateGlobal i version handler) (reply.CreateGlobal (Ok x))) (grind (arith, global_is, eqb-true, same_global)))
-        | inr other ↦ inl (subst IsSome (created_elsewhere offer.globals i version handler new (next_in offer i version new by) new.serial g other) some)
+        | inr other ↦ inl (subst IsSome (created_elsewhere offer.globals i version handler new
+            (next_in offer i version new by) new.serial g other) some)
       ]
   named_before offer _ g by some = grind (arith, some_none, option_map, as_disabled, same_global, global_of, disabled_changes, freed_changes)
 
@@ -134,7 +147,8 @@ module _ {T U G C : Type 0} where
   globals_given : (offer offer' : Offer G) (last last' : ℕ) (run : List (Entry T U G C)) → SharedAlone offer last run offer' last'
       → (offer.globals.last_serial ≤ offer'.globals.last_serial)
       × ((new : GlobalParts) → SomeCall (Offers new) run → (offer.globals.last_serial < new.serial) × (new.serial ≤ offer'.globals.last_serial))
-  globals_given offer offer' last last' [] (same, is) = (let e = ap (λ (o : Offer G). o.globals.last_serial) same in omega (arith, e), λ new none. absurd none)
+  globals_given offer offer' last last' [] (same, is) =
+      (let e = ap (λ (o : Offer G). o.globals.last_serial) same in omega (arith, e), λ new none. absurd none)
   globals_given offer offer' last last' (e ∷ run) (by, next, rest) =
       let (grown, more) = globals_given (offer_after offer e.call) offer' (last + inserted_by e.call) last' run rest in
       let step = last_grows offer e.call by in
@@ -155,15 +169,19 @@ module _ {T U G C : Type 0} where
       (λ old new is later. (omega (arith, offered_last offer e.call old is, (more new later).0)), rise)
 
   -- what the id of a global that was given before names after a run
-  named_over : (offer offer' : Offer G) (last last' : ℕ) (run : List (Entry T U G C)) → SharedAlone offer last run offer' last' → (g : GlobalParts) → g.serial ≤ offer.globals.last_serial
+  named_over : (offer offer' : Offer G) (last last' : ℕ) (run : List (Entry T U G C)) → SharedAlone offer last run offer' last' → (g : GlobalParts)
+      → g.serial ≤ offer.globals.last_serial
       → global_of offer'.globals g ≡ global_over g run (global_of offer.globals g)
   named_over offer offer' last last' [] (same, is) g given = ap (λ (o : Offer G). global_of o.globals g) same
-  named_over offer offer' last last' (e ∷ run) (by, next, rest) g given = grind (arith, offer_after, inserted_by, last_grows, global_over, named_by, named_over (offer_after offer e.call) offer' (last + inserted_by e.call) last' run rest g)
+  named_over offer offer' last last' (e ∷ run)
+      (by, next, rest) g given = grind (arith, offer_after, inserted_by, last_grows, global_over, named_by, named_over (offer_after offer e.call) offer' (last + inserted_by e.call) last' run rest g)
 
-  made_over : (offer offer' : Offer G) (last last' : ℕ) (run : List (Entry T U G C)) → SharedAlone offer last run offer' last' → (g : GlobalParts) → IsSome (global_of offer'.globals g)
+  made_over : (offer offer' : Offer G) (last last' : ℕ) (run : List (Entry T U G C)) → SharedAlone offer last run offer' last' → (g : GlobalParts)
+      → IsSome (global_of offer'.globals g)
       → IsSome (global_of offer.globals g) ⊎ SomeCall (Offers g) run
   made_over offer offer' last last' [] (same, is) g some = inl (subst (λ (o : Offer G). IsSome (global_of o.globals g)) same some)
-  made_over offer offer' last last' (e ∷ run) (by, next, rest) g some = grind (arith, offer_after, inserted_by, named_before, made_over (offer_after offer e.call) offer' (last + inserted_by e.call) last' run rest g some)
+  made_over offer offer' last last' (e ∷ run)
+      (by, next, rest) g some = grind (arith, offer_after, inserted_by, named_before, made_over (offer_after offer e.call) offer' (last + inserted_by e.call) last' run rest g some)
 
   none_over : (g : GlobalParts) (run : List (Entry T U G C)) → global_over g run None ≡ None
   none_over g [] = refl
@@ -182,7 +200,8 @@ module _ {T U G C : Type 0} where
       cases_parts a b = grind (arith, same_parts, eqb, eqb-true, same_client)
   either_inserts id call = inr (λ new (t, c, is). absurd cc)
 
-  client_made_over : (w : World T G C) (before after : ServerState T U G C) (run : List (Entry T U G C)) (id : ClientParts) → Leads w before run after → IsSome (seen id after).part
+  client_made_over : (w : World T G C) (before after : ServerState T U G C) (run : List (Entry T U G C)) (id : ClientParts) → Leads w before run after
+      → IsSome (seen id after).part
       → IsSome (seen id before).part ⊎ SomeCall (Inserts id) run
   client_made_over w before after [] id same some = inl (subst (λ (s : ServerState T U G C). IsSome (seen id s).part) same some)
   client_made_over w before after (e ∷ run) id (mid, by, leads) some =
@@ -202,7 +221,8 @@ module _ {T U G C : Type 0} where
 -- ---- every run of a new server
 
 module _ {T U G C : Type 0} where
-  pub gives_once : (w : World T G C) (table : List InterfaceRow) (run : List (Entry T U G C)) (after : ServerState T U G C) → Leads w (new_server table) run after
+  pub gives_once : (w : World T G C) (table : List InterfaceRow) (run : List (Entry T U G C)) (after : ServerState T U G C)
+      → Leads w (new_server table) run after
       → GivesOnce w table run after
   gives_once w table run after leads =
       let shared = shared_run w (new_server table) after run leads in
@@ -222,19 +242,23 @@ module _ {T U G C : Type 0} where
             ]
             );
         names_global = λ g i version handler earlier later e split creates. let (mid, first, (next, by, rest)) =
-            split_run w (new_server table) after earlier (e ∷ later) (subst (λ (r : List (Entry T U G C)). Leads w (new_server table) r after) split leads) in
+            split_run w (new_server table) after earlier (e ∷ later)
+            (subst (λ (r : List (Entry T U G C)). Leads w (new_server table) r after) split leads) in
             let call : Call T U G C = Asked (step.CreateGlobal i version handler) (reply.CreateGlobal (Ok g)) in
             let offered : next.offer ≡ offer_after mid.offer call =
             by.offer ∙ ap (λ (c : Call T U G C). offer_after mid.offer c) creates in
             let number = offered_next mid.offer e.call g by.global (i, version, handler, creates) in
             let last : next.offer.globals.last_serial ≡ g.serial = ap (λ (o : Offer G). o.globals.last_serial) offered in
             named_over next.offer after.offer next.last_client after.last_client later (shared_run w next after later rest) g (omega (arith, last))
-            ∙ ap (global_over g later) (ap (λ (o : Offer G). global_of o.globals g) offered ∙ (grind (arith, new_global, stored_here, eqb, ne_eqb, eq-eqb, mid.offer.globals, g.serial)));
+            ∙ ap (global_over g later) (ap (λ (o : Offer G). global_of o.globals g) offered
+            ∙ (grind (arith, new_global, stored_here, eqb, ne_eqb, eq-eqb, mid.offer.globals, g.serial)));
         no_client_again = λ id done later point split first others made none. (
-            (out_run w id point after later ((clients_given (new_offer table) point.offer 0 point.last_client done (shared_run w (new_server table) point done first)).1 id made).1 none others).none
+            (out_run w id point after later ((clients_given (new_offer table) point.offer 0 point.last_client done
+            (shared_run w (new_server table) point done first)).1 id made).1 none others).none
             );
         no_global_again = λ g done later point split first others made none. (
-            let given = ((globals_given (new_offer table) point.offer 0 point.last_client done (shared_run w (new_server table) point done first)).1 g made).1 in
+            let given = ((globals_given (new_offer table) point.offer 0 point.last_client done
+            (shared_run w (new_server table) point done first)).1 g made).1 in
             named_over point.offer after.offer point.last_client after.last_client later (shared_run w point after later others) g given
             ∙ ap (global_over g later) none ∙ none_over g later
             );

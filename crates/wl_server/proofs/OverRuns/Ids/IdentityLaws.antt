@@ -40,7 +40,8 @@ module _ {U : Type 0} (client : ClientParts) where
   IsNotedOver [] h = ⊥
   IsNotedOver (step ∷ rest) h = IsNotedIn client step h ⊎ IsNotedOver rest h
 
-  pub noted_over : (run : List (List (Change (Kept U)))) (o : IdParts) (u : U) → IsNotedOver run (Destroyed o u) → (o.client ≡ client) × IsMadeIn run (id_of o)
+  pub noted_over : (run : List (List (Change (Kept U)))) (o : IdParts) (u : U) → IsNotedOver run (Destroyed o u)
+      → (o.client ≡ client) × IsMadeIn run (id_of o)
   noted_over [] o u noted = absurd noted
   noted_over (step ∷ rest) o u (inl (of_it, made)) = (of_it, inl made)
   noted_over (step ∷ rest) o u (inr later) = let (of_it, made) = noted_over rest o u later in (of_it, inr made)
@@ -57,7 +58,8 @@ module _ {T U G C : Type 0} (w : World T G C) (id : ClientParts) where
     pub are : AreObjectsOf t kept
     pub empty : held kept.store 0 ≡ None
     pub left : left_in (history run) ≡ ended_over serial_of has_data changes
-    pub noted : (h : Happening U) → IsAmong (taken_in (history run) ++ (t.made ++ waiting_of t.part)) h → IsAmong (s.made ++ waiting_of s.part) h ⊎ IsNotedOver id changes h
+    pub noted : (h : Happening U) → IsAmong (taken_in (history run) ++ (t.made ++ waiting_of t.part)) h
+        → IsAmong (s.made ++ waiting_of s.part) h ⊎ IsNotedOver id changes h
 
   pub left_both : (a b : List (Deed U)) → left_in (a ++ b) ≡ left_in a ++ left_in b
   left_both a b = ap (λ (d : Doings U). d.left) (doings_in_both a b)
@@ -65,7 +67,8 @@ module _ {T U G C : Type 0} (w : World T G C) (id : ClientParts) where
   pub taken_both : (a b : List (Deed U)) → taken_in (a ++ b) ≡ taken_in a ++ taken_in b
   taken_both a b = ap (λ (d : Doings U). d.taken) (doings_in_both a b)
 
-  pub run_change : (offer : Offer G) (s : Seen T U C) (o : Objects (Kept U)) (run : List (Own T U G C)) (t : Seen T U C) → AreMine id run → AreObjectsOf s o
+  pub run_change : (offer : Offer G) (s : Seen T U C) (o : Objects (Kept U)) (run : List (Own T U G C)) (t : Seen T U C) → AreMine id run
+      → AreObjectsOf s o
       → held o.store 0 ≡ None → Alone w id offer s run t → RunChanging offer s o run t
   run_change offer s o [] t own are empty same = record {
     changes = [];
@@ -90,7 +93,8 @@ module _ {T U G C : Type 0} (w : World T G C) (id : ClientParts) where
           by,
           first.ends,
           first.are,
-          all_among (IsHandedIn id first.changes) (ids_in e.call) (λ i among. first.handed i (covers w id offer e.call s e.lacked e.did mid own.0 by i among)),
+          all_among (IsHandedIn id first.changes) (ids_in e.call)
+              (λ i among. first.handed i (covers w id offer e.call s e.lacked e.did mid own.0 by i among)),
           first.left,
           grind (arith, contains_among, waiting_of, among_contains, notes_in),
           rest.follows,
@@ -104,18 +108,22 @@ module _ {T U G C : Type 0} (w : World T G C) (id : ClientParts) where
 
   -- the run of a client from its insertion on
   pub run_begins : (offer : Offer G) (link : LinkState T) (client_data : C) (run : List (Own T U G C)) (t : Seen T U C) → AreMine id run
-      → Alone w id offer (just_inserted link client_data) run t → RunChanging offer (just_inserted link client_data) (objects.first_objects display_object) run t
-  run_begins offer link client_data run t own alone = run_change offer (just_inserted link client_data) (objects.first_objects display_object) run t own refl
+      → Alone w id offer (just_inserted link client_data) run t
+      → RunChanging offer (just_inserted link client_data) (objects.first_objects display_object) run t
+  run_begins offer link client_data run t own alone =
+      run_change offer (just_inserted link client_data) (objects.first_objects display_object) run t own refl
       (stored_other empty_store 1 display_object 0 (λ is. (omega (arith, is))) ∙ held_empty 0) alone
 
   -- ---- what holds of it
 
-  pub names_of : (t : Seen T U C) (kept : Objects (Kept U)) → AreObjectsOf t kept → (o : IdParts) → IsSome (named_of t o) ↔ IsSome (names serial_of (id_of o) kept.store)
+  pub names_of : (t : Seen T U C) (kept : Objects (Kept U)) → AreObjectsOf t kept → (o : IdParts)
+      → IsSome (named_of t o) ↔ IsSome (names serial_of (id_of o) kept.store)
   names_of t kept are o = grind (arith, names, serial_of, id_of, eqb, named_in, true≢false, is_some, objects_of, named)
 
   -- and those changes make its ids its own
   unfoldable pub own_by : (offer : Offer G) (link : LinkState T) (client_data : C) (run : List (Own T U G C)) (t : Seen T U C)
-      → RunChanging offer (just_inserted link client_data) (objects.first_objects display_object) run t → HasOwnIds w id offer (just_inserted link client_data) run t
+      → RunChanging offer (just_inserted link client_data) (objects.first_objects display_object) run t
+      → HasOwnIds w id offer (just_inserted link client_data) run t
   own_by offer link client_data run t changing =
       let identity = identity_law serial_of display_object refl changing.changes changing.kept
       (run_leads serial_of (OwnsExactly is_over) (objects.first_objects display_object) changing.kept changing.changes changing.ends) in
@@ -141,7 +149,8 @@ module _ {T U G C : Type 0} (w : World T G C) (id : ClientParts) where
             (run_owns serial_of is_over (objects.first_objects display_object) changing.kept changing.changes changing.ends));
       }
 
-  pub own_ids : (offer : Offer G) (link : LinkState T) (client_data : C) (run : List (Own T U G C)) (t : Seen T U C) → AreMine id run → Alone w id offer (just_inserted link client_data) run t
+  pub own_ids : (offer : Offer G) (link : LinkState T) (client_data : C) (run : List (Own T U G C)) (t : Seen T U C) → AreMine id run
+      → Alone w id offer (just_inserted link client_data) run t
       → HasOwnIds w id offer (just_inserted link client_data) run t
   own_ids offer link client_data run t own alone = own_by offer link client_data run t (run_begins offer link client_data run t own alone)
 
@@ -149,9 +158,11 @@ module _ {T U G C : Type 0} (w : World T G C) (id : ClientParts) where
 
   pub history_both : (done later : List (Own T U G C)) → history (done ++ later) ≡ history done ++ history later
   history_both [] later = refl
-  history_both (e ∷ done) later = ap (λ (did : List (Deed U)). e.did ++ did) (history_both done later) ∙ sym (append_assoc e.did (history done) (history later))
+  history_both (e ∷ done) later =
+      ap (λ (did : List (Deed U)). e.did ++ did) (history_both done later) ∙ sym (append_assoc e.did (history done) (history later))
 
-  pub ended_both : (a b : List (List (Change (Kept U)))) → ended_over serial_of has_data (a ++ b) ≡ ended_over serial_of has_data a ++ ended_over serial_of has_data b
+  pub ended_both : (a b : List (List (Change (Kept U))))
+      → ended_over serial_of has_data (a ++ b) ≡ ended_over serial_of has_data a ++ ended_over serial_of has_data b
   ended_both [] b = refl
   ended_both (step ∷ a) b = grind (arith, append_assoc, ended_both a b)
 
@@ -159,16 +170,20 @@ module _ {T U G C : Type 0} (w : World T G C) (id : ClientParts) where
   noted_both [] b h over = elim over [ inl none ↦ absurd none | inr later ↦ later ]
   noted_both (step ∷ a) b h over = grind (arith, noted_both a b h)
 
-  pub follows_both : (offer : Offer G) (s : Seen T U C) (o : Objects (Kept U)) (done : List (Own T U G C)) (a : List (List (Change (Kept U)))) (point : Seen T U C) (there : Objects (Kept U))
-      (later : List (Own T U G C)) (b : List (List (Change (Kept U)))) (t : Seen T U C) (kept : Objects (Kept U)) → Follows w id offer s o done a point there
+  pub follows_both : (offer : Offer G) (s : Seen T U C) (o : Objects (Kept U)) (done : List (Own T U G C)) (a : List (List (Change (Kept U))))
+      (point : Seen T U C) (there : Objects (Kept U))
+      (later : List (Own T U G C)) (b : List (List (Change (Kept U)))) (t : Seen T U C) (kept : Objects (Kept U))
+      → Follows w id offer s o done a point there
       → Follows w id (offer_through offer done) point there later b t kept → Follows w id offer s o (done ++ later) (a ++ b) t kept
   follows_both offer s o [] [] point there later b t kept (same, is) more = grind (arith)
   follows_both offer s o (e ∷ done) (step ∷ a) point there later b t kept (mid, between, by, ends, are, handed, left, noted, leads) more =
       let whole = follows_both (offer_after offer e.call) mid between done a point there later b t kept leads more in (mid, between, by, ends, are, handed, left, noted, whole)
   follows_both offer s o _ _ point there later b t kept none more = absurd none
 
-  unfoldable pub change_both : (offer : Offer G) (s : Seen T U C) (o : Objects (Kept U)) (done : List (Own T U G C)) (point : Seen T U C) (later : List (Own T U G C)) (t : Seen T U C)
-      (first : RunChanging offer s o done point) → RunChanging (offer_through offer done) point first.kept later t → RunChanging offer s o (done ++ later) t
+  unfoldable pub change_both : (offer : Offer G) (s : Seen T U C) (o : Objects (Kept U)) (done : List (Own T U G C)) (point : Seen T U C)
+      (later : List (Own T U G C)) (t : Seen T U C)
+      (first : RunChanging offer s o done point) → RunChanging (offer_through offer done) point first.kept later t
+      → RunChanging offer s o (done ++ later) t
   change_both offer s o done point later t first rest = record {
     changes = first.changes ++ rest.changes;
     kept = rest.kept;
@@ -184,7 +199,8 @@ module _ {T U G C : Type 0} (w : World T G C) (id : ClientParts) where
 
 module _ {T U G C : Type 0} where
   -- over every run of a new server, each client has ids of its own
-  pub each_has_own_ids : (w : World T G C) (table : List InterfaceRow) (run : List (Entry T U G C)) (after : ServerState T U G C) → Leads w (new_server table) run after
+  pub each_has_own_ids : (w : World T G C) (table : List InterfaceRow) (run : List (Entry T U G C)) (after : ServerState T U G C)
+      → Leads w (new_server table) run after
       → EachHasOwnIds w table run after
   each_has_own_ids w table run after leads id transport client_data earlier later e split inserts =
       let (link, fresh, alone) = (is_isolated w table run after leads).each id transport client_data earlier later e split inserts in

@@ -23,8 +23,10 @@ use Rattle.wl_server.proofs.OverRuns.Ids.IdentityLaws.{change_both, names_of, ow
 use Rattle.wl_server.proofs.OverRuns.Ids.GivenLaws.{clients_given}
 
 module _ {T U G C : Type 0} (w : World T G C) (id : ClientParts) where
-  own_named : (offer : Offer G) (link : LinkState T) (client_data : C) (done : List (Own T U G C)) (point : Seen T U C) (later : List (Own T U G C)) (t : Seen T U C)
-      → AreMine id done → AreMine id later → Alone w id offer (just_inserted link client_data) done point → Alone w id (offer_through offer done) point later t
+  own_named : (offer : Offer G) (link : LinkState T) (client_data : C) (done : List (Own T U G C)) (point : Seen T U C) (later : List (Own T U G C))
+      (t : Seen T U C)
+      → AreMine id done → AreMine id later → Alone w id offer (just_inserted link client_data) done point
+      → Alone w id (offer_through offer done) point later t
       → KeepsNaming w id offer (just_inserted link client_data) done point later t
   unfolding own_by change_both
   own_named offer link client_data done point later t own more led alone =
@@ -50,8 +52,10 @@ module _ {T U G C : Type 0} (w : World T G C) (id : ClientParts) where
       }
 
   -- an id that names none at a later point names none behind it
-  none_again : (offer : Offer G) (link : LinkState T) (client_data : C) (done : List (Own T U G C)) (point : Seen T U C) (between : List (Own T U G C)) (mid : Seen T U C)
-      (later : List (Own T U G C)) (t : Seen T U C) → AreMine id done → AreMine id between → AreMine id later → Alone w id offer (just_inserted link client_data) done point
+  none_again : (offer : Offer G) (link : LinkState T) (client_data : C) (done : List (Own T U G C)) (point : Seen T U C)
+      (between : List (Own T U G C)) (mid : Seen T U C)
+      (later : List (Own T U G C)) (t : Seen T U C) → AreMine id done → AreMine id between → AreMine id later
+      → Alone w id offer (just_inserted link client_data) done point
       → Alone w id (offer_through offer done) point between mid → Alone w id (offer_through (offer_through offer done) between) mid later t
       → NamesNoneAgain point mid t
   none_again offer link client_data done point between mid later t own next more led onward alone o named none =
@@ -79,28 +83,34 @@ module _ {T U G C : Type 0} where
   through id (e ∷ run) offer = grind (arith, far_offer, through id run (offer_after offer e.call))
 
   -- a client that was inserted is known from then on, and its own run leads on from each later point
-  pub record IsInserted (w : World T G C) (id : ClientParts) (offer : Offer G) (transport : T) (limit : Option ℕ) (client_data : C) (between : List (Entry T U G C)) (point : ServerState T U G C) : Type 0 where
+  pub record IsInserted (w : World T G C) (id : ClientParts) (offer : Offer G) (transport : T) (limit : Option ℕ) (client_data : C)
+      (between : List (Entry T U G C)) (point : ServerState T U G C) : Type 0 where
     pub link : LinkState T
     pub fresh : IsFresh transport limit link
     pub alone : Alone w id offer (just_inserted link client_data) (mine id between) (seen id point)
     pub given : id.serial ≤ point.last_client
     pub offered : point.offer ≡ offer_through offer (mine id between)
 
-  pub inserted : (w : World T G C) (table : List InterfaceRow) (done : List (Entry T U G C)) (point : ServerState T U G C) → Leads w (new_server table) done point
-      → (id : ClientParts) (transport : T) (client_data : C) (earlier between : List (Entry T U G C)) (e : Entry T U G C) → done ≡ earlier ++ e ∷ between
+  pub inserted : (w : World T G C) (table : List InterfaceRow) (done : List (Entry T U G C)) (point : ServerState T U G C)
+      → Leads w (new_server table) done point
+      → (id : ClientParts) (transport : T) (client_data : C) (earlier between : List (Entry T U G C)) (e : Entry T U G C)
+      → done ≡ earlier ++ e ∷ between
       → e.call ≡ Asked (step.InsertClient transport client_data) (reply.InsertClient (Ok id))
-      → IsInserted w id (offer_over (new_offer table) (earlier ++ e ∷ [])) transport (Some (offer_over (new_offer table) earlier).default_limit) client_data between point
+      → IsInserted w id (offer_over (new_offer table) (earlier ++ e ∷ [])) transport
+      (Some (offer_over (new_offer table) earlier).default_limit) client_data between point
   inserted w table done point leads id transport client_data earlier between e split inserts =
       let (link, fresh, alone) = each_alone w table done point leads id transport client_data earlier between e split inserts in
       let (mid, first, (next, by, rest)) =
-      split_run w (new_server table) point earlier (e ∷ between) (subst (λ (r : List (Entry T U G C)). Leads w (new_server table) r point) split leads) in
+      split_run w (new_server table) point earlier (e ∷ between)
+      (subst (λ (r : List (Entry T U G C)). Leads w (new_server table) r point) split leads) in
       let number = (numbered mid e.call id by.client (transport, client_data, inserts)).2 in
       record {
         link = link;
         fresh = fresh;
         alone = alone;
         given = omega (arith, number, by.last, one_more e.call id (transport, client_data, inserts), (clients_given next.offer point.offer next.last_client point.last_client between (shared_run w next point between rest)).0);
-        offered = offer_run w next point between rest ∙ ap (λ (o : Offer G). offer_over o between) (grind (arith, offer_after, offer_run, new_server, offer_over_one, new_offer))
+        offered = offer_run w next point between rest
+            ∙ ap (λ (o : Offer G). offer_over o between) (grind (arith, offer_after, offer_run, new_server, offer_over_one, new_offer))
             ∙ through id between (offer_over (new_offer table) (earlier ++ e ∷ []));
       }
 
@@ -113,15 +123,19 @@ module _ {T U G C : Type 0} where
         grind (arith, own_named, offer_over, new_offer, mine, seen, are_mine, alone_run),
       )
 
-  pub each_names_none_again : (w : World T G C) (table : List InterfaceRow) (done between later : List (Entry T U G C)) (point mid after : ServerState T U G C)
+  pub each_names_none_again : (w : World T G C) (table : List InterfaceRow) (done between later : List (Entry T U G C))
+      (point mid after : ServerState T U G C)
       → Leads w (new_server table) done point → Leads w point between mid → Leads w mid later after
       → (id : ClientParts) (transport : T) (client_data : C) (earlier since : List (Entry T U G C)) (e : Entry T U G C) → done ≡ earlier ++ e ∷ since
-      → e.call ≡ Asked (step.InsertClient transport client_data) (reply.InsertClient (Ok id)) → NamesNoneAgain (seen id point) (seen id mid) (seen id after)
+      → e.call ≡ Asked (step.InsertClient transport client_data) (reply.InsertClient (Ok id))
+      → NamesNoneAgain (seen id point) (seen id mid) (seen id after)
   each_names_none_again w table done between later point mid after leads onward others id transport client_data earlier since e split inserts =
       let is = inserted w table done point leads id transport client_data earlier since e split inserts in
       let last = (clients_given point.offer mid.offer point.last_client mid.last_client between (shared_run w point mid between onward)).0 in
       let offered = offer_run w point mid between onward ∙ through id between point.offer in
-      none_again w id (offer_over (new_offer table) (earlier ++ e ∷ [])) is.link client_data (mine id since) (seen id point) (mine id between) (seen id mid) (mine id later) (seen id after)
+      none_again w id (offer_over (new_offer table) (earlier ++ e ∷ [])) is.link client_data (mine id since) (seen id point) (mine id between)
+      (seen id mid) (mine id later) (seen id after)
       (are_mine id since) (are_mine id between) (are_mine id later) is.alone
-      (subst (λ (o : Offer G). Alone w id o (seen id point) (mine id between) (seen id mid)) is.offered (alone_run w id point mid between is.given onward))
+      (subst (λ (o : Offer G). Alone w id o (seen id point) (mine id between) (seen id mid)) is.offered
+      (alone_run w id point mid between is.given onward))
       (grind (arith, seen, mine, offer_through, alone_run))

@@ -32,12 +32,14 @@ module _ {U : Type 0} where
 
   module _ {C : Type 0} where
     -- and so among all deeds
-    deeds_ids : (exchanges : List (Deed U)) (gave : List (Given (Told U))) (c : Core U C) (i : HandedId IdParts) → IsAmong (all_action_ids (acted_in (deeds_in gave))) i
+    deeds_ids : (exchanges : List (Deed U)) (gave : List (Given (Told U))) (c : Core U C) (i : HandedId IdParts)
+        → IsAmong (all_action_ids (acted_in (deeds_in gave))) i
         → IsAmong (all_action_ids (acted_in (deeds_of exchanges gave c))) i
     deeds_ids exchanges gave c i among = grind (arith, deeds_done, among_later, all_action_ids, acted_in, deeds_in, among_first)
 
 -- a step that is about a client is one of its part
-pub own_step : {T U C : Type 0} (b : Bool) (s : Seen T U C) (R : Part T U C → Part T U C → Type 0) (missing : Type 0) (lacked : Bool) (did : List (Deed U)) (t : Seen T U C)
+pub own_step : {T U C : Type 0} (b : Bool) (s : Seen T U C) (R : Part T U C → Part T U C → Type 0) (missing : Type 0) (lacked : Bool)
+    (did : List (Deed U)) (t : Seen T U C)
     → b ≡ true → OfClient b s R missing lacked did t → OnPart s R missing lacked did t
 own_step h1 s h3 missing lacked did t is h = grind (arith, true≢false)
 
@@ -45,7 +47,8 @@ module _ {T U G C : Type 0} (w : World T G C) (id : ClientParts) (offer : Offer 
   read_ids : (r : Reading) (p : Part T U C) (answer : Result Handed ActionError) (r' : Reading) (lacked : Bool) (did : List (Deed U)) (q : Part T U C)
       → NextAction w.sends w.receives (around w id offer) r p answer r' lacked did q → (i : HandedId IdParts) → IsAmong (answer_ids answer) i
       → IsAmong (all_action_ids (acted_in did)) i
-  read_ids r p answer r' lacked did q h i among = grind (arith, either_option, answer_ids, either_bool, all_action_ids, acted_in, deeds_ids, exchanges_in, given_ids, true≢false, is_ok)
+  read_ids r p answer r' lacked did q h i among =
+      grind (arith, either_option, answer_ids, either_bool, all_action_ids, acted_in, deeds_ids, exchanges_in, given_ids, true≢false, is_ok)
 
   abbrev pub Covers : Call T U G C → List (Deed U) → Type 0
   Covers call did = (i : HandedId IdParts) → IsAmong (ids_in call) i → IsAmong (handed_by id call did) i

@@ -52,7 +52,8 @@ module _ {T U C : Type 0} (p : Part T U C) (killed : p.is_killed ≡ true) where
 abbrev pub fading : Kind
 fading = record { gathers = false; hands = true; reads = false; finishes = true; kills = λ reason. Unit {0}; closes = tt }
 
-module _ {T U C : Type 0} (sends : T → Queue → Result ℕ IoFault → T → Type 0) (receives : T → ℕ → Result Queue IoFault → T → Type 0) (client : ClientParts) where
+module _ {T U C : Type 0} (sends : T → Queue → Result ℕ IoFault → T → Type 0) (receives : T → ℕ → Result Queue IoFault → T → Type 0)
+    (client : ClientParts) where
   pub moves_remain : (p q : Part T U C) (d : Doings U) → Moves fading sends receives client p d q → p.is_killed ≡ true → Remains p q
   moves_remain p q d (stayed is same) killed = remains p killed q same
   moves_remain p q d (followed {m = m} {a = a} {b = b} first second is) killed = grind (arith, moves_remain p m a first killed, moves_remain m q b second)
@@ -68,7 +69,8 @@ refusal_with (Some a) = ActionOpen
 
 -- ---- a killed client
 
-module _ {T U G C : Type 0} (w : World T G C) (id : ClientParts) (offer : Offer G) (before : Seen T U C) (p : Part T U C) (there : before.part ≡ Some p) (killed : p.is_killed ≡ true)
+module _ {T U G C : Type 0} (w : World T G C) (id : ClientParts) (offer : Offer G) (before : Seen T U C) (p : Part T U C)
+    (there : before.part ≡ Some p) (killed : p.is_killed ≡ true)
     (lacked : Bool) (did : List (Deed U)) (after : Seen T U C) where
   -- the part that a call finds
   found_part : (p' : Part T U C) → before.part ≡ Some p' → p' ≡ p
@@ -100,12 +102,14 @@ module _ {T U G C : Type 0} (w : World T G C) (id : ClientParts) (offer : Offer 
       let found = found_part p' there' in (
         q,
         ap (λ (s : Seen T U C). s.part) same,
-        subst (λ (x : Part T U C). Remains x q) found (moves_remain w.sends w.receives id p' q d moves (ap (λ (x : Part T U C). x.is_killed) found ∙ killed)),
+        subst (λ (x : Part T U C). Remains x q) found
+            (moves_remain w.sends w.receives id p' q d moves (ap (λ (x : Part T U C). x.is_killed) found ∙ killed)),
       )
   goes_dead d (taken_out p' q on there' killed' moves empty no_notes same) = absurd (false≢true on)
   goes_dead d (notes_taken on is same) = (p, ap (λ (s : Seen T U C). s.part) same ∙ there, remains p killed p refl)
 
-  cleanup_dead : (answer : Reply T U) (r : Result (Vec (ClientParts × T) Global) OutOfMemory) → answer ≡ reply.Cleanup r → CleanedAs w id offer r before lacked did after
+  cleanup_dead : (answer : Reply T U) (r : Result (Vec (ClientParts × T) Global) OutOfMemory) → answer ≡ reply.Cleanup r
+      → CleanedAs w id offer r before lacked did after
       → DeadOrOut (Asked step.Cleanup answer)
   cleanup_dead answer (Err e) is h = inl ((p, ap (λ (s : Seen T U C). s.part) h.2 ∙ there, remains p killed p refl))
   cleanup_dead answer (Ok out) is h =
@@ -113,7 +117,8 @@ module _ {T U G C : Type 0} (w : World T G C) (id : ClientParts) (offer : Offer 
       let (sent, flushed, end, flushes, did_so, handed, gone) = when_killed _ p.is_killed killed cleans in
       inr ((out, end.link.transport, ap (λ (a : Reply T U). Asked step.Cleanup a) is, handed), ap (λ (s : Seen T U C). s.part) same ∙ gone)
 
-  reads_dead : (target : ClientParts) (r r' : Reading) (answer : Result Handed ActionError) → ReadsFor w id offer target r answer r' before lacked did after → StillDead
+  reads_dead : (target : ClientParts) (r r' : Reading) (answer : Result Handed ActionError)
+      → ReadsFor w id offer target r answer r' before lacked did after → StillDead
   reads_dead target r r' answer h =
       elim (either_bool (same_client target id) h) [
         | inl on ↦ let (q, next, same) = found _ _ on in (q, ap (λ (s : Seen T U C). s.part) same, stays q next)
@@ -134,11 +139,13 @@ module _ {T U G C : Type 0} (w : World T G C) (id : ClientParts) (offer : Offer 
       go true about =
           goes_dead _ (call_moves fading w id offer call before lacked did after about
           (record { kills = λ e may. tt; gathers = λ is. is; hands = λ is. refl; reads = λ is. is; finishes = λ is. refl }) h)
-      go false far = (p, ap (λ (s : Seen T U C). s.part) (other_call w id offer call before lacked did after other far h).2 ∙ there, remains p killed p refl)
+      go false far =
+          (p, ap (λ (s : Seen T U C). s.part) (other_call w id offer call before lacked did after other far h).2 ∙ there, remains p killed p refl)
 
 -- ---- a client that is not stored
 
-module _ {T U G C : Type 0} (w : World T G C) (id : ClientParts) (offer : Offer G) (before : Seen T U C) (gone : before.part ≡ None) (lacked : Bool) (did : List (Deed U))
+module _ {T U G C : Type 0} (w : World T G C) (id : ClientParts) (offer : Offer G) (before : Seen T U C) (gone : before.part ≡ None) (lacked : Bool)
+    (did : List (Deed U))
     (after : Seen T U C) where
   -- nothing is received from it
   pub out_silent : (call : Call T U G C) → PartCall w id offer call before lacked did after → came_in did ≡ []
@@ -153,18 +160,22 @@ module _ {T U G C : Type 0} (w : World T G C) (id : ClientParts) where
     pub receives : receives_over id run ≡ 0
 
   -- it is not stored again, if the call does not insert it
-  pub out_next : (before mid : ServerState T U G C) (e : Entry T U G C) → (seen id before).part ≡ None → IsNotInserted id e.call → OneStep w before e mid
+  pub out_next : (before mid : ServerState T U G C) (e : Entry T U G C) → (seen id before).part ≡ None → IsNotInserted id e.call
+      → OneStep w before e mid
       → (seen id mid).part ≡ None
   out_next before mid e none other by = grind (arith, concerns, unfelt, within, taken_out, notes_taken, call_goes, other_call, seen)
 
-  pub out_run : (before after : ServerState T U G C) (run : List (Entry T U G C)) → id.serial ≤ before.last_client → (seen id before).part ≡ None → Leads w before run after
+  pub out_run : (before after : ServerState T U G C) (run : List (Entry T U G C)) → id.serial ≤ before.last_client → (seen id before).part ≡ None
+      → Leads w before run after
       → OutOver run (seen id after)
-  out_run before after [] born none same = record { says = tt; none = ap (λ (s : ServerState T U G C). (seen id s).part) same ∙ none; receives = refl }
+  out_run before after [] born none same =
+      record { says = tt; none = ap (λ (s : ServerState T U G C). (seen id s).part) same ∙ none; receives = refl }
   out_run before after (e ∷ run) born none (mid, by, leads) =
       let rest = out_run mid after run (omega (arith, born, by.last))
       (out_next before mid e none (λ new inserts. later_differs new id
       (let next = (numbered before e.call new by.client inserts).2 in omega (arith, born, next))) by) leads in
-      let silent : receives_in (e.did id) ≡ 0 = ap length (out_silent w id before.offer (seen id before) none (e.lacks id) (e.did id) (seen id mid) e.call (by.each id)) in
+      let silent : receives_in (e.did id) ≡ 0 = ap length
+      (out_silent w id before.offer (seen id before) none (e.lacks id) (e.did id) (seen id mid) e.call (by.each id)) in
       grind (arith, true≢false, around, either_option, seen)
 
   -- ---- a killed client
@@ -174,7 +185,8 @@ module _ {T U G C : Type 0} (w : World T G C) (id : ClientParts) where
   DeadOver p action run after = StaysKilled id (record { part = Some (record p { action = action }); made = [] }) run after
 
   -- it is killed to the end, or the next call is the cleanup that takes it out
-  ends_here : (p : Part T U C) (action : Option OpenAction) (run : List (Entry T U G C)) (after : Seen T U C) → StaysOrIsTakenOut id run after → receives_over id run ≡ 0
+  ends_here : (p : Part T U C) (action : Option OpenAction) (run : List (Entry T U G C)) (after : Seen T U C) → StaysOrIsTakenOut id run after
+      → receives_over id run ≡ 0
       → DeadOver p action run after
   ends_here p action run after ends silent = record {
     with_action = [];
@@ -189,7 +201,8 @@ module _ {T U G C : Type 0} (w : World T G C) (id : ClientParts) where
   }
 
   -- one more call: the action is open, or none is and none was opened by the call
-  one_more : (p q : Part T U C) (action : Option OpenAction) (e : Entry T U G C) (run : List (Entry T U G C)) (after : Seen T U C) → ReadingAnswers id (refusal_with action) e.call
+  one_more : (p q : Part T U C) (action : Option OpenAction) (e : Entry T U G C) (run : List (Entry T U G C)) (after : Seen T U C)
+      → ReadingAnswers id (refusal_with action) e.call
       → receives_in (e.did id) ≡ 0 → (action ≡ None → q.action ≡ None) → DeadOver q q.action run after → DeadOver p action (e ∷ run) after
   one_more p q (Some a) e run after says silent closed rest = record {
     with_action = e ∷ rest.with_action;
@@ -206,7 +219,8 @@ module _ {T U G C : Type 0} (w : World T G C) (id : ClientParts) where
     with_action = [];
     without_action = e ∷ rest.without_action;
     from_cleanup = rest.from_cleanup;
-    split = ap (λ (l : List (Entry T U G C)). e ∷ l) (rest.split ∙ ap (λ (l : List (Entry T U G C)). l ++ (rest.without_action ++ rest.from_cleanup)) (rest.opened (closed refl)));
+    split = ap (λ (l : List (Entry T U G C)). e ∷ l)
+        (rest.split ∙ ap (λ (l : List (Entry T U G C)). l ++ (rest.without_action ++ rest.from_cleanup)) (rest.opened (closed refl)));
     opened = λ none. refl;
     says_open = tt;
     says_killed = (says, rest.says_killed);
@@ -214,16 +228,19 @@ module _ {T U G C : Type 0} (w : World T G C) (id : ClientParts) where
     receives = (let more = rest.receives in omega (arith, silent, more));
   }
 
-  dead_run : (before after : ServerState T U G C) (run : List (Entry T U G C)) → id.serial ≤ before.last_client → (p : Part T U C) → (seen id before).part ≡ Some p
+  dead_run : (before after : ServerState T U G C) (run : List (Entry T U G C)) → id.serial ≤ before.last_client → (p : Part T U C)
+      → (seen id before).part ≡ Some p
       → p.is_killed ≡ true → Leads w before run after → DeadOver p p.action run (seen id after)
   dead_run before after [] born p there killed same = ends_here p p.action [] (seen id after) (grind (arith, seen)) refl
   dead_run before after (e ∷ run) born p there killed (mid, by, leads) =
       let grown = by.last in
-      let silent = ap length (dead_silent w id before.offer (seen id before) p there killed (e.lacks id) (e.did id) (seen id mid) e.call (by.each id)) in
+      let silent = ap length (dead_silent w id before.offer (seen id before) p there killed (e.lacks id) (e.did id) (seen id mid) e.call
+      (by.each id)) in
       elim (dead_or_out w id before.offer (seen id before) p there killed (e.lacks id) (e.did id) (seen id mid) e.call
       (λ new inserts. later_differs new id (let next = (numbered before e.call new by.client inserts).2 in omega (arith, born, next))) (by.each id)) [
         | inl (q, is, remains) ↦
-            one_more p q p.action e run (seen id after) (dead_says w id before.offer (seen id before) p there killed (e.lacks id) (e.did id) (seen id mid) e.call (by.each id))
+            one_more p q p.action e run (seen id after)
+            (dead_says w id before.offer (seen id before) p there killed (e.lacks id) (e.did id) (seen id mid) e.call (by.each id))
             silent remains.closed (dead_run mid after run (omega (arith, born, grown)) q is remains.killed leads)
         | inr (takes, none) ↦
             let rest = out_run mid after run (omega (arith, born, grown)) none leads in
@@ -236,7 +253,8 @@ module _ {T U G C : Type 0} (w : World T G C) (id : ClientParts) where
 -- ---- every killed client of a server
 
 module _ {T U G C : Type 0} where
-  pub each_stays_killed : (w : World T G C) (table : List InterfaceRow) (run : List (Entry T U G C)) (after : ServerState T U G C) → Leads w (new_server table) run after
+  pub each_stays_killed : (w : World T G C) (table : List InterfaceRow) (run : List (Entry T U G C)) (after : ServerState T U G C)
+      → Leads w (new_server table) run after
       → EachStaysKilled w table run after
   each_stays_killed w table run after leads id done later point split first others killed =
       elim (either_option (seen id point).part killed) [

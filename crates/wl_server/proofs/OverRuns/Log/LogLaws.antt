@@ -46,7 +46,8 @@ module _ {U : Type 0} where
 
   keeps_then : (x y z : Queue) (a b : Doings U) → Keeps x a y → Keeps y b z → Keeps x (joined a b) z
   keeps_then x y z a b first second =
-      subst (λ (q : Queue). LosesNothing (a.sends ++ b.sends) x q z) (sym (ap spelled_all (messages_both a.put b.put) ∙ spelled_all-append (messages_of a.put) (messages_of b.put)))
+      subst (λ (q : Queue). LosesNothing (a.sends ++ b.sends) x q z)
+      (sym (ap spelled_all (messages_both a.put b.put) ∙ spelled_all-append (messages_of a.put) (messages_of b.put)))
       (kept_then a.sends b.sends x y z (spelled_log a.put) (spelled_log b.put) first second)
 
   keeps_so : (x y y' : Queue) (d d' : Doings U) → d' ≡ d → y' ≡ y → Keeps x d y → Keeps x d' y'
@@ -77,10 +78,13 @@ module _ {T U C : Type 0} (sends : T → Queue → Result ℕ IoFault → T → 
   sorts p q d move = grind (arith, keeps_so, puts_kept, flush_kept, out, putting, sending)
 
   moves_keep : (p q : Part T U C) (d : Doings U) → Moves (any true) sends receives client p d q → Keeps (out p) d (out q)
-  moves_keep p q d (stayed is same) = keeps_quiet (out p) (out q) d (ap (λ (e : Doings U). e.sends) is) (ap (λ (e : Doings U). e.put) is) (ap out same)
+  moves_keep p q d (stayed is same) =
+      keeps_quiet (out p) (out q) d (ap (λ (e : Doings U). e.sends) is) (ap (λ (e : Doings U). e.put) is) (ap out same)
   moves_keep p q d (followed {m = m} {a = a} {b = b} first second is) =
-      keeps_so (out p) (out q) (out q) (joined a b) d is refl (keeps_then (out p) (out m) (out q) a b (moves_keep p m a first) (moves_keep m q b second))
-  moves_keep p q d (handed_out {a = a} ids moves among is) = keeps_so (out p) (out q) (out q) (record a { handed = ids }) d is refl (moves_keep p q a moves)
+      keeps_so (out p) (out q) (out q) (joined a b) d is refl
+      (keeps_then (out p) (out m) (out q) a b (moves_keep p m a first) (moves_keep m q b second))
+  moves_keep p q d (handed_out {a = a} ids moves among is) = keeps_so (out p) (out q) (out q) (record a { handed = ids }) d is refl
+      (moves_keep p q a moves)
   moves_keep p q d (moved move) =
       elim (sorts p q d move) [
         | inl keeps ↦ keeps
@@ -107,24 +111,30 @@ module _ {T U G C : Type 0} (w : World T G C) (within' : IsWithinOffer w.sends) 
       → Alone w id offer s run t → RunKeeps waits run t
   run_keeps offer s waits [] t own is same = still s t (doings_of [] []) waits is (ap (λ (x : Seen T U C). x.part) same) refl refl
   run_keeps offer s waits (e ∷ run) t own is (mid, by, alone) =
-      let first = goes_keep w.sends w.receives id within' s mid (doings_of (handed_by id e.call e.did) e.did) waits is (call_goes true w id offer e.call s e.lacked e.did mid own.0 by (λ cleans. refl)) in
+      let first = goes_keep w.sends w.receives id within' s mid (doings_of (handed_by id e.call e.did) e.did) waits is
+      (call_goes true w id offer e.call s e.lacked e.did mid own.0 by (λ cleans. refl)) in
       let rest = run_keeps (offer_after offer e.call) mid first.after run t own.1 first.waiting alone in
-      let both = keeps_then waits first.after rest.after (doings_of (handed_by id e.call e.did) e.did) (doings_of [] (history run)) first.keeps rest.keeps in
+      let both = keeps_then waits first.after rest.after (doings_of (handed_by id e.call e.did) e.did)
+      (doings_of [] (history run)) first.keeps rest.keeps in
       let sent = ap (λ (d : Doings U). d.sends) (doings_in_both e.did (history run)) in
       let put = ap (λ (d : Doings U). d.put) (doings_in_both e.did (history run)) in
       record { after = rest.after; waiting = rest.waiting; keeps = grind (arith) }
 
-  own_log : (offer : Offer G) (transport : T) (limit : Option ℕ) (link : LinkState T) (client_data : C) (run : List (Own T U G C)) (t : Seen T U C) → IsFresh transport limit link
-      → AreMine id run → Alone w id offer (just_inserted link client_data) run t → (waits : Queue) × WaitsFor t waits × LogIsSpelled (history run) waits
+  own_log : (offer : Offer G) (transport : T) (limit : Option ℕ) (link : LinkState T) (client_data : C) (run : List (Own T U G C)) (t : Seen T U C)
+      → IsFresh transport limit link
+      → AreMine id run → Alone w id offer (just_inserted link client_data) run t
+      → (waits : Queue) × WaitsFor t waits × LogIsSpelled (history run) waits
   own_log offer transport limit link client_data run t (l, limits, fresh) own alone =
       let kept = run_keeps offer (just_inserted link client_data) link.outgoing run t own refl alone in
       let none : link.outgoing ≡ nothing = ap (λ (x : LinkState T). x.outgoing) fresh in
       let from : LosesNothing (sends_of (history run)) nothing (spelled_log (log_of (history run))) kept.after =
-      subst (λ (q : Queue). LosesNothing (sends_of (history run)) q (spelled_log (log_of (history run))) kept.after) none kept.keeps in grind (arith, gone-taken, sends_of, history)
+      subst (λ (q : Queue). LosesNothing (sends_of (history run)) q
+      (spelled_log (log_of (history run))) kept.after) none kept.keeps in grind (arith, gone-taken, sends_of, history)
 
 module _ {T U G C : Type 0} where
   pub each_log : (w : World T G C) → IsWithinOffer w.sends → (table : List InterfaceRow) (run : List (Entry T U G C)) (after : ServerState T U G C)
       → Leads w (new_server table) run after → EachLogIsSpelled run after
   each_log w within' table run after leads id transport client_data earlier later e split inserts =
       let (link, fresh, alone) = (is_isolated w table run after leads).each id transport client_data earlier later e split inserts in
-      own_log w within' id (offer_over (new_offer table) (earlier ++ e ∷ [])) transport (Some (offer_over (new_offer table) earlier).default_limit) link client_data (mine id later) (seen id after) fresh (are_mine id later) alone
+      own_log w within' id (offer_over (new_offer table) (earlier ++ e ∷ [])) transport
+      (Some (offer_over (new_offer table) earlier).default_limit) link client_data (mine id later) (seen id after) fresh (are_mine id later) alone

@@ -160,7 +160,8 @@ pub record MayRead (kind : Kind) (table : List InterfaceRow) (client : ClientPar
   pub displays : (code : ℕ) (text : List ℕ) → kind.kills (BrokeProtocol (error_of table (display_of client) code text))
   pub reads : kind.reads ≡ true
 
-pub data Move {T U C : Type 0} (kind : Kind) (sends : T → Queue → Result ℕ IoFault → T → Type 0) (receives : T → ℕ → Result Queue IoFault → T → Type 0)
+pub data Move {T U C : Type 0} (kind : Kind) (sends : T → Queue → Result ℕ IoFault → T → Type 0)
+    (receives : T → ℕ → Result Queue IoFault → T → Type 0)
     (client : ClientParts) (p : Part T U C) (d : Doings U) (q : Part T U C) : Type 0 where
   -- the link: a message was read, or the program changed the transport or a limit; a receive; messages are put, up to the
   -- first that fails; a flush
@@ -199,12 +200,14 @@ pub data Move {T U C : Type 0} (kind : Kind) (sends : T → Queue → Result ℕ
   finished : kind.finishes ≡ true → d ≡ nothing_done → q ≡ record p { action = None } → Move kind sends receives client p d q
   cleaned : kind.gathers ≡ true → d ≡ noting p.waiting → q ≡ record p { waiting = [] } → Move kind sends receives client p d q
 
-pub data Moves {T U C : Type 0} (kind : Kind) (sends : T → Queue → Result ℕ IoFault → T → Type 0) (receives : T → ℕ → Result Queue IoFault → T → Type 0)
+pub data Moves {T U C : Type 0} (kind : Kind) (sends : T → Queue → Result ℕ IoFault → T → Type 0)
+    (receives : T → ℕ → Result Queue IoFault → T → Type 0)
     (client : ClientParts) : Part T U C → Doings U → Part T U C → Type 0 where
   -- nothing, one move, or moves behind others
   stayed : {p q : Part T U C} {d : Doings U} → d ≡ nothing_done → q ≡ p → Moves kind sends receives client p d q
   moved : {p q : Part T U C} {d : Doings U} → Move kind sends receives client p d q → Moves kind sends receives client p d q
-  followed : {p m q : Part T U C} {a b d : Doings U} → Moves kind sends receives client p a m → Moves kind sends receives client m b q → d ≡ joined a b
+  followed : {p m q : Part T U C} {a b d : Doings U} → Moves kind sends receives client p a m → Moves kind sends receives client m b q
+      → d ≡ joined a b
       → Moves kind sends receives client p d q
   -- of the ids that came up on the way these are handed out
   handed_out : {p q : Part T U C} {a d : Doings U} (ids : List (HandedId IdParts)) → Moves kind sends receives client p a q
@@ -219,12 +222,16 @@ handed_by id _ did = all_action_ids (acted_in did)
 
 -- What a call does to that which does not insert the client: nothing; its part goes over moves, the notes of them behind
 -- those that were made; it is taken out, killed and with no object left; or the notes are handed out.
-pub data Goes {T U C : Type 0} (kind : Kind) (sends : T → Queue → Result ℕ IoFault → T → Type 0) (receives : T → ℕ → Result Queue IoFault → T → Type 0)
+pub data Goes {T U C : Type 0} (kind : Kind) (sends : T → Queue → Result ℕ IoFault → T → Type 0)
+    (receives : T → ℕ → Result Queue IoFault → T → Type 0)
     (client : ClientParts) : Seen T U C → Doings U → Seen T U C → Type 0 where
   unfelt : {s t : Seen T U C} {d : Doings U} → d ≡ nothing_done → t ≡ s → Goes kind sends receives client s d t
   within : {s t : Seen T U C} {d : Doings U} (p q : Part T U C) → s.part ≡ Some p → Moves kind sends receives client p d q
       → t ≡ record { part = Some q; made = s.made ++ d.notes } → Goes kind sends receives client s d t
-  taken_out : {s t : Seen T U C} {d : Doings U} (p q : Part T U C) → kind.gathers ≡ true → s.part ≡ Some p → p.is_killed ≡ true → Moves kind sends receives client p d q
-      → ((n : ℕ) → held q.store n ≡ None) → q.waiting ≡ [] → t ≡ record { part = None; made = s.made ++ d.notes } → Goes kind sends receives client s d t
-  notes_taken : {s t : Seen T U C} {d : Doings U} → kind.hands ≡ true → d ≡ record nothing_done { taken = s.made } → t ≡ record { part = s.part; made = [] }
+  taken_out : {s t : Seen T U C} {d : Doings U} (p q : Part T U C) → kind.gathers ≡ true → s.part ≡ Some p → p.is_killed ≡ true
+      → Moves kind sends receives client p d q
+      → ((n : ℕ) → held q.store n ≡ None) → q.waiting ≡ [] → t ≡ record { part = None; made = s.made ++ d.notes }
+      → Goes kind sends receives client s d t
+  notes_taken : {s t : Seen T U C} {d : Doings U} → kind.hands ≡ true → d ≡ record nothing_done { taken = s.made }
+      → t ≡ record { part = s.part; made = [] }
       → Goes kind sends receives client s d t

@@ -106,7 +106,8 @@ module _ {T U C : Type 0} (kind : Kind) (sends : T → Queue → Result ℕ IoFa
 
   -- ---- what each client feels
 
-  hears_moves : (p : Part T U C) (messages : List Said) (lacked : Bool) (did : List (Deed U)) (q : Part T U C) → Hears sends p messages lacked did q → Leads p (doings_in did) q
+  hears_moves : (p : Part T U C) (messages : List Said) (lacked : Bool) (did : List (Deed U)) (q : Part T U C) → Hears sends p messages lacked did q
+      → Leads p (doings_in did) q
   hears_moves p messages lacked did q h =
       elim (either_bool p.is_killed h) [
         | inl s ↦ stayed (ap doings_in s.1) s.2
@@ -115,11 +116,14 @@ module _ {T U C : Type 0} (kind : Kind) (sends : T → Queue → Result ℕ IoFa
             (tells_comes kind sends receives client (core_of p) messages refl) tells'
       ]
 
-  flushed_moves : (p : Part T U C) (answer : Result (Unit {0}) IoFault) (lacked : Bool) (did : List (Deed U)) (q : Part T U C) → FlushedTo sends p answer lacked did q
+  flushed_moves : (p : Part T U C) (answer : Result (Unit {0}) IoFault) (lacked : Bool) (did : List (Deed U)) (q : Part T U C)
+      → FlushedTo sends p answer lacked did q
       → Leads p (doings_in did) q
-  flushed_moves p answer lacked did q (es, link, by, no_memory, did_so, same) = moved (flushed es answer link by (ap doings_in did_so ∙ doings_sends es) same)
+  flushed_moves p answer lacked did q (es, link, by, no_memory, did_so, same) =
+      moved (flushed es answer link by (ap doings_in did_so ∙ doings_sends es) same)
 
-  flushes_moves : (p : Part T U C) (lacked : Bool) (did : List (Deed U)) (q : Part T U C) → FlushesLive sends p lacked did q → Leads p (doings_in did) q
+  flushes_moves : (p : Part T U C) (lacked : Bool) (did : List (Deed U)) (q : Part T U C) → FlushesLive sends p lacked did q
+      → Leads p (doings_in did) q
   flushes_moves p lacked did q h =
       elim (either_bool p.is_killed h) [
         | inl s ↦ stayed (ap doings_in s.1) s.2
@@ -132,19 +136,23 @@ module _ {T U C : Type 0} (kind : Kind) (sends : T → Queue → Result ℕ IoFa
   Run s d t = Goes kind sends receives client s d t
 
   -- a step that is about this client, or about another, or that each client feels
-  on_part : (s : Seen T U C) (R : Part T U C → Part T U C → Type 0) (missing : Type 0) (lacked : Bool) (did : List (Deed U)) (t : Seen T U C) (d : Doings U)
-      → d.notes ≡ notes_in did → (did ≡ [] → missing → d ≡ nothing_done) → ((p q : Part T U C) → R p q → Leads p d q) → OnPart s R missing lacked did t → Run s d t
+  on_part : (s : Seen T U C) (R : Part T U C → Part T U C → Type 0) (missing : Type 0) (lacked : Bool) (did : List (Deed U)) (t : Seen T U C)
+      (d : Doings U)
+      → d.notes ≡ notes_in did → (did ≡ [] → missing → d ≡ nothing_done) → ((p q : Part T U C) → R p q → Leads p d q)
+      → OnPart s R missing lacked did t → Run s d t
   on_part s R missing lacked did t d notes nothing moves h = grind (arith, notes_in, unfelt, within)
 
   unfelt_goes : (s : Seen T U C) (lacked : Bool) (did : List (Deed U)) (t : Seen T U C) → Unfelt s lacked did t → Run s (doings_in did) t
   unfelt_goes s lacked did t (no_memory, none, same) = unfelt (ap doings_in none) same
 
-  of_client : (b : Bool) (s : Seen T U C) (R : Part T U C → Part T U C → Type 0) (missing : Type 0) (lacked : Bool) (did : List (Deed U)) (t : Seen T U C)
+  of_client : (b : Bool) (s : Seen T U C) (R : Part T U C → Part T U C → Type 0) (missing : Type 0) (lacked : Bool) (did : List (Deed U))
+      (t : Seen T U C)
       → (b ≡ true → (p q : Part T U C) → R p q → Leads p (doings_in did) q) → OfClient b s R missing lacked did t → Run s (doings_in did) t
   of_client true s R missing lacked did t moves h = on_part s R missing lacked did t (doings_in did) refl (λ none m. ap doings_in none) (moves refl) h
   of_client false s R missing lacked did t moves h = unfelt_goes s lacked did t h
 
-for_reason : (kind : Kind) (reason : DisconnectReason) → ((e : ProtocolError) → reason ≡ BrokeProtocol e → kind.kills (BrokeProtocol e)) → kind.kills reason
+for_reason : (kind : Kind) (reason : DisconnectReason) → ((e : ProtocolError) → reason ≡ BrokeProtocol e → kind.kills (BrokeProtocol e))
+    → kind.kills reason
 for_reason kind h2 may = grind (arith)
 
 -- the call is a cleanup that succeeds, so notes that wait are made
@@ -173,21 +181,26 @@ module _ {T U G C : Type 0} (kind : Kind) (w : World T G C) (id : ClientParts) (
   abbrev To : Seen T U C → List (Deed U) → Seen T U C → Type 0
   To s did t = Goes kind w.sends w.receives id s (doings_in did) t
 
-  global_goes : (i : InterfaceId) (version : ℕ) (handler : G) (r : Result GlobalParts GlobalError) (s : Seen T U C) (lacked : Bool) (did : List (Deed U)) (t : Seen T U C)
+  global_goes : (i : InterfaceId) (version : ℕ) (handler : G) (r : Result GlobalParts GlobalError) (s : Seen T U C) (lacked : Bool)
+      (did : List (Deed U)) (t : Seen T U C)
       → FeelsGlobal w id offer i version handler r s lacked did t → To s did t
   global_goes i version handler r s lacked did t h1 = grind (arith, on_part, doings_in, hears_moves, unfelt_goes)
 
-  loss_goes : (g : GlobalParts) (s : Seen T U C) (lacked : Bool) (did : List (Deed U)) (t : Seen T U C) → FeelsLoss w id offer g s lacked did t → To s did t
+  loss_goes : (g : GlobalParts) (s : Seen T U C) (lacked : Bool) (did : List (Deed U)) (t : Seen T U C) → FeelsLoss w id offer g s lacked did t
+      → To s did t
   loss_goes g s lacked did t h = grind (arith, either_bool, on_part, doings_in, hears_moves, unfelt_goes)
 
-  flushed_goes : (target : Option ClientParts) (answer : Result (Unit {0}) IoFault) (s : Seen T U C) (lacked : Bool) (did : List (Deed U)) (t : Seen T U C)
+  flushed_goes : (target : Option ClientParts) (answer : Result (Unit {0}) IoFault) (s : Seen T U C) (lacked : Bool) (did : List (Deed U))
+      (t : Seen T U C)
       → FlushedFor w id offer target answer s lacked did t → To s did t
   flushed_goes None answer s lacked did t (is, h) = grind (arith, on_part, doings_in, flushes_moves)
   flushed_goes (Some target) answer s lacked did t h =
-      of_client kind w.sends w.receives id (same_client target id) s _ _ lacked did t (λ mine p q f. flushed_moves kind w.sends w.receives id p answer lacked did q f) h
+      of_client kind w.sends w.receives id (same_client target id) s _ _ lacked did t
+      (λ mine p q f. flushed_moves kind w.sends w.receives id p answer lacked did q f) h
 
   -- a killed client is taken out: its notes are made, its objects leave, and what waits is flushed
-  cleaned_goes : (s : Seen T U C) (p : Part T U C) → kind.gathers ≡ true → s.part ≡ Some p → (lacked : Bool) (did : List (Deed U)) (out : List T) (q : Option (Part T U C)) (t : Seen T U C)
+  cleaned_goes : (s : Seen T U C) (p : Part T U C) → kind.gathers ≡ true → s.part ≡ Some p
+      → (lacked : Bool) (did : List (Deed U)) (out : List T) (q : Option (Part T U C)) (t : Seen T U C)
       → Cleaned w.sends id p lacked did out q → t ≡ record { part = q; made = s.made ++ notes_in did } → To s did t
   cleaned_goes s p on there lacked did out q t h same =
       elim (cases_Bool p.is_killed) [
@@ -208,11 +221,13 @@ module _ {T U G C : Type 0} (kind : Kind) (w : World T G C) (id : ClientParts) (
       ]
 
   cleanup_goes : (answer : Result (Vec (ClientParts × T) Global) OutOfMemory) (s : Seen T U C) (lacked : Bool) (did : List (Deed U)) (t : Seen T U C)
-      → (gathers_in {T = T} {U = U} {G = G} {C = C} (Asked step.Cleanup (reply.Cleanup answer)) ≡ true → kind.gathers ≡ true) → CleanedAs w id offer answer s lacked did t → To s did t
+      → (gathers_in {T = T} {U = U} {G = G} {C = C} (Asked step.Cleanup (reply.Cleanup answer)) ≡ true → kind.gathers ≡ true)
+      → CleanedAs w id offer answer s lacked did t → To s did t
   cleanup_goes answer s lacked did t h1 h2 = grind (arith, unfelt_goes, either_option, cleaned_goes)
 
   taken_goes : (answer : Result (Vec (Note U) Global) OutOfMemory) (s : Seen T U C) (lacked : Bool) (did : List (Deed U)) (t : Seen T U C)
-      → (hands_in {T = T} {U = U} {G = G} {C = C} (Asked step.TakeNotes (reply.TakeNotes answer)) ≡ true → kind.hands ≡ true) → NotesTaken w id offer answer s lacked did t → To s did t
+      → (hands_in {T = T} {U = U} {G = G} {C = C} (Asked step.TakeNotes (reply.TakeNotes answer)) ≡ true → kind.hands ≡ true)
+      → NotesTaken w id offer answer s lacked did t → To s did t
   taken_goes h1 s lacked did t on h = grind (arith, unfelt_goes, notes_taken, doings_in, doings_taken)
 
   moved_goes : (target : ClientParts) (m : Move) (answer : Moved) (s : Seen T U C) (lacked : Bool) (did : List (Deed U)) (t : Seen T U C)
@@ -222,7 +237,8 @@ module _ {T U G C : Type 0} (kind : Kind) (w : World T G C) (id : ClientParts) (
       (λ mine p q (no_memory, none, with'). (moved (relinked (with_transport p.link with'.0) refl refl (λ unread. refl)
       (ap doings_in none) with'.2))) h
 
-  reads_goes : (target : ClientParts) → (same_client target id ≡ true → MayRead kind offer.table id) → (r : _) (answer : _) (r' : _) (s : Seen T U C) (lacked : Bool) (did : List (Deed U)) (t : Seen T U C)
+  reads_goes : (target : ClientParts) → (same_client target id ≡ true → MayRead kind offer.table id)
+      → (r : _) (answer : _) (r' : _) (s : Seen T U C) (lacked : Bool) (did : List (Deed U)) (t : Seen T U C)
       → ReadsFor w id offer target r answer r' s lacked did t → To s did t
   reads_goes target may r answer r' s lacked did t h =
       of_client kind w.sends w.receives id (same_client target id) s _ _ lacked did t
@@ -243,16 +259,21 @@ module _ {T U G C : Type 0} (kind : Kind) (w : World T G C) (id : ClientParts) (
       → is_about id call ≡ true → Permits (Asked call answer) → PartStep w id offer call answer s lacked did t
       → Handed (Asked call answer) s did t
   step_goes (step.InsertClient transport client_data) answer s lacked did t about may h = absurd (true≢false (sym about))
-  step_goes (step.SetObjectData o u) answer s lacked did t about may (r, is, h) = grind (arith, of_client, same_doings, nothing_done, doings_in, named, stayed, writes, named_is_held)
+  step_goes (step.SetObjectData o u) answer s lacked did t about may (r, is, h) =
+      grind (arith, of_client, same_doings, nothing_done, doings_in, named, stayed, writes, named_is_held)
   step_goes (step.CreateObject target i version u) answer s lacked did t about may (r, is, h) =
       grind (arith, made_ids, doings_of, on_part, creates_moves, unfelt)
   step_goes (step.DestroyObject o) answer s lacked did t about may (r, is, h) = grind (arith, of_client, same_client, destroys_moves)
   step_goes (step.SendEvent m) answer s lacked did t about may (r, is, h) =
-      of_client kind w.sends w.receives id (same_client m.sender_id.client id) s _ _ lacked did t (λ mine p q d. sends_moves kind w.sends w.receives id offer.table p _ r lacked did q d) h
+      of_client kind w.sends w.receives id (same_client m.sender_id.client id) s _ _ lacked did t
+      (λ mine p q d. sends_moves kind w.sends w.receives id offer.table p _ r lacked did q d) h
   step_goes (step.PostError o code text) answer s lacked did t about may (is, h) =
-      of_client kind w.sends w.receives id (same_client o.client id) s _ _ lacked did t (λ mine p q d. posts_moves kind w.sends w.receives id offer.table p o _ _ lacked did q (may.kills _ (mine, refl)) d) h
+      of_client kind w.sends w.receives id (same_client o.client id) s _ _ lacked did t
+      (λ mine p q d. posts_moves kind w.sends w.receives id offer.table p o _ _ lacked did q (may.kills _ (mine, refl)) d) h
   step_goes (step.KillClient target reason) answer s lacked did t about may (is, h) =
-      of_client kind w.sends w.receives id (same_client target id) s _ _ lacked did t (λ mine p q (no_memory, k). kills_moves kind w.sends w.receives id p reason did q (for_reason kind reason (λ e is. may.kills e (mine, is))) k) h
+      of_client kind w.sends w.receives id (same_client target id) s _ _ lacked did t
+      (λ mine p q (no_memory, k). kills_moves kind w.sends w.receives id p reason did q
+      (for_reason kind reason (λ e is. may.kills e (mine, is))) k) h
   step_goes (step.CreateGlobal i version handler) answer s lacked did t about may (r, is, h) = global_goes i _ handler r s lacked did t h
   step_goes (step.DisableGlobal g) answer s lacked did t about may (is, h) = loss_goes g s lacked did t h
   step_goes (step.RemoveGlobal g) answer s lacked did t about may (is, h) = loss_goes g s lacked did t h
@@ -261,8 +282,10 @@ module _ {T U G C : Type 0} (kind : Kind) (w : World T G C) (id : ClientParts) (
       of_client kind w.sends w.receives id (same_client target id) s _ _ lacked did t
       (λ mine p q (no_memory, none, (link, (l, limits, set), same)). moved (relinked link (ap (λ (k : LinkState T). k.outgoing) set) (ap (λ (k : LinkState T). k.outgoing_capacity) set)
       (λ unread. ap (λ (k : LinkState T). k.incoming) set) (ap doings_in none) same)) h
-  step_goes (step.NextAction target) answer s lacked did t about may (r, left, is, h) = reads_goes target (λ mine. record { displays = λ code text. may.kills _ (mine, (code, text, refl)); reads = may.reads mine }) _ _ left s lacked did t h
-  step_goes (step.NextActionWithin target reading) answer s lacked did t about may (r, left, is, h) = reads_goes target (λ mine. record { displays = λ code text. may.kills _ (mine, (code, text, refl)); reads = may.reads mine }) reading _ left s lacked did t h
+  step_goes (step.NextAction target) answer s lacked did t about may (r, left, is, h) = reads_goes target
+      (λ mine. record { displays = λ code text. may.kills _ (mine, (code, text, refl)); reads = may.reads mine }) _ _ left s lacked did t h
+  step_goes (step.NextActionWithin target reading) answer s lacked did t about may (r, left, is, h) = reads_goes target
+      (λ mine. record { displays = λ code text. may.kills _ (mine, (code, text, refl)); reads = may.reads mine }) reading _ left s lacked did t h
   step_goes (step.FinishRequest target u) answer s lacked did t about may (r, is, h) = grind (arith, of_client, same_client, finishes_moves)
   step_goes (step.FinishBind target u) answer s lacked did t about may (r, is, h) = grind (arith, of_client, same_client, finishes_bind_moves)
   step_goes step.Cleanup answer s lacked did t about may (r, is, h) = grind (arith, cleanup_goes, gathers_in)
@@ -285,7 +308,8 @@ module _ {T U G C : Type 0} (kind : Kind) (w : World T G C) (id : ClientParts) (
   abbrev pub AnyGoes : Seen T U C → List (Deed U) → Seen T U C → Type 0
   AnyGoes s did t =
       ((ids : List (HandedId IdParts)) × Goes kind w.sends w.receives id s (doings_of ids did) t)
-      ⊎ ((p : Part T U C) × (p.waiting ≡ []) × (p.link.incoming.bytes ≡ []) × (did ≡ Noted Initialized ∷ []) × (t ≡ record { part = Some p; made = s.made ++ Initialized ∷ [] }))
+      ⊎ ((p : Part T U C) × (p.waiting ≡ []) × (p.link.incoming.bytes ≡ []) × (did ≡ Noted Initialized ∷ [])
+      × (t ≡ record { part = Some p; made = s.made ++ Initialized ∷ [] }))
 
   unfelt_any : (s : Seen T U C) (lacked : Bool) (did : List (Deed U)) (t : Seen T U C) → Unfelt s lacked did t → AnyGoes s did t
   unfelt_any s lacked did t (no_memory, none, same) = inl ([], unfelt (ap (doings_of []) none) same)
@@ -306,8 +330,10 @@ module _ {T U G C : Type 0} (kind : Kind) (w : World T G C) (id : ClientParts) (
       ]
 
 -- the same for whatever reason
-pub call_goes : {T U G C : Type 0} (gathers : Bool) (w : World T G C) (id : ClientParts) (offer : Offer G) (call : Call T U G C) (s : Seen T U C) (lacked : Bool) (did : List (Deed U))
-    (t : Seen T U C) → concerns id call ≡ true → PartCall w id offer call s lacked did t → (gathers_in call ≡ true → gathers ≡ true) → Handed (any gathers) w id offer call s did t
+pub call_goes : {T U G C : Type 0} (gathers : Bool) (w : World T G C) (id : ClientParts) (offer : Offer G) (call : Call T U G C) (s : Seen T U C)
+    (lacked : Bool) (did : List (Deed U))
+    (t : Seen T U C) → concerns id call ≡ true → PartCall w id offer call s lacked did t → (gathers_in call ≡ true → gathers ≡ true)
+    → Handed (any gathers) w id offer call s did t
 call_goes gathers w id offer call s lacked did t about h on =
     call_moves (any gathers) w id offer call s lacked did t about
     (record { kills = λ e may. tt; gathers = on; hands = λ is. refl; reads = λ is. refl; finishes = λ is. refl }) h

@@ -34,7 +34,8 @@ module _ {U : Type 0} where
   abbrev pub doings_in : List (Deed U) → Doings U
   doings_in did = doings_of (all_action_ids (acted_in did)) did
 
-  doings_both : (ids others : List (HandedId IdParts)) (a b : List (Deed U)) → doings_of (ids ++ others) (a ++ b) ≡ joined (doings_of ids a) (doings_of others b)
+  doings_both : (ids others : List (HandedId IdParts)) (a b : List (Deed U))
+      → doings_of (ids ++ others) (a ++ b) ≡ joined (doings_of ids a) (doings_of others b)
   doings_both ids others [] b = refl
   doings_both ids others (d ∷ a) b = grind (arith, doings_both ids others a b, d)
 

@@ -54,7 +54,8 @@ module _ {U : Type 0} where
   left_deeds client waits id x = cond waits [] (map Noted (note_of_end client id.number x)) ++ left_if (id_of id) x.value.user_data
 
   -- an object left in what the core came to, and else nothing happened; the deeds are among what is handed out, where it is gone
-  abbrev pub leaving_by : {C : Type 0} → ClientParts → Core U C → Core U C → Bool → Bool → IdParts → Object (Kept U) → List Said → Verdict (Core U C) (Told U)
+  abbrev pub leaving_by : {C : Type 0} → ClientParts → Core U C → Core U C → Bool → Bool → IdParts → Object (Kept U) → List Said
+      → Verdict (Core U C) (Told U)
   leaving_by client e starved waits asks id x puts = record (tells e puts) {
     asks = asks;
     starved = starved;
@@ -70,7 +71,8 @@ not_zero n least zero = omega (arith, least, zero)
 
 module _ {U : Type 0} where
   -- what a check grants is the object that the id names
-  pub granted_named : (client : ClientParts) (store : Store (Kept U)) (table : List InterfaceRow) (m : SessionMessage) (g : Object (Kept U) × Bool) → event_check client store table m ≡ Ok g
+  pub granted_named : (client : ClientParts) (store : Store (Kept U)) (table : List InterfaceRow) (m : SessionMessage) (g : Object (Kept U) × Bool)
+      → event_check client store table m ≡ Ok g
       → named store m.sender ≡ Some g.0
   granted_named client store table m g e = grind (arith, named, granted, true≢false, is_ok, checked_row, argument_faults, checked_sender)
 
@@ -96,7 +98,8 @@ module _ {T U C : Type 0} (kind : Kind) (sends : T → Queue → Result ℕ IoFa
       → d ≡ handing (New (id_at client n x) ∷ []) → q ≡ record p { store = stored p.store n x; last_serial = p.last_serial + 1 } → Move p d q
   bears n x free ne serial made same = moved (born n x free ne serial made same)
 
-  pub creates_moves : (table : List InterfaceRow) (p : Part T U C) (i : InterfaceId) (version : ℕ) (u : U) (answer : Result IdParts CreateError) (q : Part T U C)
+  pub creates_moves : (table : List InterfaceRow) (p : Part T U C) (i : InterfaceId) (version : ℕ) (u : U) (answer : Result IdParts CreateError)
+      (q : Part T U C)
       → Creates table client p i version u answer q → Move p (handing (made_ids answer)) q
   creates_moves table p i version u answer q h = grind (arith, slice_get, eqb, last_possible_serial, bears, new_object, not_zero, handing, stayed)
 
@@ -105,7 +108,8 @@ module _ {T U C : Type 0} (kind : Kind) (sends : T → Queue → Result ℕ IoFa
   leaves_comes : (c e starved : Core U C) (waits asks : Bool) (id : IdParts) (x : Object (Kept U)) (puts : List Said) → c.ended ≡ None
       → named c.store id ≡ Some x
       → e.ended ≡ None → held e.store id.number ≡ None
-      → ((l : LinkState T) → Move (left_by client waits (at kind sends receives client c l) id.number x) nothing_done (at kind sends receives client e l))
+      → ((l : LinkState T) → Move (left_by client waits (at kind sends receives client c l) id.number x) nothing_done
+      (at kind sends receives client e l))
       → (starved ≡ closed_down e) ⊎ (starved ≡ c) → Come c (leaving_by client e starved waits asks id x puts)
   leaves_comes c e starved waits asks id x puts none is none_then gone moves back = (
     did,
@@ -126,7 +130,8 @@ module _ {T U C : Type 0} (kind : Kind) (sends : T → Queue → Result ℕ IoFa
   closes_comes c v (made, lands, events, quiet, last, starved) =
       (made, lands_killed kind sends receives client c made v.core ConnectionClosed kind.closes lands, events, quiet, inl refl, inl refl)
 
-  pub destroys_moves : (p : Part T U C) (id : IdParts) (answer : Result (Unit {0}) DestroyError) (lacked : Bool) (did : List (Deed U)) (q : Part T U C)
+  pub destroys_moves : (p : Part T U C) (id : IdParts) (answer : Result (Unit {0}) DestroyError) (lacked : Bool) (did : List (Deed U))
+      (q : Part T U C)
       → Destroys sends client p id answer lacked did q → Move p (doings_in did) q
   destroys_moves p id answer lacked did q h =
       elim (either_option (destroyable p id) h) [
@@ -150,7 +155,8 @@ module _ {T U C : Type 0} (kind : Kind) (sends : T → Queue → Result ℕ IoFa
       comes_silently kind sends receives client c (posts table c id code text) (lands_not kind sends receives client c none) (λ e. refl)
       (inr (BrokeProtocol (error_of table id code text), may, refl)) refl
 
-  pub posts_moves : (table : List InterfaceRow) (p : Part T U C) (id : IdParts) (code : ℕ) (text : List ℕ) (lacked : Bool) (did : List (Deed U)) (q : Part T U C)
+  pub posts_moves : (table : List InterfaceRow) (p : Part T U C) (id : IdParts) (code : ℕ) (text : List ℕ) (lacked : Bool) (did : List (Deed U))
+      (q : Part T U C)
       → kind.kills (BrokeProtocol (error_of table id code text)) → PostsError sends table p id code text lacked did q → Move p (doings_in did) q
   posts_moves table p id code text lacked did q may h =
       elim (either_bool (eqb id.number 0) h) [
@@ -159,7 +165,8 @@ module _ {T U C : Type 0} (kind : Kind) (sends : T → Queue → Result ℕ IoFa
             (posts_comes table (core_of p) id code text may refl) tells'
       ]
 
-  pub kills_moves : (p : Part T U C) (reason : DisconnectReason) (did : List (Deed U)) (q : Part T U C) → kind.kills reason → Kills p reason did q → Move p (doings_in did) q
+  pub kills_moves : (p : Part T U C) (reason : DisconnectReason) (did : List (Deed U)) (q : Part T U C) → kind.kills reason → Kills p reason did q
+      → Move p (doings_in did) q
   kills_moves p reason did q may (is, same) =
       rw (is, same)
       (same_doings kind sends receives client _ _ _ _ (grind (arith, (killed (core_of p) reason).ended))
@@ -181,7 +188,8 @@ module _ {T U C : Type 0} (kind : Kind) (sends : T → Queue → Result ℕ IoFa
     ends_closed_comes c false none is = closes_comes c (ends_sender client c m sender false) (ends_sender_comes c false none is)
     ends_closed_comes c true none is = closes_comes c (ends_sender client c m sender true) (ends_sender_comes c true none is)
 
-    module _ (p : Part T U C) (b : Bool) (es : List Sending) (link : LinkState T) (answer : Result (Unit {0}) EventError) (lacked : Bool) (rest did : List (Deed U)) (q : Part T U C)
+    module _ (p : Part T U C) (b : Bool) (es : List Sending) (link : LinkState T) (answer : Result (Unit {0}) EventError) (lacked : Bool)
+        (rest did : List (Deed U)) (q : Part T U C)
         (is : named p.store m.sender ≡ Some sender) (did_so : did ≡ map Sent es ++ rest) where
       -- the event was written so, and then a verdict was carried out
       then_tells : (put : List Said) (w : Result (Unit {0}) IoFault) (v : Verdict (Core U C) (Told U)) (more : List (Deed U))
@@ -192,7 +200,8 @@ module _ {T U C : Type 0} (kind : Kind) (sends : T → Queue → Result ℕ IoFa
           (tells_moves kind sends receives client (with_link p link) v lacked more q comes tells')
           (rw (did_so, rest_so) (grind (arith, doings_in_both, doings_sends, doings_puts, joined, putting, sending)))
 
-      sent_moves : (w : Result (Unit {0}) IoFault) → WroteBy sends p.link (wire_message m) es w link → SentAs sends client p m sender b w link answer lacked rest q
+      sent_moves : (w : Result (Unit {0}) IoFault) → WroteBy sends p.link (wire_message m) es w link
+          → SentAs sends client p m sender b w link answer lacked rest q
           → Move p (doings_in did) q
       sent_moves (Ok u) by (more, tells', is_ok', rest_so) =
           then_tells (said m ∷ []) (Ok tt) (ends_sender client (core_of p) m sender b) more
@@ -206,14 +215,16 @@ module _ {T U C : Type 0} (kind : Kind) (sends : T → Queue → Result ℕ IoFa
           then_tells [] (Err f) (ends_closed client (core_of p) m sender b) rest
           (es, Err f, link, inl by, (refl, refl, refl, refl)) refl (ends_closed_comes (core_of p) b refl is) h.0
 
-  pub sends_moves : (table : List InterfaceRow) (p : Part T U C) (m : SessionMessage) (answer : Result (Unit {0}) EventError) (lacked : Bool) (did : List (Deed U)) (q : Part T U C)
+  pub sends_moves : (table : List InterfaceRow) (p : Part T U C) (m : SessionMessage) (answer : Result (Unit {0}) EventError) (lacked : Bool)
+      (did : List (Deed U)) (q : Part T U C)
       → SendsEvent sends client table p m answer lacked did q → Move p (doings_in did) q
   sends_moves table p m answer lacked did q h1 = grind (arith, either_bool, stays, event_check, doings_in, sent_moves, granted_named, stayed, named, granted, true≢false, is_ok, checked_row, argument_faults, checked_sender)
 
   -- ---- the end of an action
 
   -- the object that the action made gets the data, if it is still kept
-  data_moves : (p : Part T U C) (created : Option IdParts) (u : Option U) → Move p nothing_done (record p { store = store_with_data p.store created u })
+  data_moves : (p : Part T U C) (created : Option IdParts) (u : Option U)
+      → Move p nothing_done (record p { store = store_with_data p.store created u })
   data_moves p created u = grind (arith, stayed, named, nothing_done, data_given, writes, named_is_held)
 
   ends_comes : kind.finishes ≡ true → (c : Core U C) (id : IdParts) (o : Option (Object (Kept U))) (created : Option IdParts) (u : Option U)
@@ -229,7 +240,8 @@ module _ {T U C : Type 0} (kind : Kind) (sends : T → Queue → Result ℕ IoFa
       (λ l. (followed (data_moves (at kind sends receives client (without c id.number x) l) created u) (moved (finished may refl refl)) refl))
       (inr refl)
 
-  pub finishes_moves : kind.finishes ≡ true → (p : Part T U C) (u : Option U) (answer : Result (Unit {0}) (FinishRefused (Option U))) (lacked : Bool) (did : List (Deed U)) (q : Part T U C)
+  pub finishes_moves : kind.finishes ≡ true → (p : Part T U C) (u : Option U) (answer : Result (Unit {0}) (FinishRefused (Option U))) (lacked : Bool)
+      (did : List (Deed U)) (q : Part T U C)
       → FinishesRequest sends client p u answer lacked did q → Move p (doings_in did) q
   finishes_moves may p u answer lacked did q h =
       elim (either_option p.action h) [
@@ -245,7 +257,8 @@ module _ {T U C : Type 0} (kind : Kind) (sends : T → Queue → Result ℕ IoFa
             ]
       ]
 
-  pub finishes_bind_moves : kind.finishes ≡ true → (p : Part T U C) (u : U) (answer : Result (Unit {0}) (FinishRefused U)) (lacked : Bool) (did : List (Deed U)) (q : Part T U C)
+  pub finishes_bind_moves : kind.finishes ≡ true
+      → (p : Part T U C) (u : U) (answer : Result (Unit {0}) (FinishRefused U)) (lacked : Bool) (did : List (Deed U)) (q : Part T U C)
       → FinishesBind p u answer lacked did q → Move p (doings_in did) q
   finishes_bind_moves may p u answer lacked did q h =
       elim (either_option p.action h) [

@@ -47,7 +47,8 @@ module _ {T U G C : Type 0} (kind : Kind) (sends : T → Queue → Result ℕ Io
   Read before turns out after = Step (part_of before) (doings_in (deeds_of (exchanges_in turns) out.gave after.core)) (part_of after)
 
   -- nothing more was read, or the client was read on
-  over_or_on : (left : ℕ) (mid after : ReaderState T (Core U C)) (turns : List Turn) (rest : Gives (Told U)) → Reads sends (server a) receives left mid turns rest after
+  over_or_on : (left : ℕ) (mid after : ReaderState T (Core U C)) (turns : List Turn) (rest : Gives (Told U))
+      → Reads sends (server a) receives left mid turns rest after
       → ((turns ≡ []) × (after ≡ mid) × (rest.gave ≡ [])) ⊎ (reads_on mid.core ≡ true)
   over_or_on left mid after [] rest (same, ends) = inl (refl, same, gave_none sends a left mid rest ends)
   over_or_on left mid after (turn ∷ turns) rest h = inr (grind (arith, turn, h))
@@ -73,7 +74,8 @@ module _ {T U G C : Type 0} (kind : Kind) (sends : T → Queue → Result ℕ Io
   faulted_lands c f none =
       lands_killed kind sends receives a.client c [] c ConnectionClosed kind.closes (lands_not kind sends receives a.client c none)
 
-  pub reads_moves : MayRead kind a.table a.client → (left : ℕ) (before : ReaderState T (Core U C)) (turns : List Turn) (out : Gives (Told U)) (after : ReaderState T (Core U C))
+  pub reads_moves : MayRead kind a.table a.client
+      → (left : ℕ) (before : ReaderState T (Core U C)) (turns : List Turn) (out : Gives (Told U)) (after : ReaderState T (Core U C))
       → before.core.ended ≡ None → Reads sends (server a) receives left before turns out after → Read before turns out after
   reads_moves may left before [] out after none (same, ends) = grind (arith, part_of, doings_in, deeds_of, stayed, gave_none, end_deeds)
   reads_moves may left before (Received r ∷ turns) out after none (on, lacks, (n, is, (link, filled, room, h))) =
@@ -98,6 +100,7 @@ module _ {T U G C : Type 0} (kind : Kind) (sends : T → Queue → Result ℕ Io
 
   -- ---- a reading
 
-  pub next_action_moves : MayRead kind a.table a.client → (r : Reading) (p : Part T U C) (answer : Result Handed ActionError) (r' : Reading) (lacked : Bool) (did : List (Deed U)) (q : Part T U C)
+  pub next_action_moves : MayRead kind a.table a.client
+      → (r : Reading) (p : Part T U C) (answer : Result Handed ActionError) (r' : Reading) (lacked : Bool) (did : List (Deed U)) (q : Part T U C)
       → NextAction sends receives a r p answer r' lacked did q → Step p (doings_in did) q
   next_action_moves may r p answer r' lacked did q h = grind (arith, stayed, doings_in, part_of, reads_moves, reader_part)

@@ -59,7 +59,8 @@ module _ {U : Type 0} (P : List (HandedId IdParts) → Objects (Kept U) → Type
   abbrev One : List (HandedId IdParts) → Converting U → Converted U → Type 0
   One ids d (Ok next) =
       P (ids ++ argument_ids (next.0 ∷ [])) next.1.objects
-      × ((id : HandedId IdParts) → IsAmong (created_ids next.1.created) id → IsAmong (created_ids d.created) id ⊎ IsAmong (argument_ids (next.0 ∷ [])) id)
+      × ((id : HandedId IdParts) → IsAmong (created_ids next.1.created) id
+      → IsAmong (created_ids d.created) id ⊎ IsAmong (argument_ids (next.0 ∷ [])) id)
   One ids d (Err wrong) = Unit {0}
 
   abbrev pub SoFar : Converting U → List (Argument IdParts Token) → Type 0
@@ -77,10 +78,12 @@ module _ {U : Type 0} (client : ClientParts) (version : ℕ) (P : List (HandedId
     → P (ids ++ Found (id_at client n x) ∷ []) o)
     (finds_none : (ids : List (HandedId IdParts)) (o : Objects (Kept U)) → P ids o → P (ids ++ Found (null_id client) ∷ []) o) where
   converts_object : (ids : List (HandedId IdParts)) (d : Converting U) (null : Bool) (asked : InterfaceId) (n : ℕ) (b : Bool) → P ids d.objects
-      → One P ids d (with_object_argument d (cond b (cond null (Ok (null_id client)) (Err wrong.NullObject)) (object_found client asked n (held d.objects.store n))))
+      → One P ids d (with_object_argument d (cond b (cond null (Ok (null_id client)) (Err wrong.NullObject))
+      (object_found client asked n (held d.objects.store n))))
   converts_object ids d null asked n b so = grind (arith, with_object_argument, finds, fits, held, finds_none)
 
-  converts_new : (ids : List (HandedId IdParts)) (d : Converting U) (n : ℕ) (child : Option InterfaceId) → P ids d.objects → One P ids d (with_new_argument client version d n child)
+  converts_new : (ids : List (HandedId IdParts)) (d : Converting U) (n : ℕ) (child : Option InterfaceId) → P ids d.objects
+      → One P ids d (with_new_argument client version d n child)
   converts_new ids d n None so = tt
   converts_new ids d n (Some i) so = grind (arith, is_valid_new, made_id, with_made, kinds_after, makes)
 
@@ -91,7 +94,8 @@ module _ {U : Type 0} (client : ClientParts) (version : ℕ) (P : List (HandedId
   goes_on d done args rest (Ok next) (one, more) (so, among) = grind (arith, argument_ids_both, among_first, argument_ids, among_later)
   goes_on d done args rest (Err w) one (so, among) = (argument_ids done, so)
 
-  pub converts : (d : Converting U) (done : List (Argument IdParts Token)) (args : List WireArgument) → SoFar P d done → Came P (convert client version d done args)
+  pub converts : (d : Converting U) (done : List (Argument IdParts Token)) (args : List WireArgument) → SoFar P d done
+      → Came P (convert client version d done args)
   converts d done [] so = so
   converts d done (x ∷ args) so =
       goes_on d done args (λ next more so-far. converts next more args so-far) (convert_one client version d x)
@@ -142,7 +146,8 @@ module _ {T U G C : Type 0} (kind : Kind) (sends : T → Queue → Result ℕ Io
   replies_comes : (c m : Core U C) (did : List (Deed U)) → Lead c did m → IsQuiet did → Come c (replies m [] did)
   replies_comes c m did lead quiet = (did, lead, λ e same. told_did did (stops_if e) (told_stops e), quiet, inl refl, inl refl)
 
-  hands_out_comes : (c m : Core U C) (action : OpenAction) (h : Handed) → Lead c (Acted h ∷ []) (record m { action = Some action }) → Come c (hands_out m action h)
+  hands_out_comes : (c m : Core U C) (action : OpenAction) (h : Handed) → Lead c (Acted h ∷ []) (record m { action = Some action })
+      → Come c (hands_out m action h)
   hands_out_comes c m action h lead = (Acted h ∷ [], lead, λ e same. refl, (refl, refl), inl refl, inl refl)
 
   -- ---- requests to a display and to a registry

@@ -134,7 +134,8 @@ module _ {T U C : Type 0} (kind : Kind) (sends : T → Queue → Result ℕ IoFa
           (ap (λ (a : ReaderState T (Core U C)). a.core) same)
 
   -- what is told to a client: a verdict on its part, and its deeds
-  pub tells_moves : (p : Part T U C) (v : Verdict (Core U C) (Told U)) (refused : Bool) (did : List (Deed U)) (after : Part T U C) → Comes (core_of p) v
+  pub tells_moves : (p : Part T U C) (v : Verdict (Core U C) (Told U)) (refused : Bool) (did : List (Deed U)) (after : Part T U C)
+      → Comes (core_of p) v
       → Tells sends v p.link refused did after → Go p (doings_in did) after
   tells_moves p v refused did after comes (es, gave, end, by, is, same) =
       rw (is, same) (carried speaker (λ d f. refl) (core_of p) v comes refl p.link es gave end.core end.link refused by).0

@@ -50,7 +50,8 @@ module _ {U : Type 0} (P : ProtocolError → Type 0) where
 abbrev killing : (ProtocolError → Type 0) → Kind
 killing P = record { gathers = true; hands = true; reads = true; finishes = true; kills = λ reason. (e : ProtocolError) → reason ≡ BrokeProtocol e → P e; closes = λ e is. absurd (grind (arith)) }
 
-module _ {T U C : Type 0} (P : ProtocolError → Type 0) (sends : T → Queue → Result ℕ IoFault → T → Type 0) (receives : T → ℕ → Result Queue IoFault → T → Type 0) (client : ClientParts) where
+module _ {T U C : Type 0} (P : ProtocolError → Type 0) (sends : T → Queue → Result ℕ IoFault → T → Type 0)
+    (receives : T → ℕ → Result Queue IoFault → T → Type 0) (client : ClientParts) where
   -- no other error is noted, or waits
   abbrev Keep : Part T U C → Doings U → Part T U C → Type 0
   Keep p d q = Tell P p.waiting → Tell P d.notes × Tell P q.waiting
@@ -73,7 +74,8 @@ module _ {T U C : Type 0} (P : ProtocolError → Type 0) (sends : T → Queue �
   goes_held : (s t : Seen T U C) (d : Doings U) → Held s → Goes (killing P) sends receives client s d t → Held t
   goes_held s t d held (unfelt none same) = subst Held (sym same) held
   goes_held s t d held (within p q there moves same) = grind (arith, tell_both P s.made d.notes, moves_keep p q d moves)
-  goes_held s t d held (taken_out p q on there killed moves none noted same) = grind (arith, tell_none, tell_both P s.made d.notes, moves_keep p q d moves)
+  goes_held s t d held (taken_out p q on there killed moves none noted same) =
+      grind (arith, tell_none, tell_both P s.made d.notes, moves_keep p q d moves)
   goes_held s t d held (notes_taken on is same) = grind (arith, tell_none)
 
 -- ---- calls and runs
@@ -88,7 +90,8 @@ module _ {T U G C : Type 0} (w : World T G C) where
         | inr (p, none, empty, did_so, same) ↦ (grind (arith, tell_none, tell_both, tell_one {U = U} P Initialized))
       ]
 
-  pub each_call_causes : (before after : ServerState T U G C) (e : Entry T U G C) → OneStep w before e after → (id : ClientParts) (error : ProtocolError)
+  pub each_call_causes : (before after : ServerState T U G C) (e : Entry T U G C) → OneStep w before e after
+      → (id : ClientParts) (error : ProtocolError)
       → TellsError (seen id after) error → TellsError (seen id before) error ⊎ MayKillFor before.offer.table id e.call error
   each_call_causes before after e by id error tell =
       let s = seen id before in
@@ -103,6 +106,7 @@ module _ {T U G C : Type 0} (w : World T G C) where
   over_run before after [] leads id error tell = inl (subst (λ (s : ServerState T U G C). TellsError (seen id s) error) leads tell)
   over_run before after (e ∷ run) (mid, by, leads) id error tell = grind (arith, each_call_causes, over_run mid after run leads id error tell)
 
-  pub each_error_is_caused : (table : List InterfaceRow) (run : List (Entry T U G C)) (after : ServerState T U G C) → Leads w (new_server table) run after
+  pub each_error_is_caused : (table : List InterfaceRow) (run : List (Entry T U G C)) (after : ServerState T U G C)
+      → Leads w (new_server table) run after
       → EachErrorIsCaused table run after
   each_error_is_caused table run after leads id error tell = grind (arith, over_run, new_server, tell_none)

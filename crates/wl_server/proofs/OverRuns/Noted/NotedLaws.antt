@@ -68,7 +68,8 @@ same_permuted : {A : Type 0} (xs ys : List A) → ys ≡ xs → IsPermutation xs
 same_permuted xs ys same = subst (λ (l : List _). IsPermutation xs l) (sym same) (IsPermutation-refl xs)
 
 -- what waits and leaves first, and then what leaves more
-permuted_then : {A : Type 0} (x a n m b k z : List A) → IsPermutation (x ++ a) (n ++ m) → IsPermutation (m ++ b) (k ++ z) → IsPermutation (x ++ (a ++ b)) ((n ++ k) ++ z)
+permuted_then : {A : Type 0} (x a n m b k z : List A) → IsPermutation (x ++ a) (n ++ m) → IsPermutation (m ++ b) (k ++ z)
+    → IsPermutation (x ++ (a ++ b)) ((n ++ k) ++ z)
 permuted_then x a n m b k z first second =
     let before = IsPermutation-append_left b (x ++ a) (n ++ m) first in
     let behind = IsPermutation-append_right n (m ++ b) (k ++ z) second in grind (arith, append_assoc, IsPermutation-trans, before, behind)
@@ -98,7 +99,8 @@ module _ {T U C : Type 0} (sends : T → Queue → Result ℕ IoFault → T → 
   moves_note p q d none (stayed is same) = grind (arith, same_permuted, append-nil)
   moves_note p q d none (followed {m = m} {a = a} {b = b} first second is) =
       let one = moves_note p m a none first in
-      subst (λ (x : Doings U). Noting p x q) (sym is) (grind (arith, destroyed_in, destroyed_both, permuted_then, ends_both, moves_note m q b one.none second))
+      subst (λ (x : Doings U). Noting p x q) (sym is)
+      (grind (arith, destroyed_in, destroyed_both, permuted_then, ends_both, moves_note m q b one.none second))
   moves_note p q d none (handed_out {a = a} ids moves among is) = grind (arith, moves_note p q a none moves)
   moves_note p q d none (moved move) = move_notes p q d none move
 
@@ -113,7 +115,8 @@ module _ {T U C : Type 0} (sends : T → Queue → Result ℕ IoFault → T → 
     none : ends_in (waiting_of t.part) ≡ 0
 
   unfelt_notes : (s : Seen T U C) → ends_in (waiting_of s.part) ≡ 0 → SeenNoting s (doings_of [] []) s
-  unfelt_notes s none = record { objects = same_permuted (held_notes s ++ []) (held_notes s) (sym (append-nil (held_notes s))); ends = omega arith; none = none }
+  unfelt_notes s none =
+      record { objects = same_permuted (held_notes s ++ []) (held_notes s) (sym (append-nil (held_notes s))); ends = omega arith; none = none }
 
   -- the notes of moves stand behind those that were made
   behind_made : (made : List (Happening U)) (p q : Part T U C) (d : Doings U) → Noting p d q
@@ -137,13 +140,15 @@ module _ {T U G C : Type 0} (w : World T G C) (id : ClientParts) where
       → Alone w id offer s run t → SeenNoting w.sends w.receives id s (doings_of [] (history run)) t
   run_notes offer s [] t own none same = grind (arith, doings_of, unfelt_notes, same_permuted, held_notes, append-nil)
   run_notes offer s (e ∷ run) t own none (mid, by, alone) =
-      let first = goes_note w.sends w.receives id s mid (doings_of (handed_by id e.call e.did) e.did) none (call_goes true w id offer e.call s e.lacked e.did mid own.0 by (λ cleans. refl)) in
+      let first = goes_note w.sends w.receives id s mid (doings_of (handed_by id e.call e.did) e.did) none
+      (call_goes true w id offer e.call s e.lacked e.did mid own.0 by (λ cleans. refl)) in
       let rest = run_notes (offer_after offer e.call) mid run t own.1 first.none alone in
       let all = doings_in_both e.did (history run) in
       grind (arith, all, held_notes, destroyed_both, permuted_then, ends_both)
 
 module _ {T U G C : Type 0} where
-  pub each_is_noted : (w : World T G C) (table : List InterfaceRow) (run : List (Entry T U G C)) (after : ServerState T U G C) → Leads w (new_server table) run after
+  pub each_is_noted : (w : World T G C) (table : List InterfaceRow) (run : List (Entry T U G C)) (after : ServerState T U G C)
+      → Leads w (new_server table) run after
       → EachIsNoted run after
   each_is_noted w table run after leads id transport client_data earlier later e split inserts =
       let (link, fresh, alone) = (is_isolated w table run after leads).each id transport client_data earlier later e split inserts in
@@ -164,13 +169,15 @@ module _ {U : Type 0} where
   destroyed_among (h ∷ notes) o u (suc k, below, is) = destroyed_among notes o u (k, omega (arith, below), is)
 
 module _ {T U G C : Type 0} where
-  pub each_note_is_of_an_end : (w : World T G C) (table : List InterfaceRow) (run : List (Entry T U G C)) (after : ServerState T U G C) → Leads w (new_server table) run after
+  pub each_note_is_of_an_end : (w : World T G C) (table : List InterfaceRow) (run : List (Entry T U G C)) (after : ServerState T U G C)
+      → Leads w (new_server table) run after
       → EachNoteIsOfAnEnd run after
   each_note_is_of_an_end w table run after leads id transport client_data earlier later e split inserts o u among =
       let (link, fresh, alone) = (is_isolated w table run after leads).each id transport client_data earlier later e split inserts in
       let notes = each_is_noted w table run after leads id transport client_data earlier later e split inserts in
       let told : List (Happening U) = taken_in (history (mine id later)) ++ ((seen id after).made ++ waiting_of (seen id after).part) in (
-        ((own_ids w id (offer_over (new_offer table) (earlier ++ e ∷ [])) link client_data (mine id later) (seen id after) (are_mine id later) alone).noted o u among).0,
+        ((own_ids w id (offer_over (new_offer table) (earlier ++ e ∷ [])) link client_data (mine id later) (seen id after)
+            (are_mine id later) alone).noted o u among).0,
         Contains-permutation (destroyed_in told) (left_in (history (mine id later))) (id_of o)
             (IsPermutation-sym (left_in (history (mine id later))) (destroyed_in told) notes.destroyed) (destroyed_among told o u among),
       )
@@ -198,7 +205,8 @@ module _ {T U C : Type 0} (sends : T → Queue → Result ℕ IoFault → T → 
   same_told p v lacked did q events (es, gave, end, by, did_so, same) =
       let (put, e, given) = gave_so p v lacked es gave end by in
       let made = doings_in (told_deeds (v.events e)) in
-      subst SameEnds (sym (ap doings_in did_so ∙ (ap (λ g. doings_in (deeds_of (map Sent es) g end.core)) given ∙ verdict_done es put (v.events e) end.core)))
+      subst SameEnds (sym (ap doings_in did_so
+      ∙ (ap (λ g. doings_in (deeds_of (map Sent es) g end.core)) given ∙ verdict_done es put (v.events e) end.core)))
       (same_both (putting es put) (joined made (end_of end.core)) refl (same_both made (end_of end.core) (events e) (grind (arith, end.core.ended))))
 
   ends_same : (client : ClientParts) (p : Part T U C) (id : IdParts) (b : Bool) (created : Option IdParts) (u : Option U) (lacked : Bool)

@@ -102,7 +102,8 @@ module _ {H T U G C : Type 0} (w : World T G C) (known : IsDetermined w) (ordere
         let b = q.handles in
         let done = answered_one h h1 h2 p.found q.found a.left b.left p.handed q.handed a.end b.end backend
         (grind (arith, handed p.handed, handed q.handed, read.0)) is is' a.answers_so b.answers_so in
-        let last = step_one w known ordered done.2 a.ended_is (rw (← done.0) at b.ended_is) (sym a.lacked_is ∙ c.1) (sym b.lacked_is ∙ d.1) a.ends b.ends in
+        let last = step_one w known ordered done.2 a.ended_is (rw (← done.0) at b.ended_is) (sym a.lacked_is ∙ c.1)
+        (sym b.lacked_is ∙ d.1) a.ends b.ends in
         (o_is ∙ ap Ok (a.why_is ∙ refusal_same a.answer b.answer last.0 ∙ sym b.why_is) ∙ sym o_is', done.1, read.0.1, last.1)
     turn_one same (ended why run l o_is calm is p) (unread error f o_is' calm' is' kept by call) =
         let c = both_calm p.read.refused p.end_lacked (sym p.lacked_is ∙ calm) in

@@ -26,5 +26,6 @@ scripts_determined views = record { sends = script_sends_function; receives = sc
 
 -- and what stands outside one over another transport, where its sends and receives are
 pub transport_determined : {T G C : Type 0} (sends : T → Queue → Result ℕ IoFault → T → Type 0) (receives : T → ℕ → Result Queue IoFault → T → Type 0)
-    (views : G → ClientParts → C → GlobalParts → _) → IsFunction sends → IsReceiveFunction receives → IsDetermined (over {T = T} {G = G} {C = C} sends receives views)
+    (views : G → ClientParts → C → GlobalParts → _) → IsFunction sends → IsReceiveFunction receives
+    → IsDetermined (over {T = T} {G = G} {C = C} sends receives views)
 transport_determined sends receives views function receive_function = grind (arith)

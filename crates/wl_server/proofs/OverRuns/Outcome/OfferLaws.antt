@@ -34,7 +34,8 @@ module _ {T U G C : Type 0} where
   -- ---- a call
 
   -- the offer after two calls of one step, where they are answered alike
-  pub offer_one : (offer : Offer G) (s : Step T U G C) (p q : Reply T U) → SharedSame s p q → offer_after offer (Asked s p) ≡ offer_after offer (Asked s q)
+  pub offer_one : (offer : Offer G) (s : Step T U G C) (p q : Reply T U) → SharedSame s p q
+      → offer_after offer (Asked s p) ≡ offer_after offer (Asked s q)
   offer_one offer s p q shared = grind (arith, offer_after)
 
   -- the creation of a global is answered as one
@@ -44,13 +45,16 @@ module _ {T U G C : Type 0} where
 
   module _ (id : ClientParts) (offer : Offer G) where
     -- a client's own calls and the shared ones are answered alike, where their answers tell what all clients share
-    pub shared_same : (s : Step T U G C) (p q : Reply T U) → is_about id s ≡ true → Ample s p → Ample s q → AnswersShared offer (Asked s p) → AnswersShared offer (Asked s q)
+    pub shared_same : (s : Step T U G C) (p q : Reply T U) → is_about id s ≡ true → Ample s p → Ample s q → AnswersShared offer (Asked s p)
+        → AnswersShared offer (Asked s q)
         → Answered (Asked s p) → Answered (Asked s q) → SharedSame s p q
     shared_same s p q h1 h2 h3 h4 h5 h6 h7 = grind (arith, true≢false, slice_get, nat_le, global_is, least_absent_one, name_range, full_not_absent)
 
     -- so it is of calls: they are answered alike, and leave one offer
-    pub shared_call : (call call' : Call T U G C) → SameCall call call' → concerns id call ≡ true → lacks_growth call ≡ false → lacks_growth call' ≡ false
-        → AnswersShared offer call → AnswersShared offer call' → Answered call → Answered call' → SharedAnswer call call' × (offer_after offer call ≡ offer_after offer call')
+    pub shared_call : (call call' : Call T U G C) → SameCall call call' → concerns id call ≡ true → lacks_growth call ≡ false
+        → lacks_growth call' ≡ false
+        → AnswersShared offer call → AnswersShared offer call' → Answered call → Answered call'
+        → SharedAnswer call call' × (offer_after offer call ≡ offer_after offer call')
     shared_call (Asked s p) (Asked s' q) same own ample ample' n n' h g = grind (arith, shared_same, offer_one, offer_after)
     shared_call (Changed target t) (Changed target' t') same own ample ample' n n' h g = (tt, refl)
     shared_call (Grown rows p) (Grown rows' q) same own ample ample' n n' h g =
@@ -68,16 +72,19 @@ module _ {T U G C : Type 0} where
   AreAnswered [] = Unit {0}
   AreAnswered (e ∷ run) = Answered e.call × AreAnswered run
 
-  own_offer_one : (id : ClientParts) (offer : Offer G) (run run' : List (Own T U G C)) → AreOwn id run → SameSteps run run' → AreAmple run → AreAmple run'
+  own_offer_one : (id : ClientParts) (offer : Offer G) (run run' : List (Own T U G C)) → AreOwn id run → SameSteps run run' → AreAmple run
+      → AreAmple run'
       → AreNumbered offer run → AreNumbered offer run' → AreAnswered run → AreAnswered run' → own_offer offer run ≡ own_offer offer run'
   own_offer_one id offer [] [] own same ample ample' n n' h g = refl
-  own_offer_one id offer (e ∷ run) (f ∷ run') (own, owns) (same, others) (ample, rest) (ample', rest') (n, more) (n', more') (h, answered) (g, answered') =
+  own_offer_one id offer (e ∷ run) (f ∷ run') (own, owns) (same, others) (ample, rest) (ample', rest') (n, more) (n', more') (h, answered)
+      (g, answered') =
       let shared = shared_call id offer e.call f.call same own ample ample' n n' h g in
       own_offer_one id (offer_after offer e.call) run run' owns others rest rest' more (rw (← shared.1) at more') answered answered'
       ∙ ap (λ (o : Offer G). own_offer o run') shared.1
   own_offer_one id offer _ _ own same ample ample' n n' h g = absurd same
 
-  pub mine_numbered : (w : World T G C) (id : ClientParts) (before after : ServerState T U G C) (run : List (Entry T U G C)) → Leads w before run after
+  pub mine_numbered : (w : World T G C) (id : ClientParts) (before after : ServerState T U G C) (run : List (Entry T U G C))
+      → Leads w before run after
       → AreNumbered before.offer (mine id run)
   mine_numbered w id before after [] same = tt
   mine_numbered w id before after (e ∷ run) (mid, by, leads) = grind (arith, true≢false, concerns, mine, mine_numbered w id mid after run leads)
@@ -98,4 +105,5 @@ module _ {T U G C : Type 0} where
   mine_offer id offer (e ∷ run) = offer_more id offer e run (concerns id e.call) refl (mine_offer id (offer_after offer e.call) run)
 
   pub offers_one : (w : World T G C) → OffersHaveOneOutcome U w
-  offers_one w table id run run' after after' leads leads' same ample ample' = grind (arith, offer_run, new_server, mine_offer, own_offer_one, mine, are_mine, mine_numbered, mine_answered)
+  offers_one w table id run run' after after' leads leads' same ample ample' =
+      grind (arith, offer_run, new_server, mine_offer, own_offer_one, mine, are_mine, mine_numbered, mine_answered)

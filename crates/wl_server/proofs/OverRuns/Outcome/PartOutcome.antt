@@ -58,14 +58,16 @@ module _ {T : Type 0} (sends : T → Queue → Result ℕ IoFault → T → Type
   puts_sends : (ms : List Said) (before x y : LinkState T) (es fs : List Sending) (p q : List Said) (a b : Result (Unit {0}) IoFault)
       → a ≢ Err fault.OutOfMemory → b ≢ Err fault.OutOfMemory → PutsOut sends before ms es p a x → PutsOut sends before ms fs q b y → es ≡ fs
   puts_sends [] before x y es fs p q a b ok ok' (none, put, is, same) (none', put', is', same') = none ∙ sym none'
-  puts_sends (m ∷ ms) before x y es fs p q a b ok ok' (first, o, mid, wrote, end) (first', o', mid', wrote', end') = grind (arith, one_write_lem, true≢false, is_ok, both_result, puts_sends ms mid x y)
+  puts_sends (m ∷ ms) before x y es fs p q a b ok ok' (first, o, mid, wrote, end) (first', o', mid', wrote', end') =
+      grind (arith, one_write_lem, true≢false, is_ok, both_result, puts_sends ms mid x y)
 
   module _ {Core Event Finish : Type 0} (reader : Reader Core Event Finish) where
     -- ---- a verdict that is carried out
 
     pub carries_sends : (v : Verdict Core Event) (before : LinkState T) (x y : ReaderState T Core) (es fs : List Sending) (g h : List (Given Event))
         → CarriesOut sends reader v before es g false x → CarriesOut sends reader v before fs h false y → es ≡ fs
-    carries_sends v before x y es fs g h h9 other = grind (arith, true≢false, both_false, lacks_memory, not_lacked, puts_one, puts_sends, both_bool, one_flush_lem)
+    carries_sends v before x y es fs g h h9 other =
+        grind (arith, true≢false, both_false, lacks_memory, not_lacked, puts_one, puts_sends, both_bool, one_flush_lem)
 
     -- ---- a reading
 
@@ -73,7 +75,8 @@ module _ {T : Type 0} (sends : T → Queue → Result ℕ IoFault → T → Type
     refused_of o = o.refused
 
     -- a reading that ends where the core would read on has no receive left
-    ends : (left : ℕ) (p : ReaderState T Core) (out : Gives Event) → reader.reads_on p.core ≡ true → out.refused ≡ false → Stops sends reader left p out
+    ends : (left : ℕ) (p : ReaderState T Core) (out : Gives Event) → reader.reads_on p.core ≡ true → out.refused ≡ false
+        → Stops sends reader left p out
         → Lacks sends reader p × (left ≡ 0)
     ends left p out on ample stops' = grind (arith, true≢false)
 
@@ -96,14 +99,18 @@ module _ {T : Type 0} (sends : T → Queue → Result ℕ IoFault → T → Type
         (goes mid rest rest' ok.1 ok'.1 more (rw (← ends.after) at more'))
 
     module _ (receives : T → ℕ → Result Queue IoFault → T → Type 0) (receives_function : IsReceiveFunction receives) where
-      pub reads_turns : (left : ℕ) (p x y : ReaderState T Core) (turns turns' : List Turn) (o o' : Gives Event) → o.refused ≡ false → o'.refused ≡ false
+      pub reads_turns : (left : ℕ) (p x y : ReaderState T Core) (turns turns' : List Turn) (o o' : Gives Event) → o.refused ≡ false
+          → o'.refused ≡ false
           → Reads sends reader receives left p turns o x → Reads sends reader receives left p turns' o' y → turns ≡ turns'
       reads_turns left p x y [] [] o o' ample ample' h h' = refl
-      reads_turns left p x y (Received r ∷ turns) (Received r' ∷ turns') o o' ample ample' (on, lacks, (n, is, (link, filled, finds, a))) (on', lacks', (n', is', (link', filled', finds', b))) = grind (arith, counted_answer, count_of, true≢false, is_ok, not_lacked, refused_of, one_fill_lem, both_result, with_link_read, reads_turns n (with_link_read p link) x y turns turns' o o' ample ample')
+      reads_turns left p x y (Received r ∷ turns) (Received r' ∷ turns') o o' ample ample' (on, lacks, (n, is, (link, filled, finds, a)))
+          (on', lacks', (n', is', (link', filled', finds', b))) = grind (arith, counted_answer, count_of, true≢false, is_ok, not_lacked, refused_of, one_fill_lem, both_result, with_link_read, reads_turns n (with_link_read p link) x y turns turns' o o' ample ample')
       reads_turns left p x y (Handled es ∷ turns) (Handled fs ∷ turns') o o' ample ample' h h' =
-          then_same (Takes sends reader) Handled p (λ v l t. inl t) es fs turns turns' o o' _ _ ample ample' h h' (λ mid. reads_turns left mid x y turns turns')
+          then_same (Takes sends reader) Handled p (λ v l t. inl t) es fs turns turns' o o' _ _ ample ample' h h'
+          (λ mid. reads_turns left mid x y turns turns')
       reads_turns left p x y (Unread es ∷ turns) (Unread fs ∷ turns') o o' ample ample' h h' =
-          then_same (Leaves sends reader) Unread p (λ v l t. inr t) es fs turns turns' o o' _ _ ample ample' h h' (λ mid. reads_turns left mid x y turns turns')
+          then_same (Leaves sends reader) Unread p (λ v l t. inr t) es fs turns turns' o o' _ _ ample ample' h h'
+          (λ mid. reads_turns left mid x y turns turns')
       reads_turns left p x y turns turns' o o' ample ample' h h' = absurd (grind (arith, ends, one_read_lem, true≢false, is_ok))
 
 -- ---- the same choice is made in both of two cases
@@ -220,7 +227,8 @@ module _ {T U C : Type 0} where
       sends_granted_one m sender ends a b d e x y (inl (asks, is, lacked, did, same)) other = absurd (true≢false (sym lacked))
       sends_granted_one m sender ends a b d e x y (inr h) (inl (asks, is, lacked, did, same)) = absurd (true≢false (sym lacked))
       sends_granted_one m sender ends a b d e x y (inr (es, rest, w, link, by, sent, did)) (inr (fs, rest', w', link', by', sent', did')) =
-          let same = one_write_lem sends function (wire_message m) link link' es fs w w' (λ is. grind (arith, true≢false)) (λ is. grind (arith, true≢false))
+          let same = one_write_lem sends function (wire_message m) link link' es fs w w' (λ is. grind (arith, true≢false))
+          (λ is. grind (arith, true≢false))
           s.link by by' in
           let one = sent_as_one m sender ends w link a b rest rest' x y sent (rw (← same.answer, ← same.after) at sent') in grind (arith, map)
 
@@ -238,7 +246,8 @@ module _ {T U C : Type 0} where
       finishes_open_one u (opened.Bind object) a b d e x y h g = both_refused h g
       finishes_open_one u (opened.Request sender is_destructor created) a b d e x y h g =
           by_option (refusal s.is_killed created u) h g
-          (λ end end'. answered_too end.0 end'.0 (tells_one (ends_request client (core_of s) sender is_destructor created u) s.link d e x y end.1 end'.1))
+          (λ end end'. answered_too end.0 end'.0
+          (tells_one (ends_request client (core_of s) sender is_destructor created u) s.link d e x y end.1 end'.1))
           (λ f. both_refused)
 
       pub finishes_request_one : (u : Option U) → IsOne (FinishesRequest sends client s u)
@@ -246,9 +255,11 @@ module _ {T U C : Type 0} where
 
     -- ---- a reading
 
-    module _ {G : Type 0} (receives : T → ℕ → Result Queue IoFault → T → Type 0) (receives_function : IsReceiveFunction receives) (around : Around G C) (r : Reading) (s : Part T U C)
+    module _ {G : Type 0} (receives : T → ℕ → Result Queue IoFault → T → Type 0) (receives_function : IsReceiveFunction receives)
+        (around : Around G C) (r : Reading) (s : Part T U C)
         (a b : Result Handed ActionError) (left left' : Reading) (d e : List (Deed U)) (x y : Part T U C) where
-      pub next_action_one : NextAction sends receives around r s a left false d x → NextAction sends receives around r s b left' false e y → SameEnd a b d e x y × (left ≡ left')
+      pub next_action_one : NextAction sends receives around r s a left false d x → NextAction sends receives around r s b left' false e y
+          → SameEnd a b d e x y × (left ≡ left')
       next_action_one h1 h2 = grind (arith, both_option, same_end, both_bool, reads_one, server, reader_part, reads_turns, answered, deeds_of, exchanges_in, part_of, read_on, handled_in)
 
 -- ---- replies
@@ -275,7 +286,8 @@ module _ {T U C : Type 0} (before : Seen T U C) (d e : List (Deed U)) (x y : See
 
   -- a step about this client or about another
   of_one : {P : Type 0} (b : Bool) (R R' : Part T U C → Part T U C → Type 0) (missing missing' : Type 0) → (missing → missing' → P)
-      → ((p q q' : Part T U C) → R p q → R' p q' → SameFelt d e q q' × P) → OfClient b before R missing false d x → OfClient b before R' missing' false e y
+      → ((p q q' : Part T U C) → R p q → R' p q' → SameFelt d e q q' × P) → OfClient b before R missing false d x
+      → OfClient b before R' missing' false e y
       → SameFelt d e x y × (b ≡ true → P)
   of_one h1 h2 h3 missing missing' absent each h g = grind (arith, on_one, unfelt_one, true≢false)
 
@@ -298,12 +310,14 @@ ruleset part_words = (same_client, action_content, around, new_reading, nothing_
 abbrev pub Ample : {T U G C : Type 0} → Step T U G C → Reply T U → Type 0
 Ample s answer = lacks_growth (Asked s answer) ≡ false
 
-module _ {T U G C : Type 0} (w : World T G C) (known : IsDetermined w) (id : ClientParts) (offer : Offer G) (before : Seen T U C) (d e : List (Deed U)) (x y : Seen T U C) where
+module _ {T U G C : Type 0} (w : World T G C) (known : IsDetermined w) (id : ClientParts) (offer : Offer G) (before : Seen T U C)
+    (d e : List (Deed U)) (x y : Seen T U C) where
   -- two outcomes of a step are the same to a client
   abbrev Same : Bool → Reply T U → Reply T U → Type 0
   Same own p q = SameFelt d e x y × (own ≡ true → SameReply id p q)
 
-  inserted_one : (transport : T) (client_data : C) (r : Result ClientParts InsertClientError) → InsertedAs w id offer transport client_data r before false d x
+  inserted_one : (transport : T) (client_data : C) (r : Result ClientParts InsertClientError)
+      → InsertedAs w id offer transport client_data r before false d x
       → InsertedAs w id offer transport client_data r before false e y → SameFelt d e x y
   inserted_one transport client_data (Ok new) h g =
       by_bool (same_client new id) h g (λ new new'. grind (arith, fresh_one transport (Some offer.default_limit) new.0 new'.0 new.1 new'.1, same_felt)) (unfelt_one before d e x y)
@@ -322,7 +336,8 @@ module _ {T U G C : Type 0} (w : World T G C) (known : IsDetermined w) (id : Cli
   step_one s p q ample ample' shared h g = grind (arith, part_forms, part_calls, part_words, inserted_one, lacks_create, one_flush_lem)
 
   -- what a step does, another does that is the same
-  pub part_as : (s s' : Step T U G C) (q : Reply T U) → SameStep s s' → PartStep w id offer s' q before false e y → PartStep w id offer s q before false e y
+  pub part_as : (s s' : Step T U G C) (q : Reply T U) → SameStep s s' → PartStep w id offer s' q before false e y
+      → PartStep w id offer s q before false e y
   part_as (step.SendEvent m) (step.SendEvent m') q same h =
       subst (λ (c : SessionMessage). (r : _) × (q ≡ reply.SendEvent r)
       × OfClient (same_client c.sender.client id) before (λ s t. SendsEvent w.sends id offer.table s c r false e t) (r ≡ Err event.InvalidId) false e y) (sym same) h

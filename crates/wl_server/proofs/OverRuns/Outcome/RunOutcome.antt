@@ -23,9 +23,11 @@ module _ {T U G C : Type 0} where
       → AreOwn id run → SameSteps run run' → HasMemory run → HasMemory run' → AreNumbered offer run → AreNumbered offer run'
       → Alone w id offer before run x → Alone w id offer before run' y → SameRun id run run' × (x ≡ y)
   alone_one w known id offer before x y [] [] own same ample ample' n n' h g = (tt, h ∙ sym g)
-  alone_one w known id offer before x y (e ∷ run) (f ∷ run') (own, owns) (same, others) (unlacked, ample, rest) (unlacked', ample', rest') (n, more) (n', more') (mid, by, alone) (mid', by', alone') =
+  alone_one w known id offer before x y (e ∷ run) (f ∷ run') (own, owns) (same, others) (unlacked, ample, rest) (unlacked', ample', rest') (n, more)
+      (n', more') (mid, by, alone) (mid', by', alone') =
       let shared = shared_call id offer e.call f.call same own ample ample' n n' (grind (arith, e.call)) (grind (arith, f.call)) in
-      let one = call_one w known id offer before e.did f.did mid mid' e.call f.call same ample ample' shared.0 (rw unlacked at by) (rw unlacked' at by') in
+      let one = call_one w known id offer before e.did f.did mid mid' e.call f.call same ample ample' shared.0 (rw unlacked at by)
+      (rw unlacked' at by') in
       let later = alone_one w known id (offer_after offer e.call) mid x y run run' owns others rest rest' more (rw (← shared.1) at more') alone
       (rw (← one.held, ← shared.1) at alone') in
       ((one.reply own, one.deeds, later.0), later.1)
@@ -53,8 +55,10 @@ module _ {T U G C : Type 0} where
   client_one w known table id transport client_data earlier later earlier' later' e e' after after' leads leads' inserts inserts' offers same ample ample' =
       let offer = offer_over (new_offer table) earlier in
       let (link, fresh, alone, numbers) = inserted_alone w table id transport client_data earlier later e after offer leads inserts refl in
-      let (link', fresh', alone', numbers') = inserted_alone w table id transport client_data earlier' later' e' after' offer leads' inserts' (sym offers) in
+      let (link', fresh', alone', numbers') = inserted_alone w table id transport client_data earlier' later' e' after' offer leads' inserts'
+      (sym offers) in
       let links = fresh_one transport (Some offer.default_limit) link' link fresh' fresh in
-      alone_one w known id offer (just_inserted link client_data) (seen id after) (seen id after') (mine id later) (mine id later') (are_mine id later)
+      alone_one w known id offer (just_inserted link client_data) (seen id after) (seen id after') (mine id later) (mine id later')
+      (are_mine id later)
       same ample ample' numbers numbers' alone
       (subst (λ (l : LinkState T). Alone w id offer (just_inserted l client_data) (mine id later') (seen id after')) links alone')

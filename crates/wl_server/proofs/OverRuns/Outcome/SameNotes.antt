@@ -51,13 +51,17 @@ no_end (x ∷ xs) ys is = absurd cc
 no_places : (waits : Bool) (slot : ℕ) → places_of waits slot no_times ≡ []
 no_places h1 slot = grind (arith)
 
-places_one : (waits : Bool) (slot : ℕ) (ts us : List NoteTimes) → ((k : ℕ) → times_at k ts ≡ times_at k us) → all_places waits slot ts ≡ all_places waits slot us
+places_one : (waits : Bool) (slot : ℕ) (ts us : List NoteTimes) → ((k : ℕ) → times_at k ts ≡ times_at k us)
+    → all_places waits slot ts ≡ all_places waits slot us
 places_one waits slot [] [] same = refl
-places_one waits slot [] (u ∷ us) same = grind (arith, same 0, no_places waits slot, append-nil, places_one waits (slot + 1) [] us (λ k. same (suc k)))
-places_one waits slot (t ∷ ts) [] same = grind (arith, same 0, no_places waits slot, append-nil, places_one waits (slot + 1) ts [] (λ k. same (suc k)))
+places_one waits slot [] (u ∷ us) same =
+    grind (arith, same 0, no_places waits slot, append-nil, places_one waits (slot + 1) [] us (λ k. same (suc k)))
+places_one waits slot (t ∷ ts) [] same =
+    grind (arith, same 0, no_places waits slot, append-nil, places_one waits (slot + 1) ts [] (λ k. same (suc k)))
 places_one waits slot (t ∷ ts) (u ∷ us) same = grind (arith, same 0, places_one waits (slot + 1) ts us (λ k. same (suc k)))
 
-orders_one : (waits : Bool) (ts us : List NoteTimes) (a b : List NotePlace) → Rise a → IsPermutation (all_places waits 0 ts) a → Rise b → IsPermutation (all_places waits 0 us) b
+orders_one : (waits : Bool) (ts us : List NoteTimes) (a b : List NotePlace) → Rise a → IsPermutation (all_places waits 0 ts) a → Rise b
+    → IsPermutation (all_places waits 0 us) b
     → ((k : ℕ) → times_at k ts ≡ times_at k us) → a ≡ b
 orders_one waits ts us a b up moved up' moved' same =
     one_order a b (sorted_of a up) (sorted_of b up')
@@ -75,7 +79,8 @@ module _ (of : NoteTimes → List ℕ) where
       grind (arith, times_at, number_past, length-append, numbers_from, eqb-true, false≢true, eq-eqb, same n, long n, turn_one n ts us ts' us' a c mid mid' same long next turn turn')
 
   -- no client of a higher slot got a number
-  turn_on : (j n : ℕ) (ts : List NoteTimes) (a : ℕ) (ts' : List NoteTimes) (b : ℕ) → ((k : ℕ) → n ≤ k → times_at k ts' ≡ times_at k ts) → InTurn of n ts a ts' b
+  turn_on : (j n : ℕ) (ts : List NoteTimes) (a : ℕ) (ts' : List NoteTimes) (b : ℕ) → ((k : ℕ) → n ≤ k → times_at k ts' ≡ times_at k ts)
+      → InTurn of n ts a ts' b
       → InTurn of (j + n) ts a ts' b
   turn_on zero n ts a ts' b others turn = let none : n ≡ zero + n = omega arith in subst (λ (m : ℕ). InTurn of m ts a ts' b) none turn
   turn_on (suc j) n ts a ts' b others turn =
@@ -102,7 +107,8 @@ module _ {T U G C : Type 0} (s t : ServerState T U G C) (each : (id : ClientPart
   made_one : (id : ClientParts) → made_of id s.clients ≡ made_of id t.clients
   made_one id = grind (arith, append_cancel_left, notes_of, made_of)
 
-  made_at : (k : ℕ) (a b : Option (Stored T U C)) → stored_at k s.clients ≡ a → stored_at k t.clients ≡ b → told_at a ≡ told_at b → notes_at a ≡ notes_at b
+  made_at : (k : ℕ) (a b : Option (Stored T U C)) → stored_at k s.clients ≡ a → stored_at k t.clients ≡ b → told_at a ≡ told_at b
+      → notes_at a ≡ notes_at b
   made_at k None None is is' told = refl
   made_at k (Some x) (Some y) is is' told =
       grind (arith, found x (stored_at k s.clients) is, found y (stored_at k t.clients) is', made_one (record { slot = k; serial = x.serial }))
@@ -119,9 +125,11 @@ module _ {T U G C : Type 0} (s t : ServerState T U G C) (each : (id : ClientPart
 -- ---- notes of ends, in the order of the slots
 
 module _ {U : Type 0} where
-  slot_within : (id : ClientParts) (low : ℕ) (b : List (Note U)) (h : Happening U) (hs : List (Happening U)) → RiseFromSlot low b → notes_of id b ≡ h ∷ hs → low ≤ id.slot
+  slot_within : (id : ClientParts) (low : ℕ) (b : List (Note U)) (h : Happening U) (hs : List (Happening U)) → RiseFromSlot low b
+      → notes_of id b ≡ h ∷ hs → low ≤ id.slot
   slot_within id low [] h hs rise is = let long : 0 ≡ suc (length hs) = ap length is in absurd (omega (arith, long))
-  slot_within id low (n ∷ b) h hs (first, rise) is = grind (arith, slot_of, told_of, notes_of, slot_is, note_is, same_slots, slot_within id (slot_of n) b h hs rise)
+  slot_within id low (n ∷ b) h hs (first, rise) is =
+      grind (arith, slot_of, told_of, notes_of, slot_is, note_is, same_slots, slot_within id (slot_of n) b h hs rise)
 
   module _ (Is : ClientParts → Type 0) (one : (i j : ClientParts) → Is i → Is j → i.slot ≡ j.slot → i ≡ j) where
     ends_one : (low low' : ℕ) (a b : List (Note U)) → RiseFromSlot low a → RiseFromSlot low' b → ((id : ClientParts) → notes_of id a ≡ notes_of id b)
@@ -155,13 +163,15 @@ module _ {U : Type 0} where
 -- ---- calls
 
 module _ {T U G C : Type 0} where
-  stay_one : (s t x y : ServerState T U G C) → OrdersSame s t → ((id : ClientParts) → seen id x ≡ seen id y) → x.notes ≡ y.notes → AllNumbered x.clients → AllNumbered y.clients
+  stay_one : (s t x y : ServerState T U G C) → OrdersSame s t → ((id : ClientParts) → seen id x ≡ seen id y) → x.notes ≡ y.notes
+      → AllNumbered x.clients → AllNumbered y.clients
       → AllTakeFirst (map times_of s.clients) (map times_of x.clients) → AllTakeFirst (map times_of t.clients) (map times_of y.clients)
       → (k : ℕ) → times_at k (map times_of x.clients) ≡ times_at k (map times_of y.clients)
   stay_one s t x y same each notes one two first first' k =
       grind (arith, times_at, map, times_of, ends_of_one, numbers_long x y each notes one two k, first k, first' k)
 
-  makes_one : (s t x y : ServerState T U G C) → OrdersSame s t → ((id : ClientParts) → seen id x ≡ seen id y) → MakesNotes s x → MakesNotes t y → OrdersSame x y
+  makes_one : (s t x y : ServerState T U G C) → OrdersSame s t → ((id : ClientParts) → seen id x ≡ seen id y) → MakesNotes s x → MakesNotes t y
+      → OrdersSame x y
   makes_one s t x y same each h g = record {
     notes = notes;
     numbers = grind (arith, x.numbers, y.numbers, made.0, waiting.0);
@@ -172,13 +182,17 @@ module _ {T U G C : Type 0} where
       notes = h.gathered ∙ (same.notes ∙ sym g.gathered)
 
       made : (x.numbers.made ≡ y.numbers.made) × ((k : ℕ) → (times_at k (map times_of x.clients)).made ≡ (times_at k (map times_of y.clients)).made)
-      made = turns_one (λ t. t.made) h.times.0 g.times.0 (map times_of s.clients) (map times_of t.clients) (map times_of x.clients) (map times_of y.clients)
+      made = turns_one (λ t. t.made) h.times.0 g.times.0 (map times_of s.clients) (map times_of t.clients) (map times_of x.clients)
+          (map times_of y.clients)
           s.numbers.made t.numbers.made x.numbers.made y.numbers.made same.times (λ k. (numbers_long x y each notes h.numbered g.numbered k).0)
           (ap (λ (n : NoteNumbers). n.made) same.numbers) h.times.1.others g.times.1.others h.times.1.made g.times.1.made
 
-      waiting : (x.numbers.waiting ≡ y.numbers.waiting) × ((k : ℕ) → (times_at k (map times_of x.clients)).waiting ≡ (times_at k (map times_of y.clients)).waiting)
-      waiting = turns_one (λ t. t.waiting) h.times.0 g.times.0 (map times_of s.clients) (map times_of t.clients) (map times_of x.clients) (map times_of y.clients)
-          s.numbers.waiting t.numbers.waiting x.numbers.waiting y.numbers.waiting same.times (λ k. (numbers_long x y each notes h.numbered g.numbered k).1)
+      waiting : (x.numbers.waiting ≡ y.numbers.waiting)
+          × ((k : ℕ) → (times_at k (map times_of x.clients)).waiting ≡ (times_at k (map times_of y.clients)).waiting)
+      waiting = turns_one (λ t. t.waiting) h.times.0 g.times.0 (map times_of s.clients) (map times_of t.clients) (map times_of x.clients)
+          (map times_of y.clients)
+          s.numbers.waiting t.numbers.waiting x.numbers.waiting y.numbers.waiting same.times
+          (λ k. (numbers_long x y each notes h.numbered g.numbered k).1)
           (ap (λ (n : NoteNumbers). n.waiting) same.numbers) h.times.1.others g.times.1.others h.times.1.waiting g.times.1.waiting
 
   abbrev IsStored : ServerState T U G C → ClientParts → Type 0
@@ -198,7 +212,8 @@ module _ {T U G C : Type 0} where
       → ((id : ClientParts) → client_at id t.clients ≡ None → notes_of id (more' ++ ends') ≡ []) → (more ≡ more') × (ends ≡ ends')
   drained_one s t same waits order order' more ends more' ends' rise rise' moved moved' along along' up up' told stored = (
     mores,
-    ends_one (IsStored t) (one_client t.clients) 0 0 ends ends' up up' (λ id. append_cancel_left (notes_of id more') (notes_of id ends) (notes_of id ends')
+    ends_one (IsStored t) (one_client t.clients) 0 0 ends ends' up up'
+        (λ id. append_cancel_left (notes_of id more') (notes_of id ends) (notes_of id ends')
         (cc (notes_append id more ends, notes_append id more' ends', told id, mores)))
         (is_stored t ends' (λ id none. no_end (notes_of id more') (notes_of id ends') (sym (notes_append id more' ends') ∙ stored id none))),
   )
@@ -218,14 +233,16 @@ module _ {T U G C : Type 0} where
       mores = sym (fronts_one more' ends' more begun.0 begun.1 (omega (arith, ap length slots, length-map more slot_of, length-map more' slot_of))).0
 
   -- the same is handed out
-  pub out_one : (s t : ServerState T U G C) → OrdersSame s t → ((id : ClientParts) → seen id s ≡ seen id t) → (out out' : List (Note U)) → Takes s out → Takes t out' → out ≡ out'
+  pub out_one : (s t : ServerState T U G C) → OrdersSame s t → ((id : ClientParts) → seen id s ≡ seen id t) → (out out' : List (Note U)) → Takes s out
+      → Takes t out' → out ≡ out'
   out_one s t same each out out' one two =
       let more = drained_one s t same false one.order two.order one.more [] two.more [] one.rise two.rise one.places two.places one.along two.along tt tt
       (λ id. grind (arith, append-nil, one.each id, two.each id, made_one s t each same.notes id))
       (λ id none. grind (arith, append-nil, two.each id, made_of, none)) in
       grind (arith, more.0, one.behind, two.behind, same.notes)
 
-  hands_one : (s t x y : ServerState T U G C) → OrdersSame s t → ((id : ClientParts) → seen id x ≡ seen id y) → (out out' : List (Note U)) → HandsOutNotes s out x
+  hands_one : (s t x y : ServerState T U G C) → OrdersSame s t → ((id : ClientParts) → seen id x ≡ seen id y) → (out out' : List (Note U))
+      → HandsOutNotes s out x
       → HandsOutNotes t out' y → OrdersSame x y
   hands_one s t x y same each out out' h g = record {
     notes = notes;
@@ -237,7 +254,8 @@ module _ {T U G C : Type 0} where
       notes = h.none ∙ sym g.none
 
 module _ {T U G C : Type 0} (w : World T G C) where
-  gathers_one : (s t x y : ServerState T U G C) (f : Entry T U G C) (out : Vec (ClientParts × T) Global) → OrdersSame s t → ((id : ClientParts) → seen id x ≡ seen id y)
+  gathers_one : (s t x y : ServerState T U G C) (f : Entry T U G C) (out : Vec (ClientParts × T) Global) → OrdersSame s t
+      → ((id : ClientParts) → seen id x ≡ seen id y)
       → f.call ≡ Asked step.Cleanup (reply.Cleanup (Ok out)) → OneStep w t f y → GathersNotes s x → GathersNotes t y → OrdersSame x y
   gathers_one s t x y f out same each is by h g = record {
     notes = notes;
@@ -280,15 +298,18 @@ module _ {T U G C : Type 0} where
 
   module _ (w : World T G C) where
     moves_so : (id : ClientParts) (s : ServerState T U G C) (call : Call T U G C) (lacked : Bool) (did : List (Deed U)) (x : ServerState T U G C)
-        → lacks_growth call ≡ false → NotesGoOn s call x → PartCall w id s.offer call (seen id s) lacked did (seen id x) → MovesSo s call x (call_kind call)
-    moves_so id s (Asked step.TakeNotes p) lacked did x ample h (Ok out, so, _) = (out, subst (λ (q : Reply T U). NotesGoOn s (Asked step.TakeNotes q) x) so h)
+        → lacks_growth call ≡ false → NotesGoOn s call x → PartCall w id s.offer call (seen id s) lacked did (seen id x)
+        → MovesSo s call x (call_kind call)
+    moves_so id s (Asked step.TakeNotes p) lacked did x ample h (Ok out, so, _) =
+        (out, subst (λ (q : Reply T U). NotesGoOn s (Asked step.TakeNotes q) x) so h)
     moves_so id s (Asked step.Cleanup p) lacked did x ample h (Ok out, so, _) =
         (out, ap (Asked step.Cleanup) so, subst (λ (q : Reply T U). NotesGoOn s (Asked step.Cleanup q) x) so h)
     moves_so id s (Asked step.TakeNotes p) lacked did x ample _ (Err f, so, _) = absurd (grind (arith, true≢false))
     moves_so id s (Asked step.Cleanup p) lacked did x ample _ (Err f, so, _) = absurd (grind (arith, true≢false))
     moves_so id s call lacked did x ample h part = h
 
-    pub notes_one : (s t x y : ServerState T U G C) (e f : Entry T U G C) → OrdersSame s t → ((id : ClientParts) → seen id x ≡ seen id y) → SameCall e.call f.call
+    pub notes_one : (s t x y : ServerState T U G C) (e f : Entry T U G C) → OrdersSame s t → ((id : ClientParts) → seen id x ≡ seen id y)
+        → SameCall e.call f.call
         → lacks_growth e.call ≡ false → lacks_growth f.call ≡ false → OneStep w s e x → OneStep w t f y → OrdersSame x y
     notes_one s t x y e f same each calls ample ample' by by' =
         at (call_kind e.call) (moves_so any s e.call _ _ x ample by.notes (by.each any))

@@ -46,19 +46,22 @@ module _ {T : Type 0} where
   )
 
   -- a client that has a share stands no lower
-  shared_above : (low : ℕ) (id : ClientParts) (out : List (ClientParts × T)) (t : T) (ts : List T) → RiseFrom low out → share_of id out ≡ t ∷ ts → low ≤ id.slot
+  shared_above : (low : ℕ) (id : ClientParts) (out : List (ClientParts × T)) (t : T) (ts : List T) → RiseFrom low out → share_of id out ≡ t ∷ ts
+      → low ≤ id.slot
   shared_above low id [] t ts rises is = absurd cc
   shared_above low id (e ∷ rest) t ts (first, rises) is = grind (arith, eqb-true, shared_above (e.0.slot + 1) id rest t ts rises)
 
   own_share : (e : ClientParts × T) (rest : List (ClientParts × T)) → share_of e.0 (e ∷ rest) ≡ e.1 ∷ share_of e.0 rest
   own_share e rest = rw (same_self e.0) refl
 
-  one_from : (low low' : ℕ) (out out' : List (ClientParts × T)) → RiseFrom low out → RiseFrom low' out' → ((id : ClientParts) → share_of id out ≡ share_of id out')
+  one_from : (low low' : ℕ) (out out' : List (ClientParts × T)) → RiseFrom low out → RiseFrom low' out'
+      → ((id : ClientParts) → share_of id out ≡ share_of id out')
       → out ≡ out'
   one_from low low' [] [] up up' shares = refl
   one_from low low' [] (f ∷ rest') up up' shares = absurd (grind (arith, shares f.0, own_share f rest'))
   one_from low low' (e ∷ rest) [] up up' shares = absurd (grind (arith, shares e.0, own_share e rest))
-  one_from low low' (e ∷ rest) (f ∷ rest') (first, up) (first', up') shares = grind (arith, own_share, same, one_from (e.0.slot + 1) (f.0.slot + 1) rest rest' up up' later)
+  one_from low low' (e ∷ rest) (f ∷ rest') (first, up) (first', up') shares =
+      grind (arith, own_share, same, one_from (e.0.slot + 1) (f.0.slot + 1) rest rest' up up' later)
     where
       e_there : share_of e.0 (f ∷ rest') ≡ e.1 ∷ share_of e.0 rest
       e_there = sym (shares e.0) ∙ own_share e rest
@@ -79,7 +82,8 @@ module _ {T : Type 0} where
       later id = grind (arith, same, shares id)
 
   -- the shares determine the list
-  pub shares_one : (out out' : List (ClientParts × T)) → RiseBySlot out → RiseBySlot out' → ((id : ClientParts) → share_of id out ≡ share_of id out') → out ≡ out'
+  pub shares_one : (out out' : List (ClientParts × T)) → RiseBySlot out → RiseBySlot out' → ((id : ClientParts) → share_of id out ≡ share_of id out')
+      → out ≡ out'
   shares_one out out' rises rises' shares =
       one_from 0 0 out out' (rise_from 0 out rises (λ j d within. omega arith)) (rise_from 0 out' rises' (λ j d within. omega arith)) shares
 
@@ -97,7 +101,8 @@ module _ {T U C : Type 0} where
   free_there : (clients others : List (Option (Stored T U C))) → SameSlots clients others → (n : ℕ) → IsLeastFree clients n → IsLeastFree others n
   free_there clients others same n least = grind (arith, true≢false, stored_at, is_some, told_at)
 
-  pub inserts_there : (last : ℕ) (clients others : List (Option (Stored T U C))) → SameSlots clients others → (r : Result ClientParts InsertClientError)
+  pub inserts_there : (last : ℕ) (clients others : List (Option (Stored T U C))) → SameSlots clients others
+      → (r : Result ClientParts InsertClientError)
       → InsertsNext last clients r → InsertsNext last others r
   inserts_there last clients others h1 r h2 = grind (arith, free_there)
 
@@ -105,11 +110,13 @@ module _ {T U C : Type 0} where
   found st o is = ap (λ (z : Option (Stored T U C)). if_serial st.serial z) is ∙ (rw (eq-eqb st.serial st.serial refl) refl)
 
   -- a client of the slot with the serial of this one and its part
-  one_slot : (x : Stored T U C) (b : Option (Stored T U C)) → Some x.part ≡ option_map (λ z. z.part) (if_serial x.serial b) → told_at (Some x) ≡ told_at b
+  one_slot : (x : Stored T U C) (b : Option (Stored T U C)) → Some x.part ≡ option_map (λ z. z.part) (if_serial x.serial b)
+      → told_at (Some x) ≡ told_at b
   one_slot x b is = grind (arith, eqb-true)
 
 module _ {T U G C : Type 0} where
-  pub slot_same : (s t : ServerState T U G C) → ((id : ClientParts) → seen id s ≡ seen id t) → (k : ℕ) (a b : Option (Stored T U C)) → stored_at k s.clients ≡ a
+  pub slot_same : (s t : ServerState T U G C) → ((id : ClientParts) → seen id s ≡ seen id t) → (k : ℕ) (a b : Option (Stored T U C))
+      → stored_at k s.clients ≡ a
       → stored_at k t.clients ≡ b → told_at a ≡ told_at b
   slot_same s t each k None None is is' = refl
   slot_same s t each k (Some x) b is is' =
@@ -134,11 +141,13 @@ module _ {T U : Type 0} where
   same_whole : (ordered : Bool) (p q p' q' : Reply T U) → p ≡ p' → q ≡ q' → WholeReply ordered p' q' → WholeReply ordered p q
   same_whole ordered p q p' q' is is' same = subst (λ r. WholeReply ordered r q) (sym is) (subst (λ r. WholeReply ordered p' r) (sym is') same)
 
-module _ {T U G C : Type 0} (ordered : Bool) (w : World T G C) (any : ClientParts) (offer : Offer G) (before : Seen T U C) (d e : List (Deed U)) (x y : Seen T U C) where
+module _ {T U G C : Type 0} (ordered : Bool) (w : World T G C) (any : ClientParts) (offer : Offer G) (before : Seen T U C) (d e : List (Deed U))
+    (x y : Seen T U C) where
   abbrev Rises : Step T U G C → Reply T U → Type 0
   Rises s answer = RisesBySlot (Asked s answer)
 
-  cleanup_one : (r r' : _) → Ample {T = T} {U = U} {G = G} {C = C} step.Cleanup (reply.Cleanup r) → Ample {T = T} {U = U} {G = G} {C = C} step.Cleanup (reply.Cleanup r')
+  cleanup_one : (r r' : _) → Ample {T = T} {U = U} {G = G} {C = C} step.Cleanup (reply.Cleanup r)
+      → Ample {T = T} {U = U} {G = G} {C = C} step.Cleanup (reply.Cleanup r')
       → Rises step.Cleanup (reply.Cleanup r) → Rises step.Cleanup (reply.Cleanup r')
       → ((id : ClientParts) → SameReply {T = T} {U = U} id (reply.Cleanup r) (reply.Cleanup r'))
       → WholeReply {T = T} {U = U} ordered (reply.Cleanup r) (reply.Cleanup r')

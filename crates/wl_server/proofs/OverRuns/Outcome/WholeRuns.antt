@@ -63,7 +63,8 @@ module _ {T U G C : Type 0} where
     call_whole _ _ same ample ample' c c' n n' rises rises' took each h g = absurd same
 
   -- each call has one outcome
-  pub entry_one : (w : World T G C) → IsDetermined w → (s t x y : ServerState T U G C) (e f : Entry T U G C) (ordered : Bool) → SameServer ordered s t → SameCall e.call f.call
+  pub entry_one : (w : World T G C) → IsDetermined w → (s t x y : ServerState T U G C) (e f : Entry T U G C) (ordered : Bool) → SameServer ordered s t
+      → SameCall e.call f.call
       → e.refused ≡ false → f.refused ≡ false → OneStep w s e x → OneStep w t f y
       → WholeAnswer ordered e.call f.call × ((id : ClientParts) → e.did id ≡ f.did id) × SameServer ordered x y
   entry_one w known s t x y e f ordered whole same_call none none' by by' =
@@ -81,7 +82,8 @@ module _ {T U G C : Type 0} where
       shared (here id) (there id) in
       let one = call_whole w known ordered s t same any (e.did any) (f.did any) (seen any x) (seen any y) e.call f.call same_call ample.0 ample'.0
       by.client by'.client by.global numbers by.order by'.order
-      (λ out out' is is' counts. out_one s t (whole.order counts) same.each out.items out'.items (takes_of w s e x out is by) (takes_of w t f y out' is' by'))
+      (λ out out' is is' counts. out_one s t (whole.order counts) same.each out.items out'.items (takes_of w s e x out is by)
+      (takes_of w t f y out' is' by'))
       (λ shared id own. (each shared id).reply own) (here any) (there any) in (
         one.0,
         λ id. (each one.1 id).deeds,
@@ -105,7 +107,8 @@ module _ {T U G C : Type 0} where
 
   pub performance_one : (w : World T G C) → IsDetermined w → PerformancesHaveOneOutcome U w
   performance_one w known ordered s t x y [] [] [] n n' same h g = grind (arith)
-  performance_one w known ordered s t x y (k ∷ steps) (p ∷ replies) (q ∷ replies') n n' same (mid, (e, call, none, by), leads) (mid', (f, call', none', by'), leads') =
+  performance_one w known ordered s t x y (k ∷ steps) (p ∷ replies) (q ∷ replies') n n' same (mid, (e, call, none, by), leads)
+      (mid', (f, call', none', by'), leads') =
       let one = entry_one w known s t mid mid' e f ordered same (grind (arith, e.call, f.call)) none none' by by' in
       let rest = performance_one w known ordered mid mid' x y steps replies replies' (omega (arith, n)) (omega (arith, n')) one.2 leads leads' in
       (((grind (arith, e.call, f.call, one.0)), rest.0), rest.1)

@@ -17,7 +17,8 @@ use Rattle.wl_server.specs.Telling.{reader_part}
 pub returns : goal.returns
 returns g c = record {
   reading = λ a left p end turns out reads fed ample finishes.
-      reading_law g.T.Transport.sends g.T.Transport.receives AsTold (server a) told_function (grind (arith)) left p end turns out reads fed ample finishes;
+      reading_law g.T.Transport.sends g.T.Transport.receives AsTold (server a) told_function
+      (grind (arith)) left p end turns out reads fed ample finishes;
   finish = λ a. finish_law g.T.Transport.sends g.T.Transport.receives AsTold (server a) told_function;
   one = λ a p more answers finishes gave others x y. served_one AsTold told_function (server a) (state_as p more answers) x y finishes gave others;
   calls = λ views. histories_cut _;

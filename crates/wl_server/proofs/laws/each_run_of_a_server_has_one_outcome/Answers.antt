@@ -16,7 +16,8 @@ returns g c = record {
   run = λ function receive_function. run_one _ (transport_determined _ _ g.G.GlobalHandler.views function receive_function);
   steps = λ function receive_function. performance_one _ (transport_determined _ _ g.G.GlobalHandler.views function receive_function);
   script = run_one _ (scripts_determined g.G.GlobalHandler.views);
-  answers = λ s t same. grind (arith, option_map, info_at, object_one, client_one, and_then, held, id_if, live_one, slots_same, global_info_of, name_if);
+  answers =
+      λ s t same. grind (arith, option_map, info_at, object_one, client_one, and_then, held, id_if, live_one, slots_same, global_info_of, name_if);
   client = inserts_next_one;
   global = λ table globals i version a b ok ok' h g. grind (arith, slice_get, nat_le, global_is, least_absent_one, name_range, full_not_absent);
   interfaces = AnswersGrowth-unique;

@@ -29,7 +29,8 @@ returns g c = with_plain (flushes_clients _ _) (rw (← c.self.view_is, c.in-Som
     c.flush-answer.ensures.numbered c.self.invariant.2))
 
 pub invariant_of-self-in_default-stored_mut : goal.invariant_of-self-in_default-stored_mut
-invariant_of-self-in_default-stored_mut g c = (c.self.invariant.0, c.self.invariant.1, c.self.invariant.2, c.in_default-stored_mut.ensures.touched c.self.invariant.3)
+invariant_of-self-in_default-stored_mut g c =
+    (c.self.invariant.0, c.self.invariant.1, c.self.invariant.2, c.in_default-stored_mut.ensures.touched c.self.invariant.3)
 
 pub invariant_of-self-2 : goal.invariant_of-self-2
 invariant_of-self-2 g c = kept_written _ _ _ _ _ _ _ _ _ _ c.in-Some-stored_mut.ensures.value (in_time_same _ _ _ _ c.flush-answer.ensures.times refl)

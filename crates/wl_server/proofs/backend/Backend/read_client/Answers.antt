@@ -16,9 +16,11 @@ pub returns : goal.returns
 returns g c =
     let found = c.find_action-answer.ensures in
     rw (← c.self.view_is) (record {
-      fresh = λ fresh. done_to _ _ _ _ refl c.args.id.now _ _ (λ i l d b a h. (_, c.find_action-answer.new.reading, refl, h)) _ _ c.find_action-answer.new.self _
+      fresh = λ fresh. done_to _ _ _ _ refl c.args.id.now _ _
+          (λ i l d b a h. (_, c.find_action-answer.new.reading, refl, h)) _ _ c.find_action-answer.new.self _
           refl c.in-Some.ensures.value (rw fresh at found.does) _ found.in_time found.numbered c.self.invariant.2;
-      within = done_to _ _ _ _ refl c.args.id.now _ _ (λ i l d b a h. (_, c.find_action-answer.new.reading, refl, h)) _ _ c.find_action-answer.new.self _
+      within =
+          done_to _ _ _ _ refl c.args.id.now _ _ (λ i l d b a h. (_, c.find_action-answer.new.reading, refl, h)) _ _ c.find_action-answer.new.self _
           refl c.in-Some.ensures.value found.does _ found.in_time found.numbered c.self.invariant.2;
       kept = found.kept;
     })

@@ -6,7 +6,8 @@ use Rattle.wl_server.proofs.backend.Backend.serve_some.Given as goal
 
 abbrev pub invariant-loop-fault : goal.invariant-loop-fault
 invariant-loop-fault g l = record {
-  so_far : RoundsSoFar (over g.T.Transport.sends g.T.Transport.receives g.G.GlobalHandler.views) (answering g.H.Handler.requests g.H.Handler.binds) l.id l.fn.handler l.fn.reading l.fn.self l.handler l.reading l.self;
+  so_far : RoundsSoFar (over g.T.Transport.sends g.T.Transport.receives g.G.GlobalHandler.views)
+      (answering g.H.Handler.requests g.H.Handler.binds) l.id l.fn.handler l.fn.reading l.fn.self l.handler l.reading l.self;
   left : l.reading.turns_left ≡ l.fn.reading.turns_left;
 }
 

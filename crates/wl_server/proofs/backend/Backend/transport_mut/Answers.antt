@@ -27,7 +27,8 @@ lent_over : {T U G C : Type 0} (b : BackendState T U G C) (id : ClientParts) (s 
     → record b { server = record b.server { clients = slice_set b.server.clients id.slot (Some (over_transport s t)) } } ≡ state_over b id t
 lent_over b id s t is = grind (arith, slice_set, option_map, over_transport, option_map_or, slot_of_client)
 
-lent_step : {T U G C : Type 0} (w : World T G C) (before : ServerState T U G C) (id : ClientParts) (s : Stored T U C) (t : T) → Some s ≡ client_at id before.clients
+lent_step : {T U G C : Type 0} (w : World T G C) (before : ServerState T U G C) (id : ClientParts) (s : Stored T U C) (t : T)
+    → Some s ≡ client_at id before.clients
     → AllNumbered before.clients → IsChange w before id t (server_over before id t)
 lent_step w before id s t is all =
     let has = slot_of_client before.clients id s is in
@@ -38,7 +39,8 @@ returns-in_default g c = grind (arith, transport_in)
 
 pub returns : goal.returns
 returns g c = (
-  ap (λ f. inl (c.transport_mut.result.ghost_name, f)) (fun_ext (λ w. rw (← c.self.view_is) (lent_over _ c.args.id.now c.in-Some.client.now w c.in-Some.ensures.value))),
+  ap (λ f. inl (c.transport_mut.result.ghost_name, f))
+      (fun_ext (λ w. rw (← c.self.view_is) (lent_over _ c.args.id.now c.in-Some.client.now w c.in-Some.ensures.value))),
   record {
     call = λ t. rw (← c.self.view_is) (lent_step _ _ c.args.id.now c.in-Some.client.now t c.in-Some.ensures.value c.self.invariant.2);
     plain = λ t. rw (← c.self.view_is) (leaves_transport (over g.T.Transport.sends g.T.Transport.receives g.G.GlobalHandler.views) _ c.args.id.now t

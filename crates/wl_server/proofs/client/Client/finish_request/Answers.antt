@@ -17,7 +17,8 @@ pub returns-in-Request-clause-done : goal.returns-in-Request-clause-done
 returns-in-Request-clause-done g c =
     is_open c.args.self.now c.args.user_data
     (λ a p answer refused did q. FinishesOpen g.T.Transport.sends c.args.id.now p a c.args.user_data answer refused did q)
-    (opened.Request c.in-Request.sender c.in-Request.is_destructor c.in-Request.created) (result_and c.end_request.result (Ok tt)) _ c.end_request.new.self
+    (opened.Request c.in-Request.sender c.in-Request.is_destructor c.in-Request.created)
+    (result_and c.end_request.result (Ok tt)) _ c.end_request.new.self
     (rw (← c.self.view_is) (sym c.get.ensures ∙ c.in-Some.is ∙ ap (λ a. Some a) c.in-Request.is)) c.end_request.ensures.done
 
 pub returns-in-Bind-clause-done : goal.returns-in-Bind-clause-done

@@ -35,7 +35,8 @@ loop-end-preserved g c =
       goes = goes_goes _ _ _ _ _ _ _ _ _ so
           (fills_goes _ _ _ _ _ _ waited.0.live (goes_within _ _ _ _ _ _ _ so) waited.2 left refl c.receive.new.self
           c.in_default-receive.ensures.fills);
-      in_time = in_time_both _ _ _ _ _ _ (in_time_both _ _ _ _ _ _ c.loop-end.invariant.in_time c.handle_waiting.ensures.in_time) c.receive.ensures.in_time;
+      in_time =
+          in_time_both _ _ _ _ _ _ (in_time_both _ _ _ _ _ _ c.loop-end.invariant.in_time c.handle_waiting.ensures.in_time) c.receive.ensures.in_time;
       numbered = λ is. c.receive.ensures.numbered (c.handle_waiting.ensures.numbered (c.loop-end.invariant.numbered is));
     }
 

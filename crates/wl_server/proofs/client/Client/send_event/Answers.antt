@@ -48,11 +48,13 @@ returns-clause-does g c =
     let ends = c.in-Ok.granted.1 in
     let times : NoteTimes = record { made = map (λ m. m.0) c.self.inside.made.queue.items; waiting = map (λ w. w.0) c.end_sender.new.waiting.queue.items } in
     let registries = of_sender c.self.inside.objects.map.store c.args.message.now.sender_id sender
-    (λ x. c.end_sender.new.objects.registries.items ≡ registries_ending ends c.self.inside.objects.registries.items c.args.message.now.sender_id.number x) c.in-Ok.ensures.sender c.end_sender.ensures.registries in
+    (λ x. c.end_sender.new.objects.registries.items
+    ≡ registries_ending ends c.self.inside.objects.registries.items c.args.message.now.sender_id.number x) c.in-Ok.ensures.sender c.end_sender.ensures.registries in
     let waiting = of_sender c.self.inside.objects.map.store c.args.message.now.sender_id sender
     (λ x. map (λ w. w.1) c.end_sender.new.waiting.queue.items
     ≡ map (λ w. w.1) c.make_room.new.waiting.queue.items ++ notes_ending ends c.args.message.now.sender_id.client c.args.message.now.sender_id.number x) c.in-Ok.ensures.sender c.end_sender.ensures.waiting in
-    was_granted g.T.Transport.sends c.args.message.now.sender_id.client c.args.protocol.now c.args.self.now (session_content c.args.message.now) sender ends _ c.tell_end.result c.tell_end.new.self
+    was_granted g.T.Transport.sends c.args.message.now.sender_id.client c.args.protocol.now c.args.self.now
+    (session_content c.args.message.now) sender ends _ c.tell_end.result c.tell_end.new.self
     (rw (← c.self.view_is) c.if-self.false) (rw (← c.self.view_is) (rw c.client.ensures at c.in-Ok.ensures.decided))
     (sent c.args.message.now.sender_id.client (session_content c.args.message.now) sender g.T.Transport.sends c.args.self.now
     (record { serial = _; part = _; made = _; times = times })

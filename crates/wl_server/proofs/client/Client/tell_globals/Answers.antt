@@ -11,6 +11,7 @@ pub returns-clause-handled : goal.returns-clause-handled
 returns-clause-handled g c h =
     rw (← c.self.view_is)
     (replied _ _ _ c.put_globals-wrote.new.socket
-    (introductions c.args.around.now.protocol.now (id_of c.args.registry.now) 0 (shown g.G.GlobalHandler.views (around_of g.G.GlobalHandler.views c.args.around.now).globals c.args.around.now.client c.self.inside.data))
+    (introductions c.args.around.now.protocol.now (id_of c.args.registry.now) 0
+    (shown g.G.GlobalHandler.views (around_of g.G.GlobalHandler.views c.args.around.now).globals c.args.around.now.client c.self.inside.data))
     (Remembered (id_of c.args.registry.now) ∷ []) c.put_globals-wrote.result c.kill_unless_answered.result h (λ stops. (refl, λ rest. refl))
     (rw (← c.self.view_is) at c.requires) c.put_globals-wrote.ensures c.kill_unless_answered.ensures.replied)

@@ -11,7 +11,8 @@ loop-slot-init g c = record { felt = none_felt _ _; ends = c.len-slot-end.ensure
 
 pub loop-slot-preserved : goal.loop-slot-preserved
 loop-slot-preserved g c =
-    let here = slice_get_read c.loop-slot.clients.items _ c.loop-slot.slot c.index_mut.result.now (c.loop-slot.invariant.ends ∙ sym c.loop-slot.invariant.felt.len) c.loop-slot-test.true c.index_mut.ensures.value in
+    let here = slice_get_read c.loop-slot.clients.items _ c.loop-slot.slot c.index_mut.result.now
+    (c.loop-slot.invariant.ends ∙ sym c.loop-slot.invariant.felt.len) c.loop-slot-test.true c.index_mut.ensures.value in
     record {
       felt = one_more_felt _ _ _ _ _ _ _ _ c.loop-slot.invariant.felt here (c.flush_at-refused.ensures.felt c.loop-slot.slot);
       ends = c.loop-slot.invariant.ends;

@@ -28,11 +28,13 @@ loop-slot-init g c =
 pub loop-slot-preserved : goal.loop-slot-preserved
 loop-slot-preserved g c =
     let inv = c.loop-slot.invariant in
-    let here = slice_get_read c.loop-slot.clients.items _ c.loop-slot.slot c.index_mut.result.now (inv.ends ∙ sym inv.felt.len) c.loop-slot-test.true c.index_mut.ensures.value in
+    let here = slice_get_read c.loop-slot.clients.items _ c.loop-slot.slot c.index_mut.result.now
+    (inv.ends ∙ sym inv.felt.len) c.loop-slot-test.true c.index_mut.ensures.value in
     let next = c.next_from-slot-in-loop-slot.ensures in
     let now = slice_set c.loop-slot.clients.items c.loop-slot.slot c.flush_at-refused.new.client in
     let long = length-set c.loop-slot.clients.items c.loop-slot.slot c.flush_at-refused.new.client in
-    let read = slice_get_read now _ c.loop-slot.slot c.index.result.now refl (omega (arith, c.loop-slot-test.true, long, inv.ends, inv.felt.len)) c.index.ensures in
+    let read = slice_get_read now _ c.loop-slot.slot c.index.result.now refl
+    (omega (arith, c.loop-slot-test.true, long, inv.ends, inv.felt.len)) c.index.ensures in
     let sent = out_taken HasSent _ _ now c.loop-slot.slot _ _ c.remove_if.ensures read c.has_sent.ensures
     (out_set HasSent _ _ _ _ _ here c.flush_at-refused.ensures.sent inv.sent) in
     record {
@@ -43,5 +45,6 @@ loop-slot-preserved g c =
       times = map_set times_of _ _ _ _ here c.flush_at-refused.ensures.times ∙ inv.times;
       numbered = λ all. each_stays IsNumbered _ _ _ _ here c.flush_at-refused.ensures.numbered (inv.numbered all);
       sent = sent;
-      quiet = λ words all. out_set IsQuiet words c.loop-slot.clients.items c.loop-slot.slot _ _ here c.flush_at-refused.ensures.quiet (inv.quiet words all);
+      quiet = λ words all. out_set IsQuiet words c.loop-slot.clients.items c.loop-slot.slot _ _ here c.flush_at-refused.ensures.quiet
+          (inv.quiet words all);
     }

@@ -7,7 +7,8 @@ use Rattle.wl_server.proofs.Touched.Kept.{put_touched, stay_touched}
 use Rattle.wl_server.proofs.client.insert.put_new.Goals as goal
 use Rattle.wl_server.specs.NoteOrder.{NotesInTime, times_at, times_of}
 
-moved : {T U C : Type 0} (xs ys after : List (Option (Stored T U C))) (n m : _) (s : Stored T U C) → xs ≡ ys → n ≡ m → IsPut xs n s after → IsPut ys m s after
+moved : {T U C : Type 0} (xs ys after : List (Option (Stored T U C))) (n m : _) (s : Stored T U C) → xs ≡ ys → n ≡ m → IsPut xs n s after
+    → IsPut ys m s after
 moved xs ys after n m s lists slots put =
     subst (λ (k : _). IsPut ys k s after) slots (subst (λ (l : List (Option (Stored _ _ _))). IsPut l n s after) lists put)
 

@@ -12,5 +12,6 @@ returns g c =
     let args = c.args.args.now in
     let t = zip_end desc.signature.items args c.loop-kind.yielded c.into_iter-kind-iterator.result c.loop-kind.kind-iterator c.next.new.self c.next.result (cc) (cc) c.loop-kind.yielded_by c.in-None.is c.next.ensures.steps in
     ◌∙◌ {c = first_refusal (argument_faults c.args.client.now c.args.objects.now.store (message_row desc) desc.signature.items desc.arg_interfaces.items args)}
-    (no_fault c.args.client.now c.args.objects.now.store (message_row desc) desc.signature.items c.loop-kind.asked.now args (length c.loop-kind.yielded) (λ short also. omega (arith, t)))
+    (no_fault c.args.client.now c.args.objects.now.store (message_row desc) desc.signature.items c.loop-kind.asked.now args
+    (length c.loop-kind.yielded) (λ short also. omega (arith, t)))
     c.loop-kind.invariant

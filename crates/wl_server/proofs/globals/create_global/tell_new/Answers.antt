@@ -12,7 +12,8 @@ loop-slot-init g c = grind (arith, none_felt, shown_as, turn_still)
 
 pub loop-slot-preserved : goal.loop-slot-preserved
 loop-slot-preserved g c =
-    let here = slice_get-get_or c.loop-slot.clients c.loop-slot.slot c.index-clients-slot.result (omega (arith, c.loop-slot-test.true, c.loop-slot.invariant.felt.len)) in
+    let here = slice_get-get_or c.loop-slot.clients c.loop-slot.slot c.index-clients-slot.result
+    (omega (arith, c.loop-slot-test.true, c.loop-slot.invariant.felt.len)) in
     record {
       felt = one_more_felt _ _ _ _ _ _ _ _ c.loop-slot.invariant.felt here (rw (← c.loop-slot.invariant.table) c.tell_new_at-refused.ensures.felt);
       table = ap (λ (a : Announced). a.table) c.tell_new_at-refused.ensures.same ∙ c.loop-slot.invariant.table;

@@ -12,7 +12,8 @@ returns-then-not-can_view-clause-felt g c =
     let told : Shown = record { name = c.args.id.now.name; interface = c.args.global.now.interface; version = c.args.global.now.version } in
     place_felt (HearsNew g.T.Transport.sends g.G.GlobalHandler.views table c.args.id.now c.args.global.now) c.args.slot _ c.from_parts-client_id.result c.in-Some.client
     c.in-Some.client c.args.client.now _ c.in-Some.is c.from_parts-client_id.ensures (ap (λ (s : Stored _ _ _). s.serial) c.client.view_is)
-    (rw (← c.client.view_is) (unseen_hears g.T.Transport.sends table _ told (record { serial = _; part = _; made = _; times = no_times }) c.if-not-client.true (sym c.can_view.ensures ∙ c.if-not-can_view.true)))
+    (rw (← c.client.view_is) (unseen_hears g.T.Transport.sends table _ told
+    (record { serial = _; part = _; made = _; times = no_times }) c.if-not-client.true (sym c.can_view.ensures ∙ c.if-not-can_view.true)))
 
 pub returns-else-not-can_view-clause-felt : goal.returns-else-not-can_view-clause-felt
 returns-else-not-can_view-clause-felt g c =
@@ -26,4 +27,5 @@ returns-else-not-can_view-clause-felt g c =
     c.kill_unless_written.ensures.closed))
 
 pub returns-in_default-clause-felt : goal.returns-in_default-clause-felt
-returns-in_default-clause-felt g c = rw c.in-Some.is (c.in-Some.client, rw (← c.client.view_is) (killed_hears _ (record { serial = _; part = _; made = _; times = no_times }) _ c.if-not-client.false), refl)
+returns-in_default-clause-felt g c = rw c.in-Some.is
+    (c.in-Some.client, rw (← c.client.view_is) (killed_hears _ (record { serial = _; part = _; made = _; times = no_times }) _ c.if-not-client.false), refl)

@@ -16,7 +16,8 @@ returns-clause-puts g c serial =
     let m = making (nat_lt (room_in c.args.message.now.args.items) (length (name_of c.args.protocol.now c.args.global.now.interface.0)))
     (global_message c.args.protocol.now registry (shown_as (c.args.name, c.args.global.now))) in
     puts_one g.T.Transport.sends c.args.socket.now c.write_message.new.self m c.write_message.result
-    (wrote_by g.T.Transport.sends c.args.socket.now c.write_message.new.self registry _ _ _ _ _ _ _ c.in-Ok.ensures.sender (c.in-Ok.ensures.opcode ∙ c.requires.opcode) c.in-Ok.ensures.news refl c.write_message.ensures.wrote)
+    (wrote_by g.T.Transport.sends c.args.socket.now c.write_message.new.self registry _ _ _ _ _ _ _ c.in-Ok.ensures.sender
+    (c.in-Ok.ensures.opcode ∙ c.requires.opcode) c.in-Ok.ensures.news refl c.write_message.ensures.wrote)
 
 pub returns-in_default-clause-puts : goal.returns-in_default-clause-puts
 returns-in_default-clause-puts g c serial =

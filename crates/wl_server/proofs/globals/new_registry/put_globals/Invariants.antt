@@ -11,7 +11,8 @@ use Rattle.wl_server.proofs.globals.new_registry.put_globals.Given as goal
 abbrev pub invariant-loop-name : goal.invariant-loop-name
 invariant-loop-name g l = record {
   told : ToldTo g.T.Transport.sends (around_of g.G.GlobalHandler.views l.fn.around) l.fn.client_data (id_of l.fn.registry) l.fn.socket
-      (introductions l.fn.around.protocol.now (id_of l.fn.registry) 0 (shown g.G.GlobalHandler.views (around_of g.G.GlobalHandler.views l.fn.around).globals l.fn.around.client l.fn.client_data))
+      (introductions l.fn.around.protocol.now (id_of l.fn.registry) 0
+      (shown g.G.GlobalHandler.views (around_of g.G.GlobalHandler.views l.fn.around).globals l.fn.around.client l.fn.client_data))
       l.socket (room_in l.message.args.items) l.globals;
   sender : l.message.sender_id ≡ l.fn.registry.number;
   opcode : l.message.opcode ≡ 0;

@@ -10,7 +10,8 @@ loop-slot-init g c = record { felt = none_felt _ _; ends = refl; in_time = grind
 
 pub loop-slot-preserved : goal.loop-slot-preserved
 loop-slot-preserved g c =
-    let here = slice_get-get_or c.loop-slot.clients c.loop-slot.slot c.index-clients-slot.result (omega (arith, c.loop-slot-test.true, c.loop-slot.invariant.felt.len)) in
+    let here = slice_get-get_or c.loop-slot.clients c.loop-slot.slot c.index-clients-slot.result
+    (omega (arith, c.loop-slot-test.true, c.loop-slot.invariant.felt.len)) in
     record {
       felt = one_more_felt _ _ _ _ _ _ _ _ c.loop-slot.invariant.felt here (c.tell_loss_at-refused.ensures.felt c.loop-slot.slot);
       ends = refl;

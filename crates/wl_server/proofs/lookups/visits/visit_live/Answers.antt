@@ -9,13 +9,15 @@ loop-place-preserved g c = elim c.match-live_at.branch [
   | in-Some-live_at w ↦ (
     rw w.f-is (search of_calls),
     omega (arith, c.loop-place.invariant.1, c.in-Some.ensures.cases.1),
-    λ last folds. c.loop-place.invariant.2 last (live_first (λ p x q. goal.F-step g p x tt q) c.loop-place.slot c.in-Some.place.now c.loop-place.rest.now c.in-Some.others.now
+    λ last folds. c.loop-place.invariant.2 last
+        (live_first (λ p x q. goal.F-step g p x tt q) c.loop-place.slot c.in-Some.place.now c.loop-place.rest.now c.in-Some.others.now
         c.live_at.result c.loop-place.f c.match-live_at.f last c.in-Some.ensures.cases.0 c.live_at.ensures (rw (w.in-Some-live_at.is, w.f-is) w.f.ensures) folds),
   )
   | in_default-live_at w ↦ (
     rw w.f-is c.loop-place.invariant.0,
     omega (arith, c.loop-place.invariant.1, c.in-Some.ensures.cases.1),
-    λ last folds. c.loop-place.invariant.2 last (live_first (λ p x q. goal.F-step g p x tt q) c.loop-place.slot c.in-Some.place.now c.loop-place.rest.now c.in-Some.others.now
+    λ last folds. c.loop-place.invariant.2 last
+        (live_first (λ p x q. goal.F-step g p x tt q) c.loop-place.slot c.in-Some.place.now c.loop-place.rest.now c.in-Some.others.now
         c.live_at.result c.loop-place.f c.match-live_at.f last c.in-Some.ensures.cases.0 c.live_at.ensures (rw w.in_default-live_at.is w.f-is) folds),
   )
 ]

@@ -9,9 +9,11 @@ use Rattle.wl_server.proofs.notes.cleanup.count_work.Given as goal
 abbrev pub invariant-loop-slot : goal.invariant-loop-slot
 invariant-loop-slot g l = record {
   gathered : l.gathered < 0xFFFFFFFFFFFFFFFF → count_leaving true l.clients ≤ l.gathered + count_leaving true (drop l.slot l.clients);
-  places : l.gathered < 0xFFFFFFFFFFFFFFFF → count_places true (map times_of l.clients) ≤ l.gathered + count_places true (map times_of (drop l.slot l.clients));
+  places : l.gathered < 0xFFFFFFFFFFFFFFFF → count_places true (map times_of l.clients) ≤ l.gathered + count_places true
+      (map times_of (drop l.slot l.clients));
   few_gathered : l.gathered + count_leaving true (drop l.slot l.clients) ≤ count_leaving true l.clients;
-  leaving : l.leaving < 0xFFFFFFFFFFFFFFFF → length (collected given_at 0 l.clients) ≤ l.leaving + length (collected given_at l.slot (drop l.slot l.clients));
+  leaving : l.leaving < 0xFFFFFFFFFFFFFFFF → length (collected given_at 0 l.clients) ≤ l.leaving + length
+      (collected given_at l.slot (drop l.slot l.clients));
   few_leaving : l.leaving + length (collected given_at l.slot (drop l.slot l.clients)) ≤ length (collected given_at 0 l.clients);
   ends : l.ends < 0xFFFFFFFFFFFFFFFF → length (collected ends_at 0 l.clients) ≤ l.ends + length (collected ends_at l.slot (drop l.slot l.clients));
   quiet : AllQuiet l.to_note.words.items l.clients;

@@ -10,7 +10,8 @@ use Rattle.wl_server.proofs.notes.cleanup.leave_at.Goals as goal
 pub end_objects-requires : goal.end_objects-requires
 end_objects-requires g c =
     let long : length (ends_at c.args.slot c.args.place.now) ≡ length (with_data (entries c.client-in-Some-take.inside.objects.map.store.objects)) =
-    ends_length c.args.slot c.args.place.now c.in-Some.client c.in-Some.is (ap (λ (s : Stored _ _ _). s.part.is_killed) (sym c.client.view_is) ∙ c.if-not-client.false)
+    ends_length c.args.slot c.args.place.now c.in-Some.client c.in-Some.is
+    (ap (λ (s : Stored _ _ _). s.part.is_killed) (sym c.client.view_is) ∙ c.if-not-client.false)
     ∙ (ap (λ (s : Stored _ _ _). length (with_data (entries s.part.store.objects))) (sym (same_Some _ _ (sym c.in-Some-take.is ∙ c.take.ensures.value)))
     ∙ ap (λ (s : Stored _ _ _). length (with_data (entries s.part.store.objects))) (sym c.client-in-Some-take.view_is))
     in
@@ -18,7 +19,8 @@ end_objects-requires g c =
 
 pub returns-in-Some-take-clause-noted : goal.returns-in-Some-take-clause-noted
 returns-in-Some-take-clause-noted g c =
-    let killed : c.in-Some.client.part.is_killed ≡ true = ap (λ (s : Stored _ _ _). s.part.is_killed) (sym c.client.view_is) ∙ c.if-not-client.false in
+    let killed : c.in-Some.client.part.is_killed ≡ true = ap (λ (s : Stored _ _ _). s.part.is_killed) (sym c.client.view_is)
+    ∙ c.if-not-client.false in
     let same : c.in-Some-take.client ≡ c.in-Some.client = same_Some _ _ (sym c.in-Some-take.is ∙ c.take.ensures.value) in
     c.end_objects.ensures.noted
     ∙ (ap (λ (i : ClientParts). c.args.notes.now.items ++ map (note_of i) (ends_of i (entries c.client-in-Some-take.inside.objects.map.store.objects))) c.from_parts-id.ensures

@@ -9,7 +9,8 @@ use Rattle.wl_server.proofs.CleanupSteps.Ordering.{none_order}
 use Rattle.wl_server.proofs.notes.cleanup.memory_for.Goals as goal
 
 pub returns-then-count-eq0-clause-notes : goal.returns-then-count-eq0-clause-notes
-returns-then-count-eq0-clause-notes g c = grind (arith, none_of, length, collected, given_at, vec_len, vec_capacity, count_leaving, ends_at, none_ends)
+returns-then-count-eq0-clause-notes g c =
+    grind (arith, none_of, length, collected, given_at, vec_len, vec_capacity, count_leaving, ends_at, none_ends)
 
 pub returns-then-count-eq0-clause-given : goal.returns-then-count-eq0-clause-given
 returns-then-count-eq0-clause-given g c = grind (arith, none_of, length, collected, given_at, vec_capacity)

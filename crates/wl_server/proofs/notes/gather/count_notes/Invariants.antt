@@ -8,7 +8,8 @@ use Rattle.wl_server.proofs.notes.gather.count_notes.Given as goal
 abbrev pub invariant-loop-slot : goal.invariant-loop-slot
 invariant-loop-slot g l = record {
   all : l.count < 0xFFFFFFFFFFFFFFFF → count_leaving l.waits l.clients ≤ l.count + count_leaving l.waits (drop l.slot l.clients);
-  places : l.count < 0xFFFFFFFFFFFFFFFF → count_places l.waits (map times_of l.clients) ≤ l.count + count_places l.waits (map times_of (drop l.slot l.clients));
+  places : l.count < 0xFFFFFFFFFFFFFFFF → count_places l.waits (map times_of l.clients) ≤ l.count + count_places l.waits
+      (map times_of (drop l.slot l.clients));
   no_more : l.count + count_leaving l.waits (drop l.slot l.clients) ≤ count_leaving l.waits l.clients;
   quiet : AllQuiet l.to_note.words.items l.clients;
   within : l.slot ≤ l.end;

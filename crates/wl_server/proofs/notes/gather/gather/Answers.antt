@@ -17,20 +17,23 @@ index_mut-requires g c =
 pub move_note-requires-clause-some : goal.move_note-requires-clause-some
 move_note-requires-clause-some g c =
     let within = place_within c.args.waits _ _ _ _ _ c.loop-place-test.true c.slot-slot.ensures c.loop-place.invariant.left in
-    let here = slice_get_read c.loop-place.clients.items _ _ c.index_mut.result.now c.loop-place.clients.ok.0 (omega (arith, within, c.loop-place.clients.ok.0)) c.index_mut.ensures.value in
+    let here = slice_get_read c.loop-place.clients.items _ _ c.index_mut.result.now c.loop-place.clients.ok.0
+    (omega (arith, within, c.loop-place.clients.ok.0)) c.index_mut.ensures.value in
     place_some c.args.waits _ _ _ _ _ _ c.loop-place-test.true c.slot-slot.ensures here c.loop-place.invariant.left
 
 pub move_note-requires-clause-room : goal.move_note-requires-clause-room
 move_note-requires-clause-room g c =
     let within = place_within c.args.waits _ _ _ _ _ c.loop-place-test.true c.slot-slot.ensures c.loop-place.invariant.left in
-    let here = slice_get_read c.loop-place.clients.items _ _ c.index_mut.result.now c.loop-place.clients.ok.0 (omega (arith, within, c.loop-place.clients.ok.0)) c.index_mut.ensures.value in
+    let here = slice_get_read c.loop-place.clients.items _ _ c.index_mut.result.now c.loop-place.clients.ok.0
+    (omega (arith, within, c.loop-place.clients.ok.0)) c.index_mut.ensures.value in
     let some = place_some c.args.waits _ _ _ _ _ _ c.loop-place-test.true c.slot-slot.ensures here c.loop-place.invariant.left in
     grind (arith, some, count_at, c.args.waits, c.loop-place.invariant.gathered, c.args.notes.now.ok.0, c.loop-place.notes.ok.0, c.requires.room, c.loop-place.invariant.capacity)
 
 pub loop-place-preserved : goal.loop-place-preserved
 loop-place-preserved g c =
     let within = place_within c.args.waits _ _ _ _ _ c.loop-place-test.true c.slot-slot.ensures c.loop-place.invariant.left in
-    let here = slice_get_read c.loop-place.clients.items _ _ c.index_mut.result.now c.loop-place.clients.ok.0 (omega (arith, within, c.loop-place.clients.ok.0)) c.index_mut.ensures.value in
+    let here = slice_get_read c.loop-place.clients.items _ _ c.index_mut.result.now c.loop-place.clients.ok.0
+    (omega (arith, within, c.loop-place.clients.ok.0)) c.index_mut.ensures.value in
     record {
       gathered =
           let moved = c.move_note.ensures.moved in
@@ -39,8 +42,10 @@ loop-place-preserved g c =
       left = place_left _ _ _ _ _ _ _ _ _ _ c.loop-place-test.true c.slot-slot.ensures here c.move_note.ensures.moved c.loop-place.invariant.left;
       along = along_more _ _ _ _ _ _ _ c.loop-place-test.true c.slot-slot.ensures c.loop-place.invariant.along
           (grind (arith, to_gather, note_of, c.args.waits, c.loop-place.notes.items, c.move_note.new.notes.items, c.slot-slot.result, c.move_note.ensures.moved));
-      first = λ k. takes_both (times_at k _) (times_at k _) (times_at k _) (c.loop-place.invariant.first k) (take_set _ _ _ _ here c.move_note.ensures.first k);
-      numbered = each_stays (AreNumbered c.args.waits) c.loop-place.clients.items _ _ _ here (λ was. c.move_note.ensures.numbered) c.loop-place.invariant.numbered;
+      first = λ k. takes_both (times_at k _) (times_at k _) (times_at k _) (c.loop-place.invariant.first k)
+          (take_set _ _ _ _ here c.move_note.ensures.first k);
+      numbered = each_stays (AreNumbered c.args.waits) c.loop-place.clients.items _ _ _ here
+          (λ was. c.move_note.ensures.numbered) c.loop-place.invariant.numbered;
       all_numbered = λ all. each_stays IsNumbered _ _ _ _ here c.move_note.ensures.all_numbered (c.loop-place.invariant.all_numbered all);
       capacity = c.move_note.ensures.capacity ∙ c.loop-place.invariant.capacity;
     }
@@ -60,4 +65,5 @@ loop-place-init g c = record {
 
 pub returns-clause-no_numbers : goal.returns-clause-no_numbers
 returns-clause-no_numbers g c = none_numbered _ _ _
-    (drop_all c.loop-place.place-index c.args.order.now (omega (arith, c.loop-place-test.false))) c.loop-place.invariant.left c.loop-place.invariant.numbered
+    (drop_all c.loop-place.place-index c.args.order.now
+    (omega (arith, c.loop-place-test.false))) c.loop-place.invariant.left c.loop-place.invariant.numbered

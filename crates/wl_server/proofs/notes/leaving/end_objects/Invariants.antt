@@ -8,6 +8,7 @@ use Rattle.wl_server.proofs.notes.leaving.end_objects.Given as goal
 
 abbrev pub invariant-loop-number : goal.invariant-loop-number
 invariant-loop-number g l = record {
-  ending : Ending l.client l.notes.items l.all (l.fn.notes.items ++ map (note_of l.client) (ends_of l.client (entries l.fn.objects.map.store.objects))) (vec_capacity l.fn.notes);
+  ending : Ending l.client l.notes.items l.all
+      (l.fn.notes.items ++ map (note_of l.client) (ends_of l.client (entries l.fn.objects.map.store.objects))) (vec_capacity l.fn.notes);
   capacity : vec_capacity l.notes ≡ vec_capacity l.fn.notes;
 }

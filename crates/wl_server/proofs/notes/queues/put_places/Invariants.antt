@@ -5,4 +5,5 @@ use Rattle.wl_server.proofs.notes.queues.put_places.Given as goal
 
 abbrev pub invariant-loop-number : goal.invariant-loop-number
 invariant-loop-number g l =
-    l.order.items ++ map (place_of l.waits l.slot) (deque_iter_rest l.number-iterator) ≡ l.fn.order.items ++ map (place_of l.waits l.slot) l.queue.items
+    l.order.items ++ map (place_of l.waits l.slot) (deque_iter_rest l.number-iterator) ≡ l.fn.order.items
+    ++ map (place_of l.waits l.slot) l.queue.items

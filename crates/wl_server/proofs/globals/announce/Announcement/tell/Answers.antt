@@ -22,9 +22,12 @@ returns-then-is_empty-clause-puts g c = each_of_none _ _ _ _ (eqb-true _ _ (sym 
 pub returns-in_default-new_message-clause-puts : goal.returns-in_default-new_message-clause-puts
 returns-in_default-new_message-clause-puts g c = grind (arith, each_starved, other_of, is_first, same_id_self)
 
-told_each : {T : Type 0} (sends : T → Queue → Result ℕ IoFault → T → Type 0) (before after : LinkState T) (table : List InterfaceRow) (g : Shown) (rs : List Id) (opcode : ℕ)
-    (args : List WireArgument) (answer : Result (Unit {0}) IoFault) → opcode ≡ 0 → args ≡ arg.Uint g.name ∷ arg.Str (Some (name_of table g.interface.0)) ∷ arg.Uint g.version ∷ []
-    → Puts sends before (map (λ r. making (is_first rs r) (by_object r opcode args)) rs) answer after → Puts sends before (announcements table rs g) answer after
+told_each : {T : Type 0} (sends : T → Queue → Result ℕ IoFault → T → Type 0) (before after : LinkState T) (table : List InterfaceRow) (g : Shown)
+    (rs : List Id) (opcode : ℕ)
+    (args : List WireArgument) (answer : Result (Unit {0}) IoFault) → opcode ≡ 0
+    → args ≡ arg.Uint g.name ∷ arg.Str (Some (name_of table g.interface.0)) ∷ arg.Uint g.version ∷ []
+    → Puts sends before (map (λ r. making (is_first rs r) (by_object r opcode args)) rs) answer after
+    → Puts sends before (announcements table rs g) answer after
 told_each sends before after table g rs opcode args answer same_opcode same_args puts = grind (arith, map, making, is_first, by_object, name_of)
 
 pub returns-in-Some-clause-puts : goal.returns-in-Some-clause-puts

@@ -9,7 +9,8 @@ use Rattle.wl_server.proofs.reading.in_place.arguments.copied_text.Goals as goal
 
 no_zero : (bytes : List ℕ) → (Contains bytes 0 → false ≡ true) → list_any (λ b. b == 0) bytes ≡ false
 no_zero bytes h =
-    false_from_ne_true (list_any (λ b. b == 0) bytes) (λ e. let k = h (Contains-from_any {eq = λ x y. y == x} (λ x y is. sym (eqb-true y x is)) 0 bytes e) in cc)
+    false_from_ne_true (list_any (λ b. b == 0) bytes)
+    (λ e. let k = h (Contains-from_any {eq = λ x y. y == x} (λ x y is. sym (eqb-true y x is)) 0 bytes e) in cc)
 
 pub returns-in-Ok-new : goal.returns-in-Ok-new
 unfolding text_of

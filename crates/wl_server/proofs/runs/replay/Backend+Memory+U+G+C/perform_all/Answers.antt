@@ -36,5 +36,6 @@ loop-step-preserved g c =
 
 pub returns-clause-made : goal.returns-clause-made
 returns-clause-made g c calm =
-    let none : c.loop-step.steps.items ≡ [] = empty_of c.loop-step.steps.len c.loop-step.steps.items c.loop-step.steps.ok.0 (λ some. false≢true (c.in_default-pop.ensures.variant.1 some)) in
+    let none : c.loop-step.steps.items ≡ [] = empty_of c.loop-step.steps.len c.loop-step.steps.items c.loop-step.steps.ok.0
+    (λ some. false≢true (c.in_default-pop.ensures.variant.1 some)) in
     ends (StepOf (over_scripts g.G.GlobalHandler.views)) c.args.self.now.server c.loop-step.self.server c.args.steps.now.items c.loop-step.replies.items c.loop-step.steps.items none c.loop-step.invariant.so_far

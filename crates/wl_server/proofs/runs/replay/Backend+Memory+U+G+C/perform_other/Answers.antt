@@ -14,4 +14,5 @@ pub returns-in-KillClient : goal.returns-in-KillClient
 returns-in-KillClient g c = rw c.in-KillClient.is (over_script g.G.GlobalHandler.views _ _ _ _ c.kill_client.ensures.call)
 
 pub returns-in-SetClientMaxBufferSize : goal.returns-in-SetClientMaxBufferSize
-returns-in-SetClientMaxBufferSize g c = rw c.in-SetClientMaxBufferSize.is (over_script g.G.GlobalHandler.views _ _ _ _ c.set_client_max_buffer_size.ensures.call)
+returns-in-SetClientMaxBufferSize g c =
+    rw c.in-SetClientMaxBufferSize.is (over_script g.G.GlobalHandler.views _ _ _ _ c.set_client_max_buffer_size.ensures.call)

@@ -8,7 +8,8 @@ pub returns-in-Flush : goal.returns-in-Flush
 returns-in-Flush g c = rw c.in-Flush.is (over_script g.G.GlobalHandler.views _ _ _ _ c.flush.ensures.call)
 
 pub returns-in-SetDefaultMaxBufferSize : goal.returns-in-SetDefaultMaxBufferSize
-returns-in-SetDefaultMaxBufferSize g c = rw c.in-SetDefaultMaxBufferSize.is (over_script g.G.GlobalHandler.views _ _ _ _ c.set_default_max_buffer_size.ensures.call)
+returns-in-SetDefaultMaxBufferSize g c =
+    rw c.in-SetDefaultMaxBufferSize.is (over_script g.G.GlobalHandler.views _ _ _ _ c.set_default_max_buffer_size.ensures.call)
 
 pub returns-in-Cleanup : goal.returns-in-Cleanup
 returns-in-Cleanup g c = rw c.in-Cleanup.is (over_script g.G.GlobalHandler.views _ _ _ _ c.cleanup.ensures.call)

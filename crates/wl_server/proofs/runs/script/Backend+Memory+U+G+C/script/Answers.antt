@@ -22,7 +22,8 @@ own T U G C id (call.Arrive bytes tokens) answer = refl
 own T U G C id _ answer = refl
 
 -- the step is that of its script's call, whichever it is
-to : {U G C : Type 0} (views : _) (before : ServerState Script U G C) (target : ClientParts) (x : ScriptCall) (answer : Result (Unit {0}) ScriptError) (id : ClientParts) (lacked : Bool)
+to : {U G C : Type 0} (views : _) (before : ServerState Script U G C) (target : ClientParts) (x : ScriptCall) (answer : Result (Unit {0}) ScriptError)
+    (id : ClientParts) (lacked : Bool)
     (did : List (Deed U)) (b a : Seen Script U C)
     → OfClient (same_client target id) b (λ p q. moves (move_of x) (nothing_taken answer) id p lacked did q)
     (nothing_taken answer ≡ Err refused.InvalidId) lacked did a
