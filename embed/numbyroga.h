@@ -81,6 +81,21 @@
 extern "C" {
 #endif
 
+/* ======== The version */
+
+/* The version of this header. A number grows with each version: `#if NB_VERSION >= 0x000200`. */
+#define NB_VERSION_MAJOR 0
+#define NB_VERSION_MINOR 2
+#define NB_VERSION_PATCH 0
+#define NB_VERSION (NB_VERSION_MAJOR << 16 | NB_VERSION_MINOR << 8 | NB_VERSION_PATCH)
+
+/* The bit of nb_version that tells of a library which was built without a proof, for those who develop it. */
+#define NB_UNPROVED 0x80000000u
+
+/* The version of the library, in the form of NB_VERSION. A program that was compiled beside a header of the same major
+ * and minor number runs over it. */
+uint32_t nb_version(void);
+
 /* ======== Places */
 
 /* The place of a server's session. Its fields are the library's. */
@@ -432,8 +447,8 @@ nb_status nb_server_memory_refused(nb_server *place, uint32_t *is_refused);
 
 /* Sets how far the buffers of clients that are inserted from now on may grow, in bytes: the one of what is to be sent,
  * and the one of what was received and is not read yet. It is rounded up to a power of two of at least 4096; the buffer
- * of what was received never grows beyond 65536. A client for which more would wait is killed. At first it is 4096,
- * which is too little for most hosts: 1048576 is a good choice. */
+ * of what was received never grows beyond 65536. A client for which more would wait is killed. At first it is 1048576.
+ */
 nb_status nb_server_set_default_max_buffer_size(nb_server *place, uint64_t size);
 
 /* Sets the same for a client that is there. An unknown client is no error: nothing is done. */

@@ -103,6 +103,7 @@ int main(void)
     nb_object_id object = begin();
     nb_object_info info;
     nb_gone gone;
+    HOLDS((nb_version() & ~NB_UNPROVED) == NB_VERSION);
     HOLDS(object.number == 3 && object.interface == NB_QUAD && object.serial != 0);
     HOLDS(nb_same_client(&object.client, &client));
     OK(nb_server_object_info(&server, &object, &info));

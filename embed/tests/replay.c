@@ -387,7 +387,9 @@ static int replay(const char *path)
     memset(is_in, 0, sizeof is_in);
     memset(is_killed, 0, sizeof is_killed);
     memset(is_blocked, 0, sizeof is_blocked);
-    if (nb_server_start(&server, &quad, &table) != NB_OK)
+    /* The core's own limit, over which wl-bench runs. */
+    if (nb_server_start(&server, &quad, &table) != NB_OK ||
+        nb_server_set_default_max_buffer_size(&server, 4096) != NB_OK)
         return -1;
     while (same && fgets(line, sizeof line, file)) {
         char *words[8], *state = NULL;

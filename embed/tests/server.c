@@ -270,6 +270,7 @@ static void back_pressure(void)
     nb_client_id next;
     nb_gone gone;
     const nb_argument argument = nb_int(7);
+    OK(nb_server_set_max_buffer_size(&server, &client, 4096));
     OK(nb_server_set_room(&server, &client, 20));
     for (int i = 0; i < 3; i++)
         OK(nb_server_send_event(&server, &object, NB_QUAD_EVENT_MOVED, &argument, 1, NULL, 0));
@@ -302,6 +303,22 @@ static void back_pressure(void)
     OK(nb_server_cleanup(&server));
     OK(nb_server_next_gone(&server, &gone, bytes, sizeof bytes, descriptors, NB_MOST_DESCRIPTORS));
     HOLDS(gone.data == 5);
+    OK(nb_server_end(&server));
+}
+
+/* At first 1 MiB may wait for a client, and not a byte more. */
+static void limit(void)
+{
+    nb_object_id object = begin();
+    nb_object_info info;
+    const nb_argument argument = nb_int(7);
+    OK(nb_server_set_room(&server, &client, 0));
+    for (int i = 0; i < 1048576 / 12; i++)
+        OK(nb_server_send_event(&server, &object, NB_QUAD_EVENT_MOVED, &argument, 1, NULL, 0));
+    IS(next_action(), NB_WOULD_BLOCK);
+    OK(nb_server_object_info(&server, &object, &info));
+    OK(nb_server_send_event(&server, &object, NB_QUAD_EVENT_MOVED, &argument, 1, NULL, 0));
+    IS(next_action(), NB_CLOSED);
     OK(nb_server_end(&server));
 }
 
@@ -385,6 +402,7 @@ int main(void)
     globals();
     hidden();
     back_pressure();
+    limit();
     room();
     ends();
     return tell();

@@ -6,8 +6,9 @@
 //! session out, calls its method of `wl_host`, and puts it back before it returns. So a call on an empty place, or within a
 //! call on the same place, answers `NB_NO_SESSION`.
 //!
-//! All that a call does is done by the method of the same name. The contract of an export says what becomes of the place,
-//! what is written where the call is refused, and in the clauses of the method what the call does:
+//! `nb_version` alone takes no place. All that another call does is done by the method of the same name. The contract of an
+//! export says what becomes of the place, what is written where the call is refused, and in the clauses of the method what the
+//! call does:
 //!
 //! | Clause | What it says |
 //! |---|---|
@@ -27,3 +28,4 @@ mod parts;
 pub mod server;
 mod sizes;
 mod threads;
+mod version;

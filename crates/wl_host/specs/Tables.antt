@@ -4,6 +4,7 @@ use Rattle.wl_wire.specs.declared.protocol.TableError.{TableError}
 use Rattle.wl_wire.specs.Table.{AnswersGrowth, InterfaceRow, IsAcceptedTable, IsFirstFault, fixed_rows, grown, refused_growth}
 use Rattle.wl_client.specs.Session.{IsConnected}
 use Rattle.wl_server.specs.Backend.{IsGrowth}
+use Rattle.wl_server.specs.Globals.{new_offer}
 use Rattle.wl_server.specs.Server.{new_server}
 use Rattle.wl_host.specs.declared.rows.Rows.{Rows}
 use Rattle.wl_host.specs.declared.rows.TableFault.{TableFault}
@@ -26,10 +27,10 @@ IsFaultOf rows fault =
     ⊎ ((interfaces : List InterfaceRow) × (error : TableError) × (said_by rows ≡ Ok interfaces) × IsFirstFault (fixed_rows ++ interfaces) error
     × (fault ≡ fault_of error))
 
--- a server's session without clients and globals
+-- a server's session without clients and globals: a new client's buffers may grow to 1 MiB
 abbrev pub new_state : List InterfaceRow → ServerState
 new_state table = record {
-  core = record { server = new_server table; refused = false };
+  core = record { server = record (new_server table) { offer = record (new_offer table) { default_limit = 1048576 } }; refused = false };
   seats = no_seats;
   notes = [];
   may_clean_up = false;

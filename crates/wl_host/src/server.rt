@@ -49,6 +49,10 @@ use wl_link::Mailbox;
 use wl_server::{Action, Backend, ClientId, GlobalHandler, GlobalId, Note, ObjectId};
 use wl_wire::{Message, Protocol, Token};
 
+/// How far the buffers of a new client may grow at first, in bytes. The core's 4096 are so few that a client which is busy for
+/// a moment is killed.
+const DEFAULT_MAX_BUFFER_SIZE: usize = 1048576;
+
 /// The program's data of a client, and which globals it may see.
 #[derive(Debug, Drop)]
 pub struct HostClient {
@@ -149,7 +153,7 @@ pub(crate) fn no_action(alloc: Global) -> Action {
 }
 
 impl Server {
-    /// A session without clients and globals, for the table of these rows.
+    /// A session without clients and globals, for the table of these rows. The buffers of clients may grow to 1 MiB.
     ///
     /// The error is the first row that names what is not there (`fault::ROW`), or if there is none, the first fault of the table.
     /// It is `fault::OUT_OF_MEMORY` if there was no memory.
@@ -168,8 +172,10 @@ impl Server {
     fn over(alloc: Global, protocol: Protocol) -> Self
         ensures { result ≡ new_state protocol }
     {
+        let mut core = Backend::new(alloc, protocol);
+        core.set_default_max_buffer_size(DEFAULT_MAX_BUFFER_SIZE);
         Server {
-            core: Backend::new(alloc, protocol),
+            core,
             seats: Seats::new(alloc),
             notes: VecDeque::new(alloc),
             action: no_action(alloc),

@@ -8,7 +8,7 @@ use Rattle.wl_server.specs.Deeds.{Deed, notes_in, Noted}
 use Rattle.wl_server.specs.Ids.{ClientParts, same_client, IdParts}
 use Rattle.wl_server.specs.Part.{Part, named, with_link}
 use Rattle.wl_server.specs.PartStep.{InsertedAs, Quietly, World, FlushedFor, Call, CleanedAs, share_of, Asked, OnPart}
-use Rattle.wl_server.specs.Plain.Calls.{InsertsClient, NewClientAs, SetsDefaultLimit, SetsLimit}
+use Rattle.wl_server.specs.Plain.Calls.{InsertsClient, NewClientAs, SetsLimit}
 use Rattle.wl_server.specs.Server.{Seen, seen}
 use Rattle.wl_server.proofs.CallSteps.Slots.{same_self}
 use Rattle.wl_server.proofs.Plain.Base.{IsOfOne, OnOne, became, not_stored, by_growth, calm, made_stay, names_stay, of_each, of_one, offer_of, when_false, when_true, nothing_changes, nothing_new, split_bool, some_lacks, none_and_some, one_value, unchanged, part_of_call}
@@ -93,10 +93,6 @@ module _ {T U G C : Type 0} {w : World T G C} {before after : BackendState T U G
             | became p q did there (none_lacked, nothing, (link, set, is)) same ↦ where_some s.part p (sym there) _ _
                 (link, set, ap (λ (x : Seen T U C). x.part) same ∙ ap Some is)
           ]
-
-  pub sets_default_limit : (limit : ℕ) → Calls w before (step.SetDefaultMaxBufferSize limit) reply.SetDefaultMaxBufferSize after
-      → SetsDefaultLimit before limit after
-  sets_default_limit limit call = grind (arith, offer_of, of_each, calm)
 
 -- ---- a client that is killed
 

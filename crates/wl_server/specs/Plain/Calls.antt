@@ -53,10 +53,9 @@ module _ {T U G C : Type 0} where
     pub offer : GlobalsStay before after
     pub memory : after.refused ≡ false
 
-  -- New clients get the limit. Nothing of a client that is stored has changed, nor of a global.
+  -- New clients get the limit. Nothing else of the server has changed: no client that is stored, no global, no note.
   pub record SetsDefaultLimit (before : BackendState T U G C) (limit : ℕ) (after : BackendState T U G C) : Type 0 where
-    pub offer : after.server.offer ≡ record before.server.offer { default_limit = limit }
-    pub clients : ClientsStay before after
+    pub server : after.server ≡ record before.server { offer = record before.server.offer { default_limit = limit } }
     pub memory : after.refused ≡ false
 
   -- The table has the new rows behind the others. Or it answers why not, and is as before. Nothing else of the server has changed:

@@ -515,6 +515,8 @@ plain! {
 // SAFETY: the declarations are those of the header, which `tests/header.rs` compares. A `safe` one takes no pointer but
 // references, so each names a value of its type for the call, and what is written overlaps nothing else.
 unsafe extern "C" {
+    /// The version of the library: 65536 times the major number, 256 times the minor number, and the patch.
+    pub safe fn nb_version() -> u32;
     /// Makes a server's session.
     pub fn nb_server_new(
         place: &mut nb_server,

@@ -119,15 +119,18 @@ fn functions() -> Vec<(String, String)> {
             let (_, declaration) = declaration.split_once("fn ")?;
             let (name, rest) = declaration.split_once('(').unwrap();
             let (parameters, result) = rest.split_once(')').unwrap();
-            assert_eq!(result.trim(), "-> nb_status");
-            let parameters: Vec<String> = parameters
+            let result = c_type(result.trim().strip_prefix("-> ").unwrap());
+            let mut parameters: Vec<String> = parameters
                 .split(',')
                 .filter_map(|parameter| parameter.split_once(": "))
                 .map(|(_, kind)| c_type(kind.trim()))
                 .collect();
+            if parameters.is_empty() {
+                parameters.push("void".into());
+            }
             Some((
                 name.to_string(),
-                format!("nb_status {name}({});", parameters.join(", ")),
+                format!("{result} {name}({});", parameters.join(", ")),
             ))
         })
         .collect()
@@ -217,7 +220,8 @@ fn functions_are_those_of_the_header() {
     let in_header: BTreeSet<&str> = header
         .lines()
         .filter_map(|line| {
-            line.strip_prefix("nb_status ")?
+            line.strip_prefix("nb_status ")
+                .or(line.strip_prefix("uint32_t "))?
                 .split_once('(')
                 .map(|(name, _)| name)
         })

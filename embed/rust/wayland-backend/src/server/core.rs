@@ -32,10 +32,6 @@ use crate::{
     table::{BadInterface, Table},
 };
 
-/// How many bytes may wait for a client at first. The library's own limit is so low that a client which is busy for a
-/// moment is killed.
-const MOST_WAITING: u64 = 1 << 20;
-
 /// So many bytes find room for each client, whatever its limit is.
 const ALWAYS_FITS: usize = 4096;
 
@@ -190,10 +186,8 @@ pub(super) struct Core {
 
 impl Core {
     pub(super) fn new(poll: Arc<OwnedFd>, ends: Arc<AtomicUsize>) -> Core {
-        let mut server = Server::new();
-        server.set_default_max_buffer_size(MOST_WAITING);
         Core {
-            server,
+            server: Server::new(),
             names: Names {
                 table: Table::new(),
                 others: HashMap::new(),
