@@ -83,10 +83,12 @@ extern "C" {
 
 /* ======== The version */
 
-/* The version of this header. A number grows with each version: `#if NB_VERSION >= 0x000200`. */
+/* The version of this header. */
 #define NB_VERSION_MAJOR 0
 #define NB_VERSION_MINOR 2
 #define NB_VERSION_PATCH 0
+
+/* The same as one number, which grows with each version: `#if NB_VERSION >= 0x000200`. */
 #define NB_VERSION (NB_VERSION_MAJOR << 16 | NB_VERSION_MINOR << 8 | NB_VERSION_PATCH)
 
 /* The bit of nb_version that tells of a library which was built without a proof, for those who develop it. */
