@@ -26,7 +26,7 @@
 //! | `create_global`, `disable_global`, `remove_global` | `globals::create_global`, `globals::remove_global` | `PartStep`, `Globals`, `Felt` |
 //! | `add_interfaces` | `globals::add_interfaces` | `Steps`, `Plain/Calls`, and `Table` of `wl_wire` |
 //! | `cleanup`, `take_notes` | `notes` | `PartStep`, `Felt` |
-//! | look-ups, `next_global_id`, `all_clients`, `visit_clients`, `with_all_clients`, and the same of objects | `lookups`, `globals::lookups` | `Lookups`, `Next` |
+//! | look-ups, `next_global_id`, `all_clients`, `with_all_clients`, and the same of objects | `lookups`, `globals::lookups` | `Lookups`, `Next` |
 //! | `replay` | `runs::replay` | `Runs`, `Histories`, `Outcome/Whole` |
 //!
 //! Most calls have a second clause, `plain`. It says what the program finds of the object, the client, the global or the

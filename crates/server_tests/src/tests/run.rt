@@ -354,7 +354,7 @@ fn lengths(server: &Server, log: &mut String, who: Who) -> Result<(), Fail> {
 /// Tells the slots of the live clients, one digit for each, counted from 1.
 fn clients(server: &Server, log: &mut String) -> Result<(), Fail> {
     let mut slots: u64 = 0;
-    server.with_all_clients(|id| {
+    server.with_all_clients(&mut |id| {
         slots = slots
             .wrapping_mul(10)
             .wrapping_add(u64::from(id.slot()))
@@ -366,7 +366,7 @@ fn clients(server: &Server, log: &mut String) -> Result<(), Fail> {
 /// Tells the serials of the client's objects, one digit for each, counted from 1.
 fn objects(server: &Server, log: &mut String, who: Who) -> Result<(), Fail> {
     let mut serials: u64 = 0;
-    let answer = server.with_all_objects_for(&who.id(), |id| {
+    let answer = server.with_all_objects_for(&who.id(), &mut |id| {
         serials = serials
             .wrapping_mul(10)
             .wrapping_add(id.serial())

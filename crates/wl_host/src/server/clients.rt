@@ -96,7 +96,7 @@ impl Server {
     {
         let mut found = 0usize;
         let mut write = |id: ClientId| put_next(clients, &mut found, FlatClientId::new(id));
-        self.core.visit_clients(&mut write);
+        self.core.with_all_clients(&mut write);
         found
     }
 

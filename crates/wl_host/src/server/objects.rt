@@ -168,7 +168,7 @@ impl Server {
     {
         let mut found = 0usize;
         let mut write = |id: ObjectId| put_next(objects, &mut found, FlatObjectId::of_resource(id));
-        self.core.visit_objects(client, &mut write)?;
+        self.core.with_all_objects_for(client, &mut write)?;
         Ok(found)
     }
 }

@@ -58,16 +58,9 @@ fn visit_all<U: Drop, F: FnMut(ObjectId)>(
 impl<T: Drop, U: Drop, G: Drop, C: Drop> Backend<T, U, G, C> {
     /// Calls the closure once with the id of each live client, by ascending slot. A client that was killed is left out.
     ///
-    /// It stands for `wayland_backend::server::Handle::with_all_clients`.
-    pub fn with_all_clients<F: FnMut(ClientId)>(&self, mut f: F)
-        requires { F.IsAlwaysCallable f }
-        ensures { (last : F) × FoldsTo (λ p x q. F.step p x tt q) f (live_clients self.now.server) last }
-    {
-        visit_live(&self.clients, &mut f);
-    }
-
-    /// `with_all_clients`, for a caller that keeps the closure.
-    pub fn visit_clients<F: FnMut(ClientId)>(&self, f: &mut F)
+    /// It stands for `wayland_backend::server::Handle::with_all_clients`. The closure is lent, so that the caller has it after the
+    /// walk.
+    pub fn with_all_clients<F: FnMut(ClientId)>(&self, f: &mut F)
         requires { F.IsAlwaysCallable f.old }
         ensures { FoldsTo (λ p x q. F.step p x tt q) f.old (live_clients self.now.server) f.new }
     {
@@ -79,23 +72,6 @@ impl<T: Drop, U: Drop, G: Drop, C: Drop> Backend<T, U, G, C> {
     /// It stands for `wayland_backend::server::Handle::with_all_objects_for`. The error is `InvalidId` if the client is
     /// not stored. Then the closure is not called.
     pub fn with_all_objects_for<F: FnMut(ObjectId)>(
-        &self,
-        client: &ClientId,
-        mut f: F,
-    ) -> Result<(), InvalidId>
-        requires { F.IsAlwaysCallable f }
-        ensures { MatchOption (objects_of_client self.now.server client.now) (result ≡ Err _)
-            (λ ids. (result ≡ Ok tt) × ((last : F) × FoldsTo (λ p x q. F.step p x tt q) f ids last)) }
-    {
-        let Some(stored) = self.client(client) else {
-            return Err(InvalidId);
-        };
-        visit_all(client, &stored.objects.map, &mut f);
-        Ok(())
-    }
-
-    /// `with_all_objects_for`, for a caller that keeps the closure.
-    pub fn visit_objects<F: FnMut(ObjectId)>(
         &self,
         client: &ClientId,
         f: &mut F,
