@@ -492,11 +492,12 @@ nb_status nb_server_kill_client(nb_server *place, const nb_client_id *client);
  * a reading takes that much, and if more is there, it answers NB_WOULD_BLOCK though messages wait.
  *
  * After NB_OK the descriptors are the session's. They come out in their order, each with the request that it belongs
- * to. Without bytes nothing arrives but the descriptors: that is not the end of the stream (nb_server_received_end).
+ * to. Without bytes nothing arrives: that is not the end of the stream (nb_server_received_end).
  *
- * Statuses: NB_INVALID_ID; NB_TOO_MANY_DESCRIPTORS (more than 28 would wait to be read: read first; if the client sends
- * them with no request that takes them, kill it); NB_OUT_OF_MEMORY. After an error nothing was taken: pass the same
- * bytes again before any later ones, or kill the client. */
+ * Statuses: NB_INVALID_ID; NB_INVALID_INPUT (descriptors without a byte: they come with one of the bytes of one
+ * recvmsg); NB_TOO_MANY_DESCRIPTORS (more than 28 would be there that no nb_server_next_action has read: read first.
+ * Descriptors that were read wait for their requests, and do not count); NB_OUT_OF_MEMORY. After an error nothing was
+ * taken: pass the same bytes again before any later ones, or kill the client. */
 nb_status nb_server_received(nb_server *place, const nb_client_id *client, const uint8_t *bytes, size_t length,
                              const int32_t *descriptors, size_t count);
 
@@ -738,8 +739,8 @@ nb_status nb_client_display(nb_client *place, nb_object_id *display);
 
 /* ======== A client's session: what came */
 
-/* The host received this from the server; as nb_server_received. Statuses: NB_TOO_MANY_DESCRIPTORS; NB_OUT_OF_MEMORY.
- */
+/* The host received this from the server; as nb_server_received. Statuses: NB_INVALID_INPUT; NB_TOO_MANY_DESCRIPTORS;
+ * NB_OUT_OF_MEMORY. */
 nb_status nb_client_received(nb_client *place, const uint8_t *bytes, size_t length, const int32_t *descriptors,
                              size_t count);
 

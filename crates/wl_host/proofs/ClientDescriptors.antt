@@ -31,9 +31,10 @@ conserves_by_departures before after i o h e = record { each = λ d. rw e (let g
 
 conserves_arrived : (m : MailboxState) (q : Descriptors) (bytes : List ℕ) (descriptors : List ℤ) (s : Status) (m' : MailboxState) (q' : Descriptors)
     → Arrives m q bytes descriptors s m' q' → Conserves kept_in q (taken_in s descriptors) [] q'
-conserves_arrived m q bytes descriptors s m' q' (inl (ok, now, put, few)) = rw (ok, put) (conserves_put_in q descriptors)
-conserves_arrived m q bytes descriptors s m' q' (inr (inl (many, over), now, same)) = rw (many, same) (conserves_nothing q)
-conserves_arrived m q bytes descriptors s m' q' (inr (inr memory, now, same)) = rw (memory, same) (conserves_nothing q)
+conserves_arrived m q bytes descriptors s m' q' (inl (ok, now, put, may)) = rw (ok, put) (conserves_put_in q descriptors)
+conserves_arrived m q bytes descriptors s m' q' (inr (inl (alone, are), now, same)) = rw (alone, same) (conserves_nothing q)
+conserves_arrived m q bytes descriptors s m' q' (inr (inr (not, inl (many, over)), now, same)) = rw (many, same) (conserves_nothing q)
+conserves_arrived m q bytes descriptors s m' q' (inr (inr (not, inr memory), now, same)) = rw (memory, same) (conserves_nothing q)
 
 pub conserves_received : (before : HostedClient) (bytes : List ℕ) (descriptors : List ℤ) (s : Status) (after : HostedClient)
     → Receives before bytes descriptors s after → ConservesClient before (taken_in s descriptors) [] after

@@ -51,8 +51,9 @@ conserves_received b a id bytes ds s h = by (ledger_of id b.seats.ledgers) (tran
             let k = ap (kept_by_server d) y.1 in omega (arith, c, w, k);
       }
       | inr n ↦ elim n.0 [
-        | inl f ↦ went_in_none b a s status.TooManyDescriptors ds f.0 refl n.1
-        | inr f ↦ went_in_none b a s status.OutOfMemory ds f refl n.1
+        | inl alone ↦ went_in_none b a s status.InvalidInput ds alone.0 refl n.1
+        | inr (some, inl f) ↦ went_in_none b a s status.TooManyDescriptors ds f.0 refl n.1
+        | inr (some, inr f) ↦ went_in_none b a s status.OutOfMemory ds f refl n.1
       ]
     ]
 

@@ -17,7 +17,7 @@ use Rattle.wl_server.specs.Lending.{state_over}
 use Rattle.wl_server.specs.Lookups.{transport_of}
 use Rattle.wl_server.specs.Part.{Part}
 use Rattle.wl_server.specs.Plain.{FlushedAs, client_in}
-use Rattle.wl_host.specs.Arrivals.{mailbox_with}
+use Rattle.wl_host.specs.Arrivals.{MayArrive, RefusesArrival, mailbox_with}
 use Rattle.wl_host.specs.Calls.{CoreState, world}
 use Rattle.wl_host.specs.Descriptors.{Descriptors, put_in}
 use Rattle.wl_host.specs.Flat.{client_of, flat_client, over_front}
@@ -65,14 +65,14 @@ IsNotStored before s after = (s ≡ status.InvalidId) × (after ≡ before)
 abbrev pub with_arrivals : ServerState → ClientParts → Ledger → MailboxState → Descriptors → ServerState
 with_arrivals s id l m q = record s { core = state_over s.core id m; seats = with_ledger s.seats id (record l { received = q }) }
 
--- The bytes arrived, with tokens for the descriptors, and no more than 28 of these wait; or nothing is changed.
+-- The bytes arrived, with tokens for the descriptors; or they are refused, and nothing is changed.
 abbrev pub ReceivedBy : Option Ledger → Option MailboxState → ServerState → ClientParts → List ℕ → List ℤ → Status → ServerState → Type 0
 ReceivedBy None m before id bytes descriptors s after = IsNotStored before s after
 ReceivedBy (Some l) None before id bytes descriptors s after = IsNotStored before s after
 ReceivedBy (Some l) (Some m) before id bytes descriptors s after =
     ((s ≡ status.Ok) × (after ≡ with_arrivals before id l (mailbox_with m l.received bytes descriptors) (put_in l.received descriptors))
-    × (length m.arrived.tokens + length descriptors ≤ 28))
-    ⊎ ((((s ≡ status.TooManyDescriptors) × (28 < length m.arrived.tokens + length descriptors)) ⊎ (s ≡ status.OutOfMemory)) × (after ≡ before))
+    × MayArrive m bytes descriptors)
+    ⊎ (RefusesArrival m bytes descriptors s × (after ≡ before))
 
 abbrev pub Received : ServerState → ClientParts → List ℕ → List ℤ → Status → ServerState → Type 0
 Received before id bytes descriptors s after =

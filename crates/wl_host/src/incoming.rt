@@ -9,7 +9,8 @@ use wl_wire::Token;
 
 /// Puts the bytes and the descriptors in that the host received.
 ///
-/// The status is `TooManyDescriptors` if more than 28 would wait to be read, and `OutOfMemory`. Then nothing is changed.
+/// The status is `InvalidInput` if descriptors come without a byte, `TooManyDescriptors` if more than 28 would wait until a call
+/// reads, and `OutOfMemory`. Then nothing is changed.
 pub(crate) fn take_in(
     mailbox: &mut Mailbox,
     queue: &mut DescriptorQueue,
@@ -18,6 +19,10 @@ pub(crate) fn take_in(
 ) -> Status
     ensures { Arrives mailbox.old queue.old bytes.now descriptors.now result mailbox.new queue.new }
 {
+    // They would be read only with the next byte, which may never come.
+    if bytes.is_empty() && !descriptors.is_empty() {
+        return Status::InvalidInput;
+    }
     let mut tokens = [Token(0); MAX_FDS_OUT];
     let Some(tokens) = tokens.get_mut(..descriptors.len()) else {
         return Status::TooManyDescriptors;

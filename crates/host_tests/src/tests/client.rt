@@ -135,7 +135,8 @@ static ROWS: [Run<Act>; 4] = [
             (Act::Note, "Ok 4@3 serial 2 data 9"),
             (Act::Send(MADE, 0, None, PUSH_ANOTHER, &[]), "Ok 0@0"),
             (Act::Received(&[4, 0x00080001], &[53]), "Ok"),
-            (Act::Received(&[], &[54]), "Ok"),
+            (Act::Received(&[], &[54]), "InvalidInput"),
+            (Act::Received(&[4], &[54]), "Ok"),
             (Act::End, "Ok"),
             (
                 Act::Next(1, 0),

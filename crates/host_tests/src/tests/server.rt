@@ -290,7 +290,7 @@ static ENDS: [Run<Act>; 4] = [
             (Act::Note, "WouldBlock"),
         ],
     },
-    // More than 28 descriptors do not go in.
+    // More than 28 descriptors do not go in, nor one without a byte.
     Run {
         name: "few descriptors go in",
         first: &[],
@@ -298,7 +298,10 @@ static ENDS: [Run<Act>; 4] = [
             (Act::Insert(7, 1, &[]), "Ok client 0:1"),
             (Act::Received(FIRST, REGISTRY, &MANY), "TooManyDescriptors"),
             (Act::Received(FIRST, REGISTRY, &FULL), "Ok"),
-            (Act::Received(FIRST, &[], &[5]), "TooManyDescriptors"),
+            (Act::Received(FIRST, REGISTRY, &[5]), "TooManyDescriptors"),
+            (Act::Received(FIRST, &[], &[5]), "InvalidInput"),
+            (Act::Received(FIRST, &[], &[]), "Ok"),
+            (Act::Received(UNKNOWN, &[], &[5]), "InvalidId"),
             (Act::Received(UNKNOWN, REGISTRY, &[]), "InvalidId"),
             (Act::Kill(FIRST), "Ok"),
             (Act::Cleanup, "Ok"),

@@ -17,6 +17,7 @@ impl Client {
     ///
     /// The statuses are:
     ///
+    /// - `InvalidInput` if descriptors come without a byte;
     /// - `TooManyDescriptors` if, with those that arrived and were not read yet, more than 28 would wait. Then the host asks
     ///   for the events first;
     /// - `OutOfMemory` if there is no memory.

@@ -18,8 +18,9 @@ use wl_wire::IoFault;
 impl Server {
     /// The host received these bytes from the client, and the descriptors with them.
     ///
-    /// The status is `InvalidId` if the client is not stored, `TooManyDescriptors` if more than 28 would wait to be read, and
-    /// `OutOfMemory`. Then nothing is changed, and the descriptors are still the host's.
+    /// The status is `InvalidId` if the client is not stored, `InvalidInput` if descriptors come without a byte,
+    /// `TooManyDescriptors` if more than 28 would wait that no call has read, and `OutOfMemory`. Then nothing is changed, and the
+    /// descriptors are still the host's.
     pub fn received(&mut self, client: &FlatClientId, bytes: &[u8], descriptors: &[i32]) -> Status
         ensures arrived { Received self.old (client_of client.now) bytes.now descriptors.now result self.new }
         ensures descriptors { Conserves kept_by_server self.old (went_in result descriptors.now) [] self.new }
