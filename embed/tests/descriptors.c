@@ -100,6 +100,8 @@ static void received(void)
     put_give();
     OK(arrive_with(0));
     act(); /* waits for its descriptor */
+    IS(arrive_with(3), NB_INVALID_INPUT); /* no socket gives descriptors without a byte */
+    put(3, NB_QUAD_REQUEST_POKE, "u", 1);
     OK(arrive_with(3));
     act();
     END();
@@ -107,6 +109,7 @@ static void received(void)
     begin(); /* no request takes them */
     put(3, NB_QUAD_REQUEST_POKE, "u", 1);
     OK(arrive_with(NB_MOST_DESCRIPTORS));
+    put(3, NB_QUAD_REQUEST_POKE, "u", 2);
     IS(arrive_with(1), NB_TOO_MANY_DESCRIPTORS);
     act();
     END();

@@ -380,8 +380,11 @@ static void requests(void)
     for (int i = 0; i < NB_MOST_DESCRIPTORS; i++)
         descriptors[i] = 100 + i;
     const int32_t one_more = 200;
-    OK(nb_client_received(&session, NULL, 0, descriptors, NB_MOST_DESCRIPTORS));
-    IS(nb_client_received(&session, NULL, 0, &one_more, 1), NB_TOO_MANY_DESCRIPTORS);
+    IS(nb_client_received(&session, NULL, 0, &one_more, 1), NB_INVALID_INPUT);
+    OK(nb_client_received(&session, bytes, 1, descriptors, NB_MOST_DESCRIPTORS));
+    IS(nb_client_received(&session, bytes, 1, &one_more, 1), NB_TOO_MANY_DESCRIPTORS);
+    IS(nb_client_received(&session, NULL, 0, &one_more, 1), NB_INVALID_INPUT);
+    OK(nb_client_received(&session, NULL, 0, NULL, 0));
     OK(nb_client_flush(&session));
     OK(nb_client_to_send(&session, bytes, sizeof bytes, descriptors, NB_MOST_DESCRIPTORS, &counts));
     OK(nb_client_sent(&session, counts.bytes + 1));

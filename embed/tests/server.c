@@ -312,9 +312,12 @@ static void limit(void)
     nb_object_id object = begin();
     nb_object_info info;
     const nb_argument argument = nb_int(7);
+    int sent = 0;
     OK(nb_server_set_room(&server, &client, 0));
-    for (int i = 0; i < 1048576 / 12; i++)
-        OK(nb_server_send_event(&server, &object, NB_QUAD_EVENT_MOVED, &argument, 1, NULL, 0));
+    while (sent < 1048576 / 12 &&
+           nb_server_send_event(&server, &object, NB_QUAD_EVENT_MOVED, &argument, 1, NULL, 0) == NB_OK)
+        sent++;
+    HOLDS(sent == 1048576 / 12);
     IS(next_action(), NB_WOULD_BLOCK);
     OK(nb_server_object_info(&server, &object, &info));
     OK(nb_server_send_event(&server, &object, NB_QUAD_EVENT_MOVED, &argument, 1, NULL, 0));
