@@ -99,7 +99,7 @@ static void received(void)
     act();
     put_give();
     OK(arrive_with(0));
-    act(); /* waits for its descriptor */
+    act();                                /* waits for its descriptor */
     IS(arrive_with(3), NB_INVALID_INPUT); /* no socket gives descriptors without a byte */
     put(3, NB_QUAD_REQUEST_POKE, "u", 1);
     OK(arrive_with(3));
