@@ -468,8 +468,11 @@ static void of_events(void)
             case 1:
                 if (wire_length > 0)
                     tell_rest();
-                if (pending_count < PENDING - 2)
-                    tell_two(random_below(2), random_below(3) ? 0 : 4);
+                if (pending_count < PENDING - 2) {
+                    /* One after the other: C does not say in which order arguments are evaluated. */
+                    int is_dead = (int)random_below(2);
+                    tell_two(is_dead, random_below(3) ? 0 : 4);
+                }
                 is_all_read = 0;
                 break;
             case 2:
