@@ -9,7 +9,7 @@
 //! "Descriptors".
 //!
 //! The crate links `libnumbyroga.a`. `build.rs` looks for it in the folder that `NUMBYROGA_LIB_DIR` names, then by
-//! pkg-config, then in `embed/build` of the repository.
+//! pkg-config, then in `embed/build` of the repository, then in its `dist/`, which has the last release.
 
 #![no_std]
 #![allow(non_camel_case_types)]
