@@ -462,12 +462,14 @@ nb_status nb_server_set_max_buffer_size(nb_server *place, const nb_client_id *cl
 nb_status nb_server_set_room(nb_server *place, const nb_client_id *client, uint64_t room);
 
 /* Inserts a client, over a connection of the host. It has one object, the display. A note says that it was inserted.
+ * nb_serve_client, below, is shorter.
  *
  * Which globals it sees is settled here for those that are there, and by nb_server_create_global for those to come. It
  * sees each global with which it has a bit of `groups` in common, unless one of the two lists the other as hidden:
  * `hidden` are the globals that this client does not see. So a host that hides nothing passes 1 for all groups, and
- * empty lists. A client cannot bind a global that it does not see. The list is copied; it may have any order, and ids
- * that name nothing. nb_server_next_client_id tells the client's id beforehand.
+ * empty lists; a client whose `groups` is 0 sees no global. A client cannot bind a global that it does not see. The
+ * list is copied; it may have any order, and ids that name nothing. nb_server_next_client_id tells the client's id
+ * beforehand.
  *
  * Statuses: NB_OUT_OF_MEMORY (for a copy of the list); NB_FULL (no slot or no serial is left); NB_OUT_OF_MEMORY. */
 nb_status nb_server_insert_client(nb_server *place, uint64_t data, uint64_t groups, const nb_global_id *hidden,
@@ -624,8 +626,9 @@ nb_status nb_server_next_global_id(nb_server *place, nb_global_id *global);
 
 /* Creates a global, and announces it to each client that sees it, now and later. Those are the clients that have a bit
  * of `groups` in common with it, unless one of the two lists the other as hidden: `hidden` are the clients that do not
- * see this global (nb_server_insert_client). The list is copied; it may have any order, and ids that name nothing.
- * `version` is the greatest that clients may bind. A client that cannot be told is killed.
+ * see this global (nb_server_insert_client). A global whose `groups` is 0 is hidden from everybody. The list is copied;
+ * it may have any order, and ids that name nothing. `version` is the greatest that clients may bind. A client that
+ * cannot be told is killed. nb_offer, below, is shorter.
  *
  * Statuses: NB_OUT_OF_MEMORY (for a copy of the list); NB_UNKNOWN_INTERFACE; NB_VERSION_TOO_HIGH; NB_FULL (no name or
  * no serial is left); NB_OUT_OF_MEMORY. */
@@ -873,6 +876,18 @@ static inline nb_status nb_client_extend(nb_client *place, const nb_table *table
     return nb_client_add_interfaces(place, table->text, table->text_length, table->interfaces, table->interface_count,
                                     table->messages, table->message_count, table->arguments, table->argument_count,
                                     fault);
+}
+
+/* nb_server_create_global without data, in group 1 and hidden from nobody: each client of nb_serve_client sees it. */
+static inline nb_status nb_offer(nb_server *place, uint32_t interface, uint32_t version, nb_global_id *global)
+{
+    return nb_server_create_global(place, interface, version, 0, 1, NULL, 0, global);
+}
+
+/* nb_server_insert_client in group 1, from which nothing is hidden: the client sees each global of nb_offer. */
+static inline nb_status nb_serve_client(nb_server *place, uint64_t data, nb_client_id *client)
+{
+    return nb_server_insert_client(place, data, 1, NULL, 0, client);
 }
 
 /* The null object. */

@@ -394,6 +394,35 @@ static void ends(void)
     OK(nb_server_end(&server));
 }
 
+/* A global that is offered, and a client that is served, see each other; one without groups is seen by nobody. */
+static void short_forms(void)
+{
+    nb_global_id offered, unseen;
+    nb_client_id blind;
+    uint64_t data = 9;
+    uint32_t name;
+    OK(nb_server_start(&server, &quad, &fault));
+    OK(nb_offer(&server, NB_QUAD, 2, &offered));
+    OK(nb_serve_client(&server, 5, &client));
+    OK(nb_server_create_global(&server, NB_QUAD, 2, 0, 0, NULL, 0, &unseen));
+    OK(nb_server_insert_client(&server, 6, 0, NULL, 0, &blind));
+    OK(nb_server_client_data(&server, &client, &data));
+    HOLDS(data == 5);
+    OK(nb_server_global_data(&server, &offered, &data));
+    HOLDS(data == 0);
+    OK(nb_server_global_name(&server, &offered, &client, &name));
+    HOLDS(name == offered.name);
+    IS(nb_server_global_name(&server, &unseen, &client, &name), NB_INVALID_ID);
+    IS(nb_server_global_name(&server, &offered, &blind, &name), NB_INVALID_ID);
+    IS(nb_server_global_name(&server, &unseen, &blind, &name), NB_INVALID_ID);
+    put(1, 1, "u", 2);
+    OK(arrive(NULL, 0));
+    IS(next_action(), NB_WOULD_BLOCK);
+    put(2, 0, "usu", offered.name, "quad", 2);
+    HOLDS(sends(&client));
+    OK(nb_server_end(&server));
+}
+
 int main(void)
 {
     answers();
@@ -401,6 +430,7 @@ int main(void)
     texts();
     globals();
     hidden();
+    short_forms();
     back_pressure();
     limit();
     room();
