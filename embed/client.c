@@ -2,8 +2,8 @@
  *
  *   client [FRAMES]
  *
- * It connects to $WAYLAND_DISPLAY in $XDG_RUNTIME_DIR. FRAMES is 1 if it is left out; with 0 it lists the globals
- * alone. Its status is 0 if all frames were shown, and 1 if something failed.
+ * It connects to the server that the environment names (socket_connect). FRAMES is 1 if it is left out; with 0 it lists
+ * the globals alone. Its status is 0 if all frames were shown, and 1 if something failed.
  *
  * Read it from the end: `main` takes turns in sending (`send_all`) and receiving (`receive`), and `act` takes the
  * events out. */
@@ -15,7 +15,6 @@
 #include <stdio.h>
 #include <stdlib.h>
 #include <sys/mman.h>
-#include <sys/un.h>
 
 enum { WIDTH = 64, HEIGHT = 64, STRIDE = 4 * WIDTH, MOST_ARGUMENTS = 20 };
 
@@ -221,19 +220,6 @@ static void act(void)
 
 /* ======== The connection */
 
-static void connect_to_server(void)
-{
-    struct sockaddr_un address = { .sun_family = AF_UNIX };
-    const char *folder = getenv("XDG_RUNTIME_DIR"), *name = getenv("WAYLAND_DISPLAY");
-    name = name ? name : "wayland-0";
-    int length = snprintf(address.sun_path, sizeof address.sun_path, "%s%s%s", name[0] == '/' || !folder ? "" : folder,
-                          name[0] == '/' || !folder ? "" : "/", name);
-    connection = socket(AF_UNIX, SOCK_STREAM | SOCK_CLOEXEC, 0);
-    if (connection < 0 || length >= (int)sizeof address.sun_path ||
-        connect(connection, (struct sockaddr *)&address, sizeof address) < 0)
-        fail("no server is there");
-}
-
 static void receive(void)
 {
     size_t count;
@@ -286,7 +272,9 @@ int main(int argc, char **argv)
 {
     if (argc > 1)
         frames_left = (uint32_t)strtoul(argv[1], NULL, 10);
-    connect_to_server();
+    connection = socket_connect();
+    if (connection < 0)
+        return 1;
     begin();
     while (!is_done) {
         struct pollfd wait = { .fd = connection, .events = POLLIN };

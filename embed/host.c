@@ -2,10 +2,10 @@
  *
  *   host [-v] SOCKET
  *
- * SOCKET is a path, or a name in $XDG_RUNTIME_DIR. With -v each action is logged. It serves wl_compositor,
- * wl_subcompositor, wl_shm, wl_seat, wl_output, xdg_wm_base and wl_data_device_manager: surfaces get their configure
- * events, frame callbacks and buffers back, the surface that was mapped last has the keyboard, and what one client
- * copies another one can paste.
+ * SOCKET is a name in $XDG_RUNTIME_DIR, or a path, which begins with a slash. With -v each action is logged. It serves
+ * wl_compositor, wl_subcompositor, wl_shm, wl_seat, wl_output, xdg_wm_base and wl_data_device_manager: surfaces get
+ * their configure events, frame callbacks and buffers back, the surface that was mapped last has the keyboard, and what
+ * one client copies another one can paste.
  *
  * Read it from the end: `main` waits, `read_from` and `act` take requests in, `settle` sends and cleans up. What is
  * between is the compositor. It keeps ids of objects and never pointers: of an id that names nothing any more `find`
@@ -22,13 +22,13 @@
 #include <sys/mman.h>
 #include <sys/resource.h>
 #include <sys/timerfd.h>
-#include <sys/un.h>
 #include <time.h>
 
 enum {
     MOST_CLIENTS = 1000,
     MOST_HELD = 4 * NB_MOST_DESCRIPTORS, /* descriptors of one client that wait in each direction: nobody makes the host
                                             run out of them */
+    MOST_OBJECTS = 4096,                 /* of one client */
     MOST_ARGUMENTS = 20,                 /* no message of the table has more */
     MOST_TYPES = 64,                     /* of a selection */
     MOST_FRAMES = 16,                    /* callbacks of a surface that wait */
@@ -365,7 +365,7 @@ static int is_kept(uint32_t interface)
 {
     return interface == NB_WL_SURFACE || interface == NB_XDG_SURFACE || interface == NB_XDG_TOPLEVEL ||
            interface == NB_XDG_POPUP || interface == NB_WL_KEYBOARD || interface == NB_WL_DATA_DEVICE ||
-           interface == NB_WL_DATA_SOURCE;
+           interface == NB_WL_DATA_SOURCE || interface == NB_WL_DATA_OFFER;
 }
 
 /* A case of a switch: a request of an interface. */
@@ -434,16 +434,18 @@ static void log_action(const struct client *client, const nb_action *action)
 /* Finishes a request or a bind. The object that it made gets its data, if the host keeps some: `made` is that. */
 static nb_status finish(struct client *client, const nb_action *action, struct object **made)
 {
+    uint64_t data;
     uint32_t kept = 1;
     nb_status status;
     *made = NULL;
     if (!nb_is_null(&action->created) && is_kept(action->created.interface) &&
         !(*made = make(&action->created, action->version)))
         return NB_OUT_OF_MEMORY;
+    data = (uint64_t)(uintptr_t)*made;
     if (action->kind == NB_BIND)
-        status = nb_server_finish_bind(&server, &client->id, 0, &kept);
+        status = nb_server_finish_bind(&server, &client->id, data, &kept);
     else if (!nb_is_null(&action->created))
-        status = nb_server_finish_request_with(&server, &client->id, (uint64_t)(uintptr_t)*made, &kept);
+        status = nb_server_finish_request_with(&server, &client->id, data, &kept);
     else
         status = nb_server_finish_request(&server, &client->id);
     if (*made && (status != NB_OK || !kept))
@@ -483,13 +485,14 @@ static void act(struct client *client)
 static void watch(struct client *client, int operation)
 {
     struct epoll_event event = { .events = EPOLLIN | (client->is_full ? EPOLLOUT : 0), .data.ptr = client };
-    epoll_ctl(queue, operation, client->socket, &event);
+    if (epoll_ctl(queue, operation, client->socket, &event) < 0)
+        nb_server_kill_client(&server, &client->id); /* nothing would tell when it sends or ends */
 }
 
 static void add_client(int socket)
 {
     struct client *client = socket >= 0 && client_count < MOST_CLIENTS ? calloc(1, sizeof *client) : NULL;
-    if (!client || nb_server_insert_client(&server, (uint64_t)(uintptr_t)client, 1, NULL, 0, &client->id) != NB_OK) {
+    if (!client || nb_serve_client(&server, (uint64_t)(uintptr_t)client, &client->id) != NB_OK) {
         if (socket >= 0)
             close(socket);
         free(client);
@@ -500,10 +503,11 @@ static void add_client(int socket)
     watch(client, EPOLL_CTL_ADD);
 }
 
-/* Receives from the client once, and takes what it asks. */
+/* Receives from the client once, and takes what it asks. A client that fills the memory with objects is ended. */
 static void read_from(struct client *client)
 {
     size_t count;
+    uint32_t objects;
     ssize_t came = socket_receive(client->socket, bytes, NB_MOST_BYTES, descriptors, &count);
     if (came == -EAGAIN)
         return;
@@ -519,6 +523,9 @@ static void read_from(struct client *client)
         nb_server_kill_client(&server, &client->id);
     }
     act(client);
+    nb_server_objects(&server, &client->id, NULL, 0, &objects);
+    if (objects > MOST_OBJECTS)
+        nb_server_kill_client(&server, &client->id);
 }
 
 /* Sends what waits for the client, until nothing does or the socket is full. */
@@ -586,25 +593,6 @@ static void settle(void)
 
 /* ======== The program */
 
-static struct sockaddr_un address = { .sun_family = AF_UNIX };
-
-static int listen_at(const char *name)
-{
-    const char *folder = getenv("XDG_RUNTIME_DIR");
-    int length = snprintf(address.sun_path, sizeof address.sun_path, "%s%s%s",
-                          strchr(name, '/') ? ""
-                          : folder          ? folder
-                                            : "/tmp",
-                          strchr(name, '/') ? "" : "/", name);
-    int it = socket(AF_UNIX, SOCK_STREAM | SOCK_CLOEXEC | SOCK_NONBLOCK, 0);
-    if (length >= (int)sizeof address.sun_path || it < 0 || bind(it, (struct sockaddr *)&address, sizeof address) < 0 ||
-        listen(it, 64) < 0) {
-        perror(name);
-        exit(1);
-    }
-    return it;
-}
-
 static void stop(int signal)
 {
     (void)signal;
@@ -614,7 +602,7 @@ static void stop(int signal)
 static void offer(uint32_t interface, uint32_t version)
 {
     nb_global_id global;
-    nb_status status = nb_server_create_global(&server, interface, version, 0, 1, NULL, 0, &global);
+    nb_status status = nb_offer(&server, interface, version, &global);
     if (status != NB_OK) {
         fprintf(stderr, "interface %u: %s\n", interface, nb_status_text(status));
         exit(1);
@@ -649,11 +637,11 @@ static void end(void)
         nb_server_kill_client(&server, &clients[i]);
     settle();
     nb_server_end(&server);
-    unlink(address.sun_path);
 }
 
 int main(int argc, char **argv)
 {
+    struct sockaddr_un address;
     is_logging = argc == 3 && strcmp(argv[1], "-v") == 0;
     if (argc != 2 + is_logging) {
         fprintf(stderr, "usage: host [-v] SOCKET\n");
@@ -667,7 +655,9 @@ int main(int argc, char **argv)
     signal(SIGINT, stop);
     signal(SIGTERM, stop);
     begin();
-    listener = listen_at(argv[argc - 1]);
+    listener = socket_listen(argv[argc - 1]);
+    if (listener < 0)
+        return 1;
     int timer = timerfd_create(CLOCK_MONOTONIC, TFD_CLOEXEC | TFD_NONBLOCK);
     struct itimerspec each_frame = { { 0, FRAME_NANOSECONDS }, { 0, FRAME_NANOSECONDS } };
     timerfd_settime(timer, 0, &each_frame, NULL);
@@ -695,5 +685,7 @@ int main(int argc, char **argv)
         settle();
     }
     end();
+    if (socket_address(argv[argc - 1], &address) == 0)
+        unlink(address.sun_path);
     return 0;
 }
