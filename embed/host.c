@@ -32,7 +32,6 @@ enum {
     MOST_ARGUMENTS = 20,                 /* no message of the table has more */
     MOST_TYPES = 64,                     /* of a selection */
     MOST_FRAMES = 16,                    /* callbacks of a surface that wait */
-    LIMIT = 1 << 20,                     /* bytes that may wait for a client; beyond that it is killed */
     FRAME_NANOSECONDS = 16000000
 };
 
@@ -617,7 +616,6 @@ static void begin(void)
         fprintf(stderr, "interface %u: fault %u: %s\n", fault.interface, fault.fault, nb_status_text(status));
         exit(1);
     }
-    nb_server_set_default_max_buffer_size(&server, LIMIT);
     offer(NB_WL_COMPOSITOR, 4);
     offer(NB_WL_SUBCOMPOSITOR, 1);
     offer(NB_WL_SHM, 1);

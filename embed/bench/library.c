@@ -92,10 +92,9 @@ static void serve(const int *sockets, int count, int control)
     nb_global_id global;
     int queue = epoll_create1(EPOLL_CLOEXEC);
     must(nb_server_start(&place, &protocol, &fault));
-    must(nb_server_set_default_max_buffer_size(&place, 1 << 20));
-    must(nb_server_create_global(&place, NB_WL_COMPOSITOR, 4, 0, 1, NULL, 0, &global));
-    must(nb_server_create_global(&place, NB_WL_OUTPUT, 3, 0, 1, NULL, 0, &global));
-    must(nb_server_create_global(&place, NB_WL_SHM, 1, 0, 1, NULL, 0, &global));
+    must(nb_offer(&place, NB_WL_COMPOSITOR, 4, &global));
+    must(nb_offer(&place, NB_WL_OUTPUT, 3, &global));
+    must(nb_offer(&place, NB_WL_SHM, 1, &global));
     epoll_ctl(queue, EPOLL_CTL_ADD, control, &(struct epoll_event){ .events = EPOLLIN, .data.u32 = MOST_CLIENTS });
     client_count = count;
     for (int i = 0; i < count; i++) {

@@ -158,7 +158,6 @@ int main(int argc, char **argv)
     nb_table_fault fault;
     nb_global_id output;
     must(nb_server_start(&server, &protocol, &fault));
-    must(nb_server_set_default_max_buffer_size(&server, 1 << 20));
     must(nb_offer(&server, NB_WL_OUTPUT, 3, &output));
     if (getrlimit(RLIMIT_NOFILE, &files) == 0) {
         files.rlim_cur = files.rlim_max; /* all that clients may make this process hold */

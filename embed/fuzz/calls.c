@@ -4,6 +4,7 @@
  * writes behind the memory that it was lent; what an action or event says of strings and arrays lies in the bytes; and
  * each descriptor that went in comes back once. */
 #define _GNU_SOURCE
+#include "answers.h"
 #include "quad.h"
 #include <numbyroga.h>
 #include <stdio.h>
@@ -11,6 +12,8 @@
 #include <string.h>
 
 int LLVMFuzzerTestOneInput(const uint8_t *data, size_t size);
+
+uint64_t answers;
 
 enum { MOST_IDS = 16, MOST_NUMBERS = 4096, GUARD = 64, MOST_ROOM = 16 };
 
@@ -56,6 +59,7 @@ static uint32_t take_word(void)
 static nb_status see(nb_status status)
 {
     must(status != NB_NO_SESSION && status != NB_IN_USE && status <= NB_NOT_PLACEHOLDER, "a status that may come");
+    saw(status);
     return status;
 }
 
@@ -78,6 +82,7 @@ static void gave(const int32_t *numbers, size_t count)
 static void came_back(int32_t number)
 {
     must(number >= 0 && number < MOST_NUMBERS && is_out[number] && !came[number], "a descriptor comes back once");
+    saw((uint64_t)number);
     came[number] = 1;
 }
 
@@ -114,6 +119,7 @@ static nb_global_id any_global(void)
 
 static void keep(nb_object_id *in, nb_object_id id)
 {
+    saw_object(&id);
     if (!nb_is_null(&id))
         in[take() % MOST_IDS] = id;
 }
@@ -180,6 +186,8 @@ static void gave_arguments(const nb_argument *of, size_t count)
 static void check_arguments(uint32_t count, size_t room, uint32_t length, size_t byte_room, nb_object_id *into)
 {
     must(count <= room && length <= byte_room, "no more than was lent");
+    saw_arguments(arguments, count);
+    saw_bytes(bytes, length);
     for (uint32_t i = 0; i < count; i++) {
         const nb_argument *argument = &arguments[i];
         must(argument->kind <= NB_NULL_STRING, "a kind");
@@ -214,6 +222,13 @@ static size_t some_room(void)
     return choice < 128 ? NB_MOST_BYTES : choice - 128;
 }
 
+static void saw_info(const nb_object_info *info)
+{
+    saw(info->number);
+    saw(info->interface);
+    saw(info->version);
+}
+
 static void next_action(void)
 {
     nb_client_id id = any_client();
@@ -222,11 +237,21 @@ static void next_action(void)
     nb_status status = see(nb_server_next_action(&server, &id, &action, arguments, room, bytes, byte_room));
     check_guards(room, byte_room);
     if (status == NB_OK) {
+        saw(action.kind);
+        saw(action.opcode);
+        saw(action.is_destructor);
+        saw_object(&action.sender);
+        saw(action.data);
+        saw_object(&action.created);
+        saw(action.version);
+        saw_global(&action.global);
         check_arguments(action.arguments, room, action.bytes, byte_room, objects);
         keep(objects, action.created);
         keep(objects, action.sender);
     } else if (status == NB_TOO_SMALL) {
         must(action.arguments > room || action.bytes > byte_room, "what is needed is more than was lent");
+        saw(action.arguments);
+        saw(action.bytes);
     }
 }
 
@@ -237,11 +262,20 @@ static void next_event(void)
     nb_status status = see(nb_client_next_event(&session, &event, arguments, room, bytes, byte_room));
     check_guards(room, byte_room);
     if (status == NB_OK) {
+        saw(event.opcode);
+        saw(event.is_destructor);
+        saw_object(&event.sender);
+        saw(event.data);
+        saw_object(&event.created);
+        saw(event.version);
+        saw(event.has_data);
         check_arguments(event.arguments, room, event.bytes, byte_room, own);
         keep(own, event.created);
         keep(own, event.sender);
     } else if (status == NB_TOO_SMALL) {
         must(event.arguments > room || event.bytes > byte_room, "what is needed is more than was lent");
+        saw(event.arguments);
+        saw(event.bytes);
     }
 }
 
@@ -251,6 +285,8 @@ static void send_of(nb_status status, nb_counts counts, size_t room, const nb_cl
     if (status != NB_OK)
         return;
     must(counts.bytes <= room && counts.descriptors <= NB_MOST_DESCRIPTORS, "no more than was lent");
+    saw_bytes(bytes, counts.bytes);
+    saw(counts.descriptors);
     uint32_t taken = take() % 4 == 0 ? take() % (counts.bytes + 1) : counts.bytes;
     int32_t numbers[NB_MOST_DESCRIPTORS];
     memcpy(numbers, descriptors, counts.descriptors * sizeof numbers[0]);
@@ -267,11 +303,25 @@ static void settle(void)
     nb_note note;
     int32_t number;
     see(nb_server_cleanup(&server));
-    while (see(nb_server_next_gone(&server, &gone, bytes, NB_MOST_WAITING, descriptors, NB_MOST_DESCRIPTORS)) == NB_OK)
+    while (see(nb_server_next_gone(&server, &gone, bytes, NB_MOST_WAITING, descriptors, NB_MOST_DESCRIPTORS)) ==
+           NB_OK) {
+        saw_client(&gone.client);
+        saw(gone.data);
+        saw_bytes(bytes, gone.waiting.bytes);
         for (uint32_t i = 0; i < gone.waiting.descriptors; i++)
             came_back(descriptors[i]);
-    while (see(nb_server_next_note(&server, &note, bytes, NB_MOST_BYTES)) == NB_OK)
+    }
+    while (see(nb_server_next_note(&server, &note, bytes, NB_MOST_BYTES)) == NB_OK) {
         must(note.kind >= NB_INSERTED && note.kind <= NB_DESTROYED, "a kind of a note");
+        saw(note.kind);
+        saw(note.is_protocol_error);
+        saw(note.code);
+        saw(note.object_number);
+        saw_client(&note.client);
+        saw_object(&note.object);
+        saw(note.data);
+        saw_bytes(bytes, note.message_length + note.interface_length);
+    }
     while (see(nb_server_next_dropped(&server, &number)) == NB_OK)
         came_back(number);
 }
@@ -313,11 +363,13 @@ static void call_of_server(void)
         break;
     case 7:
         id = any_client();
-        see(nb_server_finish_request_with(&server, &id, take(), &kept));
+        if (see(nb_server_finish_request_with(&server, &id, take(), &kept)) == NB_OK)
+            saw(kept);
         break;
     case 8:
         id = any_client();
-        see(nb_server_finish_bind(&server, &id, take(), &kept));
+        if (see(nb_server_finish_bind(&server, &id, take(), &kept)) == NB_OK)
+            saw(kept);
         break;
     case 9:
     case 10:
@@ -374,28 +426,45 @@ static void call_of_server(void)
     case 19: settle(); break;
     case 20:
         object = any_object(objects);
-        see(nb_server_object_info(&server, &object, &info));
-        see(nb_server_object_data(&server, &object, &number));
+        if (see(nb_server_object_info(&server, &object, &info)) == NB_OK)
+            saw_info(&info);
+        if (see(nb_server_object_data(&server, &object, &number)) == NB_OK)
+            saw(number);
         see(nb_server_set_object_data(&server, &object, take()));
         see(nb_server_object_for_protocol_id(&server, &object.client, object.interface, object.number, &made));
+        saw_object(&made);
         break;
     case 21:
         global = any_global();
         id = any_client();
-        see(nb_server_global_info(&server, &global, &offered));
-        see(nb_server_global_data(&server, &global, &number));
-        see(nb_server_global_name(&server, &global, &id, &kept));
+        if (see(nb_server_global_info(&server, &global, &offered)) == NB_OK) {
+            saw(offered.interface);
+            saw(offered.version);
+            saw(offered.is_disabled);
+        }
+        if (see(nb_server_global_data(&server, &global, &number)) == NB_OK)
+            saw(number);
+        if (see(nb_server_global_name(&server, &global, &id, &kept)) == NB_OK)
+            saw(kept);
         see(nb_server_next_global_id(&server, &global));
         see(nb_server_next_client_id(&server, &id));
+        saw_global(&global);
+        saw_client(&id);
         break;
     case 22: {
         nb_object_id list[8];
         nb_client_id all[4];
         id = any_client();
-        see(nb_server_objects(&server, &id, list, take() % 9, &kept));
-        see(nb_server_clients(&server, all, take() % 5, &kept));
-        see(nb_server_client_data(&server, &id, &number));
+        if (see(nb_server_objects(&server, &id, list, take() % 9, &kept)) == NB_OK)
+            for (uint32_t i = 0; i < kept; i++)
+                saw_object(&list[i]);
+        if (see(nb_server_clients(&server, all, take() % 5, &kept)) == NB_OK)
+            for (uint32_t i = 0; i < kept; i++)
+                saw_client(&all[i]);
+        if (see(nb_server_client_data(&server, &id, &number)) == NB_OK)
+            saw(number);
         see(nb_server_memory_refused(&server, &kept));
+        saw(kept);
         break;
     }
     case 23: {
@@ -410,8 +479,11 @@ static void call_of_server(void)
             messages[i] = (nb_message_row){ take(), take(), take(), take() % 3, take() % 3 };
         for (int i = 0; i < 4; i++)
             rows[i] = (nb_argument_row){ take() % 9, take() % 3, take() % 8 };
-        see(nb_server_add_interfaces(&server, text, take() % 129, interfaces, take() % 3, messages, take() % 4, rows,
-                                     take() % 5, &fault));
+        if (see(nb_server_add_interfaces(&server, text, take() % 129, interfaces, take() % 3, messages, take() % 4,
+                                         rows, take() % 5, &fault)) == NB_BAD_TABLE) {
+            saw(fault.interface);
+            saw(fault.fault);
+        }
         break;
     }
     }
@@ -443,7 +515,10 @@ static void call_of_client(void)
         break;
     case 3: next_event(); break;
     case 4: see(nb_client_finish_event(&session)); break;
-    case 5: see(nb_client_finish_event_with(&session, take(), &refused)); break;
+    case 5:
+        if (see(nb_client_finish_event_with(&session, take(), &refused)) == NB_OK)
+            saw(refused);
+        break;
     case 6:
     case 7:
         memset(&request, 0, sizeof request);
@@ -467,17 +542,29 @@ static void call_of_client(void)
         break;
     case 9:
         object = any_object(own);
-        see(nb_client_object_info(&session, &object, &info));
-        see(nb_client_object_data(&session, &object, &number));
+        if (see(nb_client_object_info(&session, &object, &info)) == NB_OK)
+            saw_info(&info);
+        if (see(nb_client_object_data(&session, &object, &number)) == NB_OK)
+            saw(number);
         see(nb_client_set_object_data(&session, &object, take()));
         see(nb_client_memory_refused(&session, &refused));
+        saw(refused);
         break;
     case 10:
         object = any_object(own);
         see(nb_client_destroy_object(&session, &object));
-        while (see(nb_client_next_note(&session, &object, &number)) == NB_OK)
-            ;
-        see(nb_client_last_error(&session, &error, bytes, NB_MOST_BYTES));
+        while (see(nb_client_next_note(&session, &object, &number)) == NB_OK) {
+            saw_object(&object);
+            saw(number);
+        }
+        if (see(nb_client_last_error(&session, &error, bytes, NB_MOST_BYTES)) == NB_OK) {
+            saw(error.kind);
+            saw(error.status);
+            saw((uint64_t)error.number);
+            saw(error.code);
+            saw(error.object_number);
+            saw_bytes(bytes, error.message_length + error.interface_length);
+        }
         break;
     case 11:
         switch (take() % 16) {

@@ -2,12 +2,27 @@
  *
  * The input is a list of pieces: how many bytes (two bytes), how many descriptors (a byte), and the bytes. After all of
  * it nothing that came may be open. */
-#define main main_of_host
+#define _GNU_SOURCE
+#include "answers.h"
+#include <dirent.h>
+#include <time.h>
+
+/* The host's clock stands still: what it sends depends on the input alone. */
+static int read_no_clock(clockid_t clock, struct timespec *time)
+{
+    (void)clock;
+    *time = (struct timespec){ 0, 0 };
+    return 0;
+}
+
+#define clock_gettime read_no_clock
+#define main          main_of_host
 #include "../host.c"
 #undef main
-#include <dirent.h>
 
 int LLVMFuzzerTestOneInput(const uint8_t *data, size_t size);
+
+uint64_t answers;
 
 static int open_files(void)
 {
@@ -25,8 +40,12 @@ static void read_all(int socket)
     static uint8_t came[NB_MOST_BYTES];
     int32_t with[NB_MOST_DESCRIPTORS];
     size_t count;
-    while (socket_receive(socket, came, sizeof came, with, &count) > 0)
+    ssize_t length;
+    while ((length = socket_receive(socket, came, sizeof came, with, &count)) > 0) {
+        saw_bytes(came, (size_t)length);
+        saw(count);
         close_all(with, count);
+    }
 }
 
 int LLVMFuzzerTestOneInput(const uint8_t *data, size_t size)
@@ -61,6 +80,7 @@ int LLVMFuzzerTestOneInput(const uint8_t *data, size_t size)
             show_frame();
         settle();
     }
+    read_all(pair[1]);
     close(pair[1]);
     end();
     close(queue);
