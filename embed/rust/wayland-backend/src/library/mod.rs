@@ -32,6 +32,7 @@ mod ready;
 mod receiving;
 mod rows;
 mod server;
+mod transit;
 
 pub(crate) use client::{Client, SessionError};
 pub(crate) use messages::{Arguments, Outgoing};
