@@ -80,7 +80,7 @@ impl Client {
         Client {
             place,
             lent: Lent::new(),
-            inbox: Inbox::default(),
+            inbox: Inbox::of_server(),
             is_full: false,
             descriptors: 0,
             dangers: 0,
@@ -171,6 +171,12 @@ impl Client {
             Some(Ending::Failed(error)) => self.receive_failed(error),
         }
         receipt
+    }
+
+    /// Appends the numbers that the server has said to be free, by messages that have come since the last time.
+    #[inline]
+    pub(crate) fn move_freed(&mut self, to: &mut Vec<u32>) {
+        self.inbox.move_freed(to);
     }
 
     /// The socket failed while it was read.
