@@ -17,9 +17,11 @@ use crate::library::RawObjectId;
 use crate::protocol::{same_interface, Interface, Message, ObjectInfo, ANONYMOUS_INTERFACE};
 
 mod connection;
+mod leaving;
 mod misuse;
 mod reading;
 mod session;
+mod unprinted;
 
 use connection::Connection;
 

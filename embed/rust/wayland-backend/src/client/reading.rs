@@ -39,7 +39,9 @@ pub(super) struct Readers {
     waiting: usize,
     /// How many readings have brought something that threads may wait for: events, or the end of the connection.
     fruitful: usize,
-    /// What threads know of them. A thread that is not here knows of none.
+    /// The thread that made the last of them, which knows of all.
+    last: Option<ThreadMark>,
+    /// What other threads know of them. A thread that is not here knows of none.
     known: Vec<Known>,
 }
 
@@ -74,6 +76,28 @@ impl Readers {
         let known = self.known_to(thread);
         (known.seen, known.told) = (count, count);
     }
+
+    /// Whether the thread knows of all fruitful readings. If not, it is told now.
+    #[inline]
+    fn knows(&mut self, thread: ThreadMark) -> bool {
+        self.last == Some(thread) || self.fruitful == 0 || {
+            let count = self.fruitful;
+            let known = self.known_to(thread);
+            known.told = count;
+            known.seen == count
+        }
+    }
+
+    /// The thread has made a fruitful reading.
+    #[inline]
+    fn count(&mut self, thread: ThreadMark) {
+        if self.last != Some(thread) {
+            if let Some(former) = self.last.replace(thread) {
+                self.tell(former);
+            }
+        }
+        self.fruitful = self.fruitful.wrapping_add(1);
+    }
 }
 
 impl Connection {
@@ -90,23 +114,20 @@ impl Connection {
             session = self.wait(session);
         }
         let readers = &mut session.readers;
-        if readers.current.is_none() {
-            let count = readers.fruitful;
-            let known = readers.known_to(thread);
-            if known.seen != count {
-                known.told = count;
-                return false;
-            }
+        let is_told = readers.current.is_none() && !readers.knows(thread);
+        if !is_told {
+            readers.prepared += 1;
         }
-        readers.prepared += 1;
-        true
+        !is_told
     }
 
     /// This thread looks at its queues.
     pub(super) fn look(&self) {
-        let mut session = self.lock();
-        let known = session.readers.known_to(ThreadMark::of_this());
-        known.seen = known.told;
+        let known = &mut self.lock().readers.known;
+        let thread = ThreadMark::of_this();
+        if let Some(known) = known.iter_mut().find(|it| it.thread == thread) {
+            known.seen = known.told;
+        }
     }
 
     /// Waits until a reading has ended, or all that were prepared were given up.
@@ -174,8 +195,7 @@ impl Reading<'_> {
     fn end(&mut self, session: &mut Session) {
         let readers = &mut session.readers;
         if self.is_fruitful {
-            readers.fruitful = readers.fruitful.wrapping_add(1);
-            readers.tell(ThreadMark::of_this());
+            readers.count(ThreadMark::of_this());
         }
         self.connection.end_reading(readers);
         self.is_over = true;

@@ -1,6 +1,5 @@
 //! What stands behind a connection's lock: the session, and what the program keeps for its objects.
 
-use std::collections::BTreeMap;
 use std::fmt;
 use std::io;
 use std::mem;
@@ -9,7 +8,9 @@ use std::sync::Arc;
 
 use rustix::io::Errno;
 
+use super::leaving::{ByNumber, Leaving};
 use super::reading::Readers;
+use super::unprinted::Unprinted;
 use super::{DisplayData, MissingData, ObjectData, ObjectId, WaylandError};
 use crate::data::Slab;
 use crate::library::{
@@ -28,13 +29,6 @@ struct Kept {
     interface: &'static Interface,
 }
 
-/// An object that was destroyed: its serial, and the key of its data.
-#[derive(Clone, Copy, Debug)]
-struct Leaving {
-    serial: u64,
-    key: u64,
-}
-
 /// A session, its table, and the data of its objects.
 #[derive(Debug)]
 pub(super) struct Session {
@@ -43,8 +37,8 @@ pub(super) struct Session {
     data: Slab<Kept>,
     /// The event that was handed out last.
     event: Event,
-    /// Objects that were destroyed, by number, whose data are kept until the number is free.
-    leaving: BTreeMap<u32, Leaving>,
+    /// Objects that were destroyed, whose data are kept until the number is free.
+    leaving: ByNumber,
     /// Numbers that the server has said to be free.
     freed: Vec<u32>,
     outgoing: Outgoing,
@@ -54,6 +48,8 @@ pub(super) struct Session {
     /// Whether a call was answered that the session has an error. Nothing is received any more.
     has_failed: bool,
     pub(super) readers: Readers,
+    /// What came and is to be printed, if messages are.
+    unprinted: Option<Box<Unprinted>>,
 }
 
 /// Why a call failed.
@@ -223,19 +219,27 @@ impl Leftovers {
 }
 
 impl Session {
-    pub(super) fn new() -> Session {
+    /// `prints` says whether messages are printed.
+    pub(super) fn new(prints: bool) -> Session {
         let mut session = Session {
             library: Client::new(),
             table: Table::new(),
             data: Slab::new(),
             event: Event::default(),
-            leaving: BTreeMap::new(),
+            leaving: ByNumber::default(),
             freed: Vec::new(),
             outgoing: Outgoing::default(),
             fault: None,
             has_failed: false,
             readers: Readers::default(),
+            unprinted: None,
         };
+        if prints {
+            let mut unprinted = Box::new(Unprinted::default());
+            unprinted.know(session.display());
+            session.library.keep_bytes();
+            session.unprinted = Some(unprinted);
+        }
         let display = session.library.display();
         let interface = session.table.interface(display.interface);
         let key = session.data.insert(Kept {
@@ -396,7 +400,11 @@ impl Session {
         let sent = self.send(message, &request);
         let created = match (sent, interface) {
             (Ok(created), Some(interface)) if created.number != 0 => {
-                ObjectId::new(&created, interface)
+                let created = ObjectId::new(&created, interface);
+                if let Some(unprinted) = &mut self.unprinted {
+                    unprinted.know(created.clone());
+                }
+                created
             }
             (sent, _) => {
                 if request.has_data != 0 {
@@ -454,7 +462,11 @@ impl Session {
         if self.fault.is_some() || self.has_failed {
             return Receipt::NOTHING;
         }
-        self.library.receive(socket)
+        let receipt = self.library.receive(socket);
+        if let Some(unprinted) = &mut self.unprinted {
+            self.library.move_bytes(&mut unprinted.bytes);
+        }
+        receipt
     }
 
     /// The next event. Its arguments are appended to `args`.
@@ -471,11 +483,25 @@ impl Session {
             table,
             data,
             event,
+            unprinted,
             ..
         } = self;
-        library.next_event(event, args, |event, argument| {
+        let next = library.next_event(event, args, |event, argument| {
             argument_id(table, data, event, argument)
-        })?;
+        });
+        if let Some(unprinted) = unprinted {
+            match next {
+                Ok(()) => {
+                    unprinted.print_before(event.sender.number, event.opcode as u16);
+                    if event.created.number != 0 {
+                        let interface = child_interface(table, data, event);
+                        unprinted.know(ObjectId::new(&event.created, interface));
+                    }
+                }
+                Err(_) => unprinted.print_passed(library),
+            }
+        }
+        next?;
         let (receiver, interface) = match data.get(event.data) {
             Some(kept) => (kept.data.clone(), kept.interface),
             None => {
@@ -526,12 +552,12 @@ impl Session {
         // The callback may have given it data, which these replace; and have destroyed it then.
         let given = self.library.object_data(&raw);
         let mut is_told = false;
-        if let Some(&left) = self.leaving.get(&raw.number) {
-            if left.serial == raw.serial {
-                is_told = given == Some(left.key);
-            } else {
+        match self.leaving.get(raw.number) {
+            None => {}
+            Some(left) if left.serial == raw.serial => is_told = given == Some(left.key),
+            Some(left) => {
                 // The number was free.
-                self.leaving.remove(&raw.number);
+                self.leaving.remove(raw.number);
                 self.remove_data(left.key, leftovers);
             }
         }
@@ -573,7 +599,7 @@ impl Session {
         }
         let serial = raw.serial;
         // One of that number that has left before it is gone.
-        if let Some(former) = self.leaving.insert(raw.number, Leaving { serial, key }) {
+        if let Some(former) = self.leaving.put(raw.number, Leaving { serial, key }) {
             self.remove_data(former.key, leftovers);
         }
     }
@@ -586,7 +612,7 @@ impl Session {
         self.library.move_freed(&mut self.freed);
         let mut freed = mem::take(&mut self.freed);
         for number in freed.drain(..) {
-            let Some(&Leaving { serial, key }) = self.leaving.get(&number) else {
+            let Some(Leaving { serial, key }) = self.leaving.get(number) else {
                 continue;
             };
             let raw = RawObjectId {
@@ -595,7 +621,7 @@ impl Session {
                 ..RawObjectId::default()
             };
             if self.library.object_data(&raw).is_none() {
-                self.leaving.remove(&number);
+                self.leaving.remove(number);
                 self.remove_data(key, leftovers);
             }
         }

@@ -53,6 +53,8 @@ pub(crate) struct Client {
     descriptors: usize,
     /// How often something was done that may have given the session an error. To receive and to take events does not count.
     dangers: usize,
+    /// The bytes that came, if they are kept.
+    kept: Option<Vec<u8>>,
 }
 
 impl Client {
@@ -84,6 +86,19 @@ impl Client {
             is_full: false,
             descriptors: 0,
             dangers: 0,
+            kept: None,
+        }
+    }
+
+    /// The bytes that come from now on are kept, too.
+    pub(crate) fn keep_bytes(&mut self) {
+        self.kept = Some(Vec::new());
+    }
+
+    /// Appends those that came since the last time.
+    pub(crate) fn move_bytes(&mut self, to: &mut Vec<u8>) {
+        if let Some(kept) = &mut self.kept {
+            to.append(kept);
         }
     }
 
@@ -144,6 +159,7 @@ impl Client {
             place,
             inbox,
             descriptors,
+            kept,
             ..
         } = self;
         let arrive = |bytes: &[u8], numbers: &[i32]| {
@@ -158,6 +174,9 @@ impl Client {
                 )
             })?;
             *descriptors += numbers.len();
+            if let Some(kept) = kept {
+                kept.extend_from_slice(bytes);
+            }
             Ok(())
         };
         let (receipt, ending) = with_transit(|transit| {

@@ -6,6 +6,7 @@ mod events_by_hand;
 mod globals;
 mod misuse;
 mod objects;
+mod printed;
 mod requests_by_hand;
 mod sizes;
 mod threads;
@@ -23,6 +24,7 @@ pub fn all() -> Vec<Case> {
         descriptors::CASES,
         sizes::CASES,
         threads::CASES,
+        printed::CASES,
     ]
     .concat()
 }
