@@ -21,8 +21,12 @@ fn main() {
         // It has told cargo already.
     } else if is_native && built.join(ARCHIVE).is_file() {
         link(&built);
+    } else if let Some(folder) = unpacked(&repository) {
+        link(&folder);
     } else {
-        link(&unpacked(&repository));
+        link_nothing();
+        // When it is there, this runs again.
+        println!("cargo::rerun-if-changed={}", built.join(ARCHIVE).display());
     }
 }
 
@@ -53,24 +57,14 @@ fn is_known_to_pkg_config() -> bool {
         .is_ok()
 }
 
-/// The folder of the released library for the target, out of the repository's `dist/`.
-fn unpacked(repository: &Path) -> PathBuf {
-    let target = format!(
-        "{}-{}",
-        variable("CARGO_CFG_TARGET_OS"),
-        variable("CARGO_CFG_TARGET_ARCH")
-    );
-    let name = format!("numbyroga-{VERSION}-{target}");
+/// The folder of the released library for the target, out of the repository's `dist/`, if it has one.
+fn unpacked(repository: &Path) -> Option<PathBuf> {
+    let name = format!("numbyroga-{VERSION}-{}", target());
     let tarball = repository.join(format!("dist/{name}.tar.gz"));
-    if !tarball.is_file() {
-        fail(&format!(
-            "{ARCHIVE} for {target} is not there: NUMBYROGA_LIB_DIR is not set, pkg-config knows no numbyroga of \
-             version {VERSION} or later, and the repository of Numbyroga has it neither in embed/build nor in \
-             dist/{name}.tar.gz. Build it by `make -C embed` in the repository, or set NUMBYROGA_LIB_DIR to the \
-             folder that has it"
-        ));
-    }
     println!("cargo::rerun-if-changed={}", tarball.display());
+    if !tarball.is_file() {
+        return None;
+    }
     let folder = PathBuf::from(variable("OUT_DIR"));
     let told = Command::new("tar")
         .arg("-xzf")
@@ -102,7 +96,27 @@ fn unpacked(repository: &Path) -> PathBuf {
             tarball.display()
         ));
     }
-    folder.join("lib")
+    Some(folder.join("lib"))
+}
+
+/// The system and the processor that is compiled for.
+fn target() -> String {
+    let system = variable("CARGO_CFG_TARGET_OS");
+    let processor = variable("CARGO_CFG_TARGET_ARCH");
+    format!("{system}-{processor}")
+}
+
+/// Nothing is there to be linked. `cargo check` and `cargo doc` need nothing, so this is a warning; and rustc finds no library
+/// where it makes a program or a test.
+fn link_nothing() {
+    let target = target();
+    println!(
+        "cargo::warning={ARCHIVE} for {target} is not there, so nothing can be linked: NUMBYROGA_LIB_DIR is not set, \
+         pkg-config knows no numbyroga of version {VERSION} or later, and the repository of Numbyroga has it neither in \
+         embed/build nor in dist/numbyroga-{VERSION}-{target}.tar.gz. Build it by `make -C embed` in the repository, or set \
+         NUMBYROGA_LIB_DIR to the folder that has it"
+    );
+    println!("cargo::rustc-link-lib=static=numbyroga");
 }
 
 /// The words of a header.

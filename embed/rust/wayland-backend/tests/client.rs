@@ -1248,13 +1248,18 @@ fn a_reader_beside_one_that_reads_waits_until_it_has_ended() {
     send(&client, &thing, WRITE, &[Argument::Str(None)]).unwrap();
     client.flush().unwrap();
     let reader = client.clone();
-    let second = thread::spawn(move || read(&reader));
+    let second = thread::spawn(move || {
+        let is_prepared = reader.prepare_read().is_some();
+        reader.dispatch_inner_queue().unwrap();
+        (is_prepared, read(&reader))
+    });
     thread::sleep(Duration::from_millis(50));
     assert!(!second.is_finished());
     go.send(()).unwrap();
     assert_eq!(first.join().unwrap().unwrap(), 1);
-    // Its reading was prepared afterwards, and finds nothing.
-    assert!(would_block(second.join().unwrap()));
+    // What was read may be its own. When it has looked, a reading finds nothing.
+    let (is_prepared, read) = second.join().unwrap();
+    assert!(!is_prepared && would_block(read));
 }
 
 #[test]
@@ -1281,6 +1286,8 @@ fn a_reading_is_prepared_when_no_other_thread_reads() {
     let first = thread::spawn(move || read(&reader));
     begins.recv().unwrap();
     let second = thread::spawn(move || {
+        assert!(client.prepare_read().is_none());
+        client.dispatch_inner_queue().unwrap();
         let guard = client.prepare_read().unwrap();
         // If the events had not been handed out yet, neither would poll tell of them.
         let count = *handed_out.lock().unwrap();
@@ -1304,7 +1311,10 @@ fn several_readers_take_each_event_once() {
         for _ in 0..4 {
             scope.spawn(|| {
                 while !is_done() {
-                    let guard = client.prepare_read().unwrap();
+                    let Some(guard) = client.prepare_read() else {
+                        client.dispatch_inner_queue().unwrap();
+                        continue;
+                    };
                     let ready = PollFd::from_borrowed_fd(client.poll_fd(), PollFlags::IN);
                     if poll(&mut [ready], 20).unwrap() == 0 {
                         continue; // and give the reading up

@@ -8,7 +8,8 @@ use std::sync::{Arc, Mutex};
 
 use rustix::fs::MemfdFlags;
 use wayland_backend::client::{
-    Backend, ObjectData as ClientObjectData, ObjectId as ClientObjectId, WaylandError,
+    Backend, ObjectData as ClientObjectData, ObjectId as ClientObjectId, ReadEventsGuard,
+    WaylandError,
 };
 use wayland_backend::protocol::{Argument, Message};
 use wayland_backend::server::{self, ClientId, DisconnectReason, GlobalId, Handle, ObjectId};
@@ -341,9 +342,19 @@ impl Client {
         self.backend.flush().unwrap();
     }
 
+    /// Prepares a reading. What other threads read has come to the inbox already.
+    pub fn prepare(&self) -> ReadEventsGuard {
+        loop {
+            if let Some(guard) = self.backend.prepare_read() {
+                return guard;
+            }
+            self.backend.dispatch_inner_queue().unwrap();
+        }
+    }
+
     /// Reads all that is there. Answers the number of events.
     pub fn read(&self) -> usize {
-        match self.backend.prepare_read().unwrap().read() {
+        match self.prepare().read() {
             Ok(count) => count,
             Err(error) if would_block(&error) => 0,
             Err(error) => panic!("{error}"),

@@ -36,13 +36,14 @@ impl fmt::Debug for Connection {
 
 impl Connection {
     pub(super) fn new(socket: UnixStream) -> Connection {
-        let mut session = Session::new();
+        let prints = debug::is_on_for_clients();
+        let mut session = Session::new(prints);
         Connection {
             socket,
             display: session.display(),
             session: Mutex::new(session),
             read: Condvar::new(),
-            prints: debug::is_on_for_clients(),
+            prints,
         }
     }
 

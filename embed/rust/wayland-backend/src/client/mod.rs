@@ -17,9 +17,11 @@ use crate::library::RawObjectId;
 use crate::protocol::{same_interface, Interface, Message, ObjectInfo, ANONYMOUS_INTERFACE};
 
 mod connection;
+mod leaving;
 mod misuse;
 mod reading;
 mod session;
+mod unprinted;
 
 use connection::Connection;
 
@@ -280,23 +282,29 @@ impl Backend {
         self.connection.set_data(&id, data)
     }
 
-    /// Says that events are going to be read. It never answers `None`.
+    /// Says that events are going to be read.
     ///
     /// While another thread reads, it waits until that one has ended: so what came before was handed out, and `poll` tells
     /// of all that comes then. A callback that prepares a reading does not wait for the one that has called it.
+    ///
+    /// The answer is `None` if another thread has read events, or the end of the connection, since this thread read. What this
+    /// thread waits for may have come so, and `poll` does not tell of it. Call [`Backend::dispatch_inner_queue`] then, look
+    /// at what came, and prepare again. The queues of wayland-client do so.
     #[inline]
     #[must_use]
     pub fn prepare_read(&self) -> Option<ReadEventsGuard> {
-        self.connection.prepare_read();
-        Some(ReadEventsGuard {
+        self.connection.prepare_read().then(|| ReadEventsGuard {
             backend: self.clone(),
             is_done: false,
         })
     }
 
-    /// Hands out events that another library has queued. There are none: the answer is 0.
+    /// Says that this thread looks at what other threads have read, when [`Backend::prepare_read`] has answered `None`.
+    ///
+    /// There are no events that another library has queued: the answer is 0.
     #[inline]
     pub fn dispatch_inner_queue(&self) -> Result<usize, WaylandError> {
+        self.connection.look();
         Ok(0)
     }
 

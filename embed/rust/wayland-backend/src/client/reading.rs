@@ -31,26 +31,103 @@ impl ThreadMark {
 pub(super) struct Readers {
     /// How many readings are prepared, and have neither begun nor been given up.
     prepared: usize,
-    /// How many readings have ended.
+    /// How many readings have ended, or were given up.
     ended: usize,
     /// The thread that reads now.
     current: Option<ThreadMark>,
     /// How many threads wait until a reading has ended.
     waiting: usize,
+    /// How many readings have brought something that threads may wait for: events, or the end of the connection.
+    fruitful: usize,
+    /// The thread that made the last of them, which knows of all.
+    last: Option<ThreadMark>,
+    /// What other threads know of them. A thread that is not here knows of none.
+    known: Vec<Known>,
+}
+
+/// What a thread knows of the readings that were fruitful. The mark of a thread that has ended may be another one's later,
+/// which then knows what that knew.
+#[derive(Clone, Copy, Debug)]
+struct Known {
+    thread: ThreadMark,
+    /// After so many the thread has looked at its queues.
+    seen: usize,
+    /// It was told of so many, since no reading could be prepared.
+    told: usize,
+}
+
+impl Readers {
+    fn known_to(&mut self, thread: ThreadMark) -> &mut Known {
+        let at = self.known.iter().position(|it| it.thread == thread);
+        let at = at.unwrap_or_else(|| {
+            self.known.push(Known {
+                thread,
+                seen: 0,
+                told: 0,
+            });
+            self.known.len() - 1
+        });
+        &mut self.known[at]
+    }
+
+    /// The thread is going to look at its queues after this.
+    fn tell(&mut self, thread: ThreadMark) {
+        let count = self.fruitful;
+        let known = self.known_to(thread);
+        (known.seen, known.told) = (count, count);
+    }
+
+    /// Whether the thread knows of all fruitful readings. If not, it is told now.
+    #[inline]
+    fn knows(&mut self, thread: ThreadMark) -> bool {
+        self.last == Some(thread) || self.fruitful == 0 || {
+            let count = self.fruitful;
+            let known = self.known_to(thread);
+            known.told = count;
+            known.seen == count
+        }
+    }
+
+    /// The thread has made a fruitful reading.
+    #[inline]
+    fn count(&mut self, thread: ThreadMark) {
+        if self.last != Some(thread) {
+            if let Some(former) = self.last.replace(thread) {
+                self.tell(former);
+            }
+        }
+        self.fruitful = self.fruitful.wrapping_add(1);
+    }
 }
 
 impl Connection {
     /// Prepares a reading. While another thread reads, this waits until it has ended: then what it read has been handed
     /// out. A callback of the reading itself does not wait.
-    pub(super) fn prepare_read(&self) {
+    ///
+    /// The answer is false, and nothing is prepared, if another thread has read something of which this one does not know: it
+    /// may wait for that, and `poll` does not tell of it any more. The thread knows of it when it was told so and has looked
+    /// after that. A look that it took by itself does not count: what it has looked for before may have come in between.
+    pub(super) fn prepare_read(&self) -> bool {
+        let thread = ThreadMark::of_this();
         let mut session = self.lock();
-        if session.readers.current.is_some() {
-            let thread = ThreadMark::of_this();
-            while session.readers.current.is_some_and(|it| it != thread) {
-                session = self.wait(session);
-            }
+        while session.readers.current.is_some_and(|it| it != thread) {
+            session = self.wait(session);
         }
-        session.readers.prepared += 1;
+        let readers = &mut session.readers;
+        let is_told = readers.current.is_none() && !readers.knows(thread);
+        if !is_told {
+            readers.prepared += 1;
+        }
+        !is_told
+    }
+
+    /// This thread looks at its queues.
+    pub(super) fn look(&self) {
+        let known = &mut self.lock().readers.known;
+        let thread = ThreadMark::of_this();
+        if let Some(known) = known.iter_mut().find(|it| it.thread == thread) {
+            known.seen = known.told;
+        }
     }
 
     /// Waits until a reading has ended, or all that were prepared were given up.
@@ -97,6 +174,7 @@ impl Connection {
         while session.readers.prepared > 0 || session.readers.current.is_some() {
             session = self.wait(session);
             if session.readers.ended != ended {
+                session.readers.tell(thread);
                 return Ok(None);
             }
         }
@@ -108,12 +186,18 @@ impl Connection {
 /// The reading of this thread. It ends at the latest when this is dropped, also by a panic.
 struct Reading<'a> {
     connection: &'a Connection,
+    /// Whether it has brought something that threads may wait for.
+    is_fruitful: bool,
     is_over: bool,
 }
 
 impl Reading<'_> {
     fn end(&mut self, session: &mut Session) {
-        self.connection.end_reading(&mut session.readers);
+        let readers = &mut session.readers;
+        if self.is_fruitful {
+            readers.count(ThreadMark::of_this());
+        }
+        self.connection.end_reading(readers);
         self.is_over = true;
     }
 }
@@ -132,6 +216,7 @@ pub(super) fn read(backend: &Backend) -> Result<usize, WaylandError> {
     if let Some(session) = connection.begin_reading()? {
         let mut reading = Reading {
             connection,
+            is_fruitful: false,
             is_over: false,
         };
         return dispatch(backend, session, &mut reading);
@@ -172,12 +257,16 @@ fn dispatch<'a>(
                         receipt = session.receive(connection.socket());
                         continue;
                     }
-                    Status::FAILED => break Err(session.failed()),
+                    Status::FAILED => {
+                        reading.is_fruitful = true;
+                        break Err(session.failed());
+                    }
                     _ if dispatched == 0 => break Err(Failure::from(Errno::AGAIN)),
                     _ => break Ok(dispatched),
                 }
             }
         };
+        reading.is_fruitful = true;
         session = finish(connection, answer, &mut leftovers, &mut panics);
         dispatched += 1;
         receipt.most = receipt.most.saturating_sub(1);

@@ -1,6 +1,5 @@
 //! What stands behind a connection's lock: the session, and what the program keeps for its objects.
 
-use std::collections::VecDeque;
 use std::fmt;
 use std::io;
 use std::mem;
@@ -9,7 +8,9 @@ use std::sync::Arc;
 
 use rustix::io::Errno;
 
+use super::leaving::{ByNumber, Leaving};
 use super::reading::Readers;
+use super::unprinted::Unprinted;
 use super::{DisplayData, MissingData, ObjectData, ObjectId, WaylandError};
 use crate::data::Slab;
 use crate::library::{
@@ -36,10 +37,10 @@ pub(super) struct Session {
     data: Slab<Kept>,
     /// The event that was handed out last.
     event: Event,
-    /// Objects that were destroyed, with the keys of their data. These are kept until the number is free.
-    leaving: VecDeque<(RawObjectId, u64)>,
-    /// How many of them were added since they were last looked at.
-    left_lately: usize,
+    /// Objects that were destroyed, whose data are kept until the number is free.
+    leaving: ByNumber,
+    /// Numbers that the server has said to be free.
+    freed: Vec<u32>,
     outgoing: Outgoing,
     /// What ended the connection on this side: the socket failed while it was written, or a descriptor of a request could
     /// not be duplicated, so that nothing behind it can be sent.
@@ -47,6 +48,8 @@ pub(super) struct Session {
     /// Whether a call was answered that the session has an error. Nothing is received any more.
     has_failed: bool,
     pub(super) readers: Readers,
+    /// What came and is to be printed, if messages are.
+    unprinted: Option<Box<Unprinted>>,
 }
 
 /// Why a call failed.
@@ -216,19 +219,27 @@ impl Leftovers {
 }
 
 impl Session {
-    pub(super) fn new() -> Session {
+    /// `prints` says whether messages are printed.
+    pub(super) fn new(prints: bool) -> Session {
         let mut session = Session {
             library: Client::new(),
             table: Table::new(),
             data: Slab::new(),
             event: Event::default(),
-            leaving: VecDeque::new(),
-            left_lately: 0,
+            leaving: ByNumber::default(),
+            freed: Vec::new(),
             outgoing: Outgoing::default(),
             fault: None,
             has_failed: false,
             readers: Readers::default(),
+            unprinted: None,
         };
+        if prints {
+            let mut unprinted = Box::new(Unprinted::default());
+            unprinted.know(session.display());
+            session.library.keep_bytes();
+            session.unprinted = Some(unprinted);
+        }
         let display = session.library.display();
         let interface = session.table.interface(display.interface);
         let key = session.data.insert(Kept {
@@ -389,7 +400,11 @@ impl Session {
         let sent = self.send(message, &request);
         let created = match (sent, interface) {
             (Ok(created), Some(interface)) if created.number != 0 => {
-                ObjectId::new(&created, interface)
+                let created = ObjectId::new(&created, interface);
+                if let Some(unprinted) = &mut self.unprinted {
+                    unprinted.know(created.clone());
+                }
+                created
             }
             (sent, _) => {
                 if request.has_data != 0 {
@@ -447,7 +462,11 @@ impl Session {
         if self.fault.is_some() || self.has_failed {
             return Receipt::NOTHING;
         }
-        self.library.receive(socket)
+        let receipt = self.library.receive(socket);
+        if let Some(unprinted) = &mut self.unprinted {
+            self.library.move_bytes(&mut unprinted.bytes);
+        }
+        receipt
     }
 
     /// The next event. Its arguments are appended to `args`.
@@ -464,11 +483,25 @@ impl Session {
             table,
             data,
             event,
+            unprinted,
             ..
         } = self;
-        library.next_event(event, args, |event, argument| {
+        let next = library.next_event(event, args, |event, argument| {
             argument_id(table, data, event, argument)
-        })?;
+        });
+        if let Some(unprinted) = unprinted {
+            match next {
+                Ok(()) => {
+                    unprinted.print_before(event.sender.number, event.opcode as u16);
+                    if event.created.number != 0 {
+                        let interface = child_interface(table, data, event);
+                        unprinted.know(ObjectId::new(&event.created, interface));
+                    }
+                }
+                Err(_) => unprinted.print_passed(library),
+            }
+        }
+        next?;
         let (receiver, interface) = match data.get(event.data) {
             Some(kept) => (kept.data.clone(), kept.interface),
             None => {
@@ -516,8 +549,19 @@ impl Session {
     ) -> Option<Misuse> {
         let interface = child_interface(&self.table, &self.data, &self.event);
         let raw = self.event.created;
-        // The callback may have given it data, which these replace.
-        if let Some(key) = self.library.object_data(&raw) {
+        // The callback may have given it data, which these replace; and have destroyed it then.
+        let given = self.library.object_data(&raw);
+        let mut is_told = false;
+        match self.leaving.get(raw.number) {
+            None => {}
+            Some(left) if left.serial == raw.serial => is_told = given == Some(left.key),
+            Some(left) => {
+                // The number was free.
+                self.leaving.remove(raw.number);
+                self.remove_data(left.key, leftovers);
+            }
+        }
+        if let Some(key) = given {
             self.remove_data(key, leftovers);
         }
         let misuse = match answer {
@@ -529,8 +573,8 @@ impl Session {
         let finished = self.library.finish_event(Some(key));
         debug_assert!(finished.is_ok(), "{finished:?}");
         if finished != Ok(true) {
-            // The callback has destroyed it: no note tells when its data leave.
-            self.keep_until_free(raw, key);
+            // The callback has destroyed it: no note names these data.
+            self.end(&raw, key, !is_told, leftovers);
         }
         misuse
     }
@@ -538,40 +582,50 @@ impl Session {
     /// Takes the objects with data that were destroyed, up to this one, which was the last.
     pub(super) fn take_notes(&mut self, last: &RawObjectId, leftovers: &mut Leftovers) {
         while let Some((raw, key)) = self.library.next_note() {
-            if let Some(kept) = self.data.get(key) {
-                let id = ObjectId::new(&raw, kept.interface);
-                leftovers.end(kept.data.clone(), id);
-                self.keep_until_free(raw, key);
-            }
+            self.end(&raw, key, true, leftovers);
             if raw.serial == last.serial && raw.number == last.number {
                 break;
             }
         }
     }
 
-    fn keep_until_free(&mut self, raw: RawObjectId, key: u64) {
-        self.leaving.push_back((raw, key));
-        self.left_lately += 1;
+    /// An object was destroyed. Its data are told so, if they are to be, and kept until its number is free.
+    fn end(&mut self, raw: &RawObjectId, key: u64, tells: bool, leftovers: &mut Leftovers) {
+        let Some(kept) = self.data.get(key) else {
+            return;
+        };
+        if tells {
+            leftovers.end(kept.data.clone(), ObjectId::new(raw, kept.interface));
+        }
+        let serial = raw.serial;
+        // One of that number that has left before it is gone.
+        if let Some(former) = self.leaving.put(raw.number, Leaving { serial, key }) {
+            self.remove_data(former.key, leftovers);
+        }
     }
 
     /// Takes out the data of objects whose numbers are free.
     ///
-    /// The session does not tell when a number becomes free, so it is asked. It is asked about twice as many objects as
-    /// were destroyed since the last time, and a few: so the list stays short, and the time does not grow with objects
-    /// that the server never lets go.
+    /// The session does not tell which these are, so it is asked for those of which a message of the server says so.
+    #[inline]
     pub(super) fn take_unused(&mut self, leftovers: &mut Leftovers) {
-        let most = self.leaving.len().min(2 * self.left_lately + 4);
-        self.left_lately = 0;
-        for _ in 0..most {
-            let Some((raw, key)) = self.leaving.pop_front() else {
-                break;
+        self.library.move_freed(&mut self.freed);
+        let mut freed = mem::take(&mut self.freed);
+        for number in freed.drain(..) {
+            let Some(Leaving { serial, key }) = self.leaving.get(number) else {
+                continue;
             };
-            if self.library.object_data(&raw).is_some() {
-                self.leaving.push_back((raw, key));
-            } else {
+            let raw = RawObjectId {
+                serial,
+                number,
+                ..RawObjectId::default()
+            };
+            if self.library.object_data(&raw).is_none() {
+                self.leaving.remove(number);
                 self.remove_data(key, leftovers);
             }
         }
+        self.freed = freed;
     }
 }
 

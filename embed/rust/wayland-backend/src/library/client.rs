@@ -8,6 +8,7 @@ use rustix::io::Errno;
 use super::messages::Lent;
 use super::receiving::{Ending, Inbox};
 use super::rows::table_answer;
+use super::transit::{with_transit, Transit};
 use super::{
     answer, done, send_once, take_back, Arguments, Event, Outgoing, RawArgument, RawObjectId,
     RawObjectInfo, Receipt, Request, Rows, Sent, Status, TableFault, NO_DESCRIPTOR,
@@ -52,6 +53,8 @@ pub(crate) struct Client {
     descriptors: usize,
     /// How often something was done that may have given the session an error. To receive and to take events does not count.
     dangers: usize,
+    /// The bytes that came, if they are kept.
+    kept: Option<Vec<u8>>,
 }
 
 impl Client {
@@ -79,10 +82,23 @@ impl Client {
         Client {
             place,
             lent: Lent::new(),
-            inbox: Inbox::default(),
+            inbox: Inbox::of_server(),
             is_full: false,
             descriptors: 0,
             dangers: 0,
+            kept: None,
+        }
+    }
+
+    /// The bytes that come from now on are kept, too.
+    pub(crate) fn keep_bytes(&mut self) {
+        self.kept = Some(Vec::new());
+    }
+
+    /// Appends those that came since the last time.
+    pub(crate) fn move_bytes(&mut self, to: &mut Vec<u8>) {
+        if let Some(kept) = &mut self.kept {
+            to.append(kept);
         }
     }
 
@@ -141,12 +157,12 @@ impl Client {
     pub(crate) fn receive(&mut self, from: BorrowedFd<'_>) -> Receipt {
         let Client {
             place,
-            lent,
             inbox,
             descriptors,
+            kept,
             ..
         } = self;
-        let (receipt, ending) = inbox.receive(from, lent.receiving(), |bytes, numbers| {
+        let arrive = |bytes: &[u8], numbers: &[i32]| {
             // SAFETY: each slice is lent with its own length.
             answer(unsafe {
                 sys::nb_client_received(
@@ -158,7 +174,15 @@ impl Client {
                 )
             })?;
             *descriptors += numbers.len();
+            if let Some(kept) = kept {
+                kept.extend_from_slice(bytes);
+            }
             Ok(())
+        };
+        let (receipt, ending) = with_transit(|transit| {
+            let (receipt, ending) = inbox.receive(from, transit.receiving(), arrive);
+            transit.passed(receipt.bytes);
+            (receipt, ending)
         });
         match ending {
             None => {}
@@ -166,6 +190,12 @@ impl Client {
             Some(Ending::Failed(error)) => self.receive_failed(error),
         }
         receipt
+    }
+
+    /// Appends the numbers that the server has said to be free, by messages that have come since the last time.
+    #[inline]
+    pub(crate) fn move_freed(&mut self, to: &mut Vec<u32>) {
+        self.inbox.move_freed(to);
     }
 
     /// The socket failed while it was read.
@@ -222,6 +252,7 @@ impl Client {
             self.lent
                 .take(event.arguments, arguments, |argument| id(event, argument))
         };
+        self.lent.shrink();
         Ok(())
     }
 
@@ -325,8 +356,14 @@ impl Client {
 
     /// Sends once to the socket what was handed over.
     pub(crate) fn send(&mut self, to: BorrowedFd<'_>) -> Result<Sent, Errno> {
+        with_transit(|transit| self.send_by(transit, to))
+    }
+
+    #[inline]
+    fn send_by(&mut self, transit: &mut Transit, to: BorrowedFd<'_>) -> Result<Sent, Errno> {
         let mut counts = sys::nb_counts::default();
-        let (bytes, numbers) = self.lent.sending(self.is_full);
+        let bytes = transit.sending(self.is_full);
+        let numbers = &mut self.lent.descriptors;
         // SAFETY: each slice is lent with its own length.
         let status = unsafe {
             sys::nb_client_to_send(
@@ -345,10 +382,12 @@ impl Client {
             descriptors,
             ..
         } = self;
-        send_once(to, is_full, counts, bytes, numbers, |count| {
+        let sent = send_once(to, is_full, counts, bytes, numbers, |count| {
             done(sys::nb_client_sent(place, count));
             *descriptors -= counts.descriptors as usize;
-        })
+        })?;
+        transit.passed(counts.bytes as usize);
+        Ok(sent)
     }
 
     /// The session's error, if it has one.
@@ -476,20 +515,19 @@ mod tests {
         while client.send(ours.as_fd()).is_ok() {}
         // How many bytes the session wrote.
         let copied = |client: &mut Client| {
-            client.lent.bytes.fill(0xAA);
+            with_transit(|transit| transit.receiving().0.fill(0xAA));
             let sent = client.send(ours.as_fd());
-            let left = client
-                .lent
-                .bytes
-                .iter()
-                .rev()
-                .take_while(|&&byte| byte == 0xAA);
-            (client.lent.bytes.len() - left.count(), sent)
+            let count = with_transit(|transit| {
+                let bytes = transit.receiving().0;
+                let left = bytes.iter().rev().take_while(|&&byte| byte == 0xAA);
+                bytes.len() - left.count()
+            });
+            (count, sent)
         };
         assert_eq!(copied(&mut client), (FIRST_TRY, Err(Errno::AGAIN)));
         theirs.read_exact(&mut [0; 200_000]).unwrap();
         assert_eq!(copied(&mut client), (FIRST_TRY, Ok(Sent::Some)));
         let (count, _) = copied(&mut client);
-        assert_eq!(count, client.lent.bytes.len());
+        assert_eq!(count, sys::NB_MOST_BYTES);
     }
 }

@@ -7,9 +7,8 @@ use numbyroga_sys as sys;
 use rustix::io::Errno;
 use smallvec::SmallVec;
 
-use super::{take_back, RawArgument, RawObjectId, FIRST_TRY, MOST_DESCRIPTORS, NO_DESCRIPTOR};
+use super::{take_back, RawArgument, RawObjectId, MOST_DESCRIPTORS, NO_DESCRIPTOR};
 use crate::protocol::{Argument, INLINE_ARGS};
-use crate::socket::CONTROL_ROOM;
 
 /// The arguments of a message that came.
 pub(crate) type Arguments<Id> = SmallVec<[Argument<Id, OwnedFd>; INLINE_ARGS]>;
@@ -156,45 +155,43 @@ fn duplicate(descriptor: RawFd) -> Result<OwnedFd, Errno> {
     rustix::io::fcntl_dupfd_cloexec(borrowed, 3)
 }
 
-/// Memory that a session writes messages into, kept from one to the next.
+/// Memory that a session writes messages into, kept from one to the next. It grows as the session says.
 #[derive(Debug)]
 pub(super) struct Lent {
     pub(super) arguments: Vec<RawArgument>,
     pub(super) bytes: Vec<u8>,
     /// The descriptors of one send.
     pub(super) descriptors: [i32; MOST_DESCRIPTORS],
-    /// Where descriptors come in.
-    control: Box<[u8]>,
 }
 
 impl Lent {
+    /// As many bytes are kept. Few messages have more.
+    const MOST_KEPT: usize = 512;
+
     pub(super) fn new() -> Lent {
         Lent {
-            arguments: vec![RawArgument::default(); 32],
-            bytes: vec![0; sys::NB_MOST_BYTES],
+            arguments: Vec::new(),
+            bytes: Vec::new(),
             descriptors: [NO_DESCRIPTOR; MOST_DESCRIPTORS],
-            control: vec![0; CONTROL_ROOM].into(),
         }
     }
 
-    /// Room for one receive, as much as a session reads at once; and for its control data.
-    pub(super) fn receiving(&mut self) -> (&mut [u8], &mut [u8]) {
-        (&mut self.bytes[..sys::NB_MOST_BYTES], &mut self.control)
-    }
-
-    /// Room for one send: little, if the socket took nothing the last time. And room for its descriptors.
-    pub(super) fn sending(&mut self, is_full: bool) -> (&mut [u8], &mut [i32]) {
-        let most = if is_full { FIRST_TRY } else { usize::MAX };
-        let room = self.bytes.len().min(most);
-        (&mut self.bytes[..room], &mut self.descriptors)
-    }
-
     /// Makes room for as much as the session says it needs.
+    #[cold]
     pub(super) fn grow(&mut self, arguments: u32, bytes: u32) {
-        let (arguments, bytes) = (arguments as usize, bytes as usize);
-        self.arguments
-            .resize(self.arguments.len().max(arguments), RawArgument::default());
-        self.bytes.resize(self.bytes.len().max(bytes), 0);
+        let arguments = self.arguments.len().max(arguments as usize);
+        self.arguments.resize(arguments, RawArgument::default());
+        if bytes as usize > self.bytes.len() {
+            self.bytes.resize(bytes.next_power_of_two() as usize, 0);
+        }
+    }
+
+    /// Gives back what a long message has needed.
+    #[inline]
+    pub(super) fn shrink(&mut self) {
+        if self.bytes.len() > Lent::MOST_KEPT {
+            self.bytes = Vec::new();
+        }
     }
 
     /// Two texts that were written here, behind each other.

@@ -32,13 +32,14 @@ mod ready;
 mod receiving;
 mod rows;
 mod server;
+mod transit;
 
 pub(crate) use client::{Client, SessionError};
 pub(crate) use messages::{Arguments, Outgoing};
 pub(crate) use ready::Ready;
 pub(crate) use receiving::{Inbox, Receipt, Received};
 pub(crate) use rows::{Rows, TableFault};
-pub(crate) use server::{Note, Server};
+pub(crate) use server::{ClientError, Note, Server};
 
 /// How many descriptors wait in a session, and are in one send, at most.
 pub(crate) const MOST_DESCRIPTORS: usize = sys::NB_MOST_DESCRIPTORS;

@@ -10,6 +10,7 @@ use smallvec::SmallVec;
 use super::messages::Lent;
 use super::receiving::{Ending, Inbox};
 use super::rows::table_answer;
+use super::transit::Transit;
 use super::{
     answer, done, send_once, take_back, Action, Arguments, Outgoing, RawArgument, RawClientId,
     RawGlobalId, RawGlobalInfo, RawObjectId, RawObjectInfo, Receipt, Rows, Sent, Status,
@@ -83,6 +84,7 @@ enum Writable {
 pub(crate) struct Server {
     place: sys::nb_server,
     lent: Lent,
+    transit: Transit,
     /// The note that was taken last.
     note: sys::nb_note,
     /// How many descriptors the session has.
@@ -121,6 +123,7 @@ impl Server {
         Server {
             place,
             lent: Lent::new(),
+            transit: Transit::whole(),
             note: sys::nb_note::default(),
             descriptors: 0,
             may_have_notes: false,
@@ -194,6 +197,7 @@ impl Server {
     }
 
     /// Sets how far the buffers of clients that are inserted from now on may grow, in bytes.
+    #[cfg(any(test, feature = "libwayland_server_1_23"))]
     pub(crate) fn set_default_max_buffer_size(&mut self, size: u64) {
         done(sys::nb_server_set_default_max_buffer_size(
             &mut self.place,
@@ -269,11 +273,11 @@ impl Server {
     ) -> Receipt {
         let Server {
             place,
-            lent,
+            transit,
             descriptors,
             ..
         } = self;
-        let (receipt, ending) = inbox.receive(from, lent.receiving(), |bytes, numbers| {
+        let (receipt, ending) = inbox.receive(from, transit.receiving(), |bytes, numbers| {
             // SAFETY: each slice is lent with its own length.
             answer(unsafe {
                 sys::nb_server_received(
@@ -638,7 +642,8 @@ impl Server {
         is_full: &mut bool,
     ) -> Result<Sent, Errno> {
         let mut counts = sys::nb_counts::default();
-        let (bytes, numbers) = self.lent.sending(*is_full);
+        let bytes = self.transit.sending(*is_full);
+        let numbers = &mut self.lent.descriptors;
         // SAFETY: each slice is lent with its own length.
         let status = unsafe {
             sys::nb_server_to_send(
@@ -863,10 +868,10 @@ mod tests {
             }
         }
         assert!(is_full);
-        server.lent.bytes.fill(0xAA);
+        server.transit.receiving().0.fill(0xAA);
         let sent = server.send(&client, ours.as_fd(), &mut is_full);
         assert_eq!(sent, Err(Errno::AGAIN));
-        let bytes = &server.lent.bytes;
+        let bytes = server.transit.receiving().0;
         let left = bytes.iter().rev().take_while(|&&byte| byte == 0xAA);
         assert_eq!(bytes.len() - left.count(), FIRST_TRY);
     }

@@ -24,8 +24,8 @@ use super::{
 use crate::{
     debug,
     library::{
-        Action, Arguments, Inbox, Note, Outgoing, RawArgument, RawClientId, RawGlobalId,
-        RawObjectId, Receipt, Sent, Server, Status,
+        Action, Arguments, ClientError, Inbox, Note, Outgoing, RawArgument, RawClientId,
+        RawGlobalId, RawObjectId, Receipt, Sent, Server, Status,
     },
     protocol::{same_interface, Argument, Interface, Message, ProtocolError, ANONYMOUS_INTERFACE},
     socket,
@@ -272,6 +272,9 @@ impl Core {
                 Note::Inserted(_) => {}
                 Note::Killed { client, error } => {
                     let id = ClientId::of(&client);
+                    if let (true, Some(error)) = (self.is_logging, &error) {
+                        log_error(&client, error);
+                    }
                     let Some(connection) = self.connection(&id) else {
                         continue;
                     };
@@ -773,6 +776,20 @@ impl Core {
         let name = event.map_or("?", |event| event.name);
         debug::print_sent(Logged(sender_id), name, debug::List(args));
     }
+}
+
+/// Prints the event of the display that tells a client of its error.
+#[cold]
+fn log_error(client: &RawClientId, error: &ClientError) {
+    let ClientError {
+        code,
+        object,
+        interface,
+        message,
+    } = error;
+    let (slot, message) = (client.slot, Some(message));
+    let arguments = format_args!("{interface}@{object}[{slot}], {code}, {message:?}");
+    debug::print_sent("wl_display@1", "error", arguments);
 }
 
 /// An object in the log.

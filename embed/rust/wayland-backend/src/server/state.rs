@@ -12,7 +12,7 @@ use numbyroga_sys as sys;
 use smallvec::SmallVec;
 
 use super::{
-    core::{Connection, Core},
+    core::{Connection, Core, Ended},
     handle::raw_hidden,
     ClientData, ClientId, GlobalHandler, GlobalId, GlobalInfo, Handle, InvalidId, ObjectData,
     ObjectId,
@@ -67,7 +67,7 @@ pub(super) struct State<D: 'static> {
     ended: VecDeque<(Data<D>, ObjectId)>,
     /// The interface of the object that the last request or bind makes, if it makes one.
     created: &'static Interface,
-    /// The handler of a request or bind may have given data to the object that it makes, before it answered others.
+    /// The handler of the last request or bind has given data to the object that it makes, before it answered others.
     is_given: bool,
 }
 
@@ -205,7 +205,7 @@ impl<D> State<D> {
             return (Err(InvalidId), self.objects.remove(key));
         }
         self.core.names.keep(id.interface, info.interface, key);
-        self.is_given = true;
+        self.is_given |= *id == ObjectId::of(&self.core.action.created, self.created);
         (Ok(()), None)
     }
 
@@ -324,6 +324,7 @@ impl<D> State<D> {
         args: &mut Arguments<ObjectId>,
     ) -> Result<Called<D>, Status> {
         self.core.next_action(client, args)?;
+        self.is_given = false;
         let action = &self.core.action;
         if action.kind == sys::NB_BIND {
             return Ok(self.bind());
@@ -417,10 +418,13 @@ impl<D> State<D> {
         answer: Option<Data<D>>,
         unused: &mut Unused<D>,
     ) -> Option<Misuse> {
-        let created = &self.core.action.created;
+        let mut is_told = false;
         if mem::take(&mut self.is_given) {
-            let key = self.core.server.object_data(created);
-            unused.extend(key.and_then(|key| self.forget(key)));
+            match self.core.server.object_data(&self.core.action.created) {
+                Some(key) => unused.extend(self.forget(key)),
+                // It has ended already: the next clean-up tells the data that it had.
+                None => is_told = true,
+            }
         }
         let Some(object) = answer else {
             // A client that was killed needs no data for its new object.
@@ -428,22 +432,30 @@ impl<D> State<D> {
             let finished = self.core.server.finish_request(client, None, is_last);
             if finished.is_err() {
                 let id = ObjectId::of(&self.core.action.created, self.created);
-                self.give(client, Arc::new(NoData), unused);
+                self.give(client, Arc::new(NoData), is_told, unused);
                 return Some(Misuse::NoData(id));
             }
             return None;
         };
-        self.give(client, object, unused);
+        self.give(client, object, is_told, unused);
         None
     }
 
-    /// Finishes with the data of the object that was made.
-    fn give(&mut self, client: &RawClientId, object: Data<D>, unused: &mut Unused<D>) {
+    /// Finishes with the data of the object that was made. If that has ended already, the next clean-up tells the data so,
+    /// unless `is_told` says that it tells other data.
+    fn give(
+        &mut self,
+        client: &RawClientId,
+        object: Data<D>,
+        is_told: bool,
+        unused: &mut Unused<D>,
+    ) {
         let key = self.objects.insert(object);
         let Core {
             server,
             names,
             action,
+            ended,
             ..
         } = &mut self.core;
         let answer = match action.kind == sys::NB_BIND {
@@ -452,7 +464,11 @@ impl<D> State<D> {
         };
         match answer {
             Ok(true) => names.keep(self.created, action.created.interface, key),
-            _ => unused.extend(self.objects.remove(key)),
+            _ if is_told => unused.extend(self.objects.remove(key)),
+            _ => ended.push_back(Ended {
+                object: ObjectId::of(&action.created, self.created),
+                data: key,
+            }),
         }
     }
 

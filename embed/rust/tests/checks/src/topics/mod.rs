@@ -1,5 +1,6 @@
 mod callbacks;
 mod descriptors;
+mod ends;
 mod hostile;
 mod load;
 #[cfg(feature = "since_0_3_17")]
@@ -8,6 +9,7 @@ mod panics;
 mod queues;
 mod sizes;
 mod threads;
+mod wakeups;
 
 use crate::Checks;
 
@@ -18,10 +20,12 @@ pub const ALL: &[Topic] = &[
     ("callbacks", callbacks::run),
     ("panics", panics::run),
     ("descriptors", descriptors::run),
+    ("ends", ends::run),
     ("sizes", sizes::run),
     ("load", load::run),
     ("threads", threads::run),
     ("queues", queues::run),
+    ("wakeups", wakeups::run),
     ("hostile", hostile::run),
     #[cfg(feature = "since_0_3_17")]
     ("newer", newer::run),

@@ -7,6 +7,7 @@ mod found;
 mod globals;
 mod misuse;
 mod objects;
+mod printed;
 mod requests_by_hand;
 mod sizes;
 mod threads;
@@ -25,6 +26,7 @@ pub fn all() -> Vec<Case> {
         descriptors::CASES,
         sizes::CASES,
         threads::CASES,
+        printed::CASES,
     ]
     .concat()
 }
