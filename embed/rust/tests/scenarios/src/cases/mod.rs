@@ -3,6 +3,7 @@
 mod descriptors;
 mod ends;
 mod events_by_hand;
+mod found;
 mod globals;
 mod misuse;
 mod objects;
@@ -18,6 +19,7 @@ pub fn all() -> Vec<Case> {
         misuse::CASES,
         globals::CASES,
         ends::CASES,
+        found::CASES,
         requests_by_hand::CASES,
         events_by_hand::CASES,
         descriptors::CASES,
