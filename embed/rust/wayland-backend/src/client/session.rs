@@ -44,12 +44,20 @@ pub(super) struct Session {
     outgoing: Outgoing,
     /// What ended the connection on this side: the socket failed while it was written, or a descriptor of a request could
     /// not be duplicated, so that nothing behind it can be sent.
-    fault: Option<Errno>,
+    fault: Option<Fault>,
     /// Whether a call was answered that the session has an error. Nothing is received any more.
     has_failed: bool,
     pub(super) readers: Readers,
     /// What came and is to be printed, if messages are.
     unprinted: Option<Box<Unprinted>>,
+}
+
+/// What ended a connection on this side.
+#[derive(Debug)]
+enum Fault {
+    System(Errno),
+    /// An event had a null text where its interface allows none. The library lets it pass.
+    NullText,
 }
 
 /// Why a call failed.
@@ -259,8 +267,10 @@ impl Session {
 
     /// The session's error.
     pub(super) fn error(&mut self) -> Option<WaylandError> {
-        if let Some(fault) = self.fault {
-            return Some(io::Error::from(fault).into());
+        match self.fault {
+            Some(Fault::System(number)) => return Some(io::Error::from(number).into()),
+            Some(Fault::NullText) => return Some(malformed().into()),
+            None => {}
         }
         Some(match self.library.last_error()? {
             SessionError::Io { status, number } => io_error(status, number).into(),
@@ -291,7 +301,7 @@ impl Session {
     /// The socket failed while it was written.
     pub(super) fn send_failed(&mut self, error: Errno) {
         self.library.send_failed(error);
-        self.fault.get_or_insert(error);
+        self.fault.get_or_insert(Fault::System(error));
     }
 
     /// Hands what waits over to be sent. Statuses: `FAILED`, `WOULD_BLOCK`.
@@ -445,7 +455,9 @@ impl Session {
         let sent = self.library.send_request(request, &mut self.outgoing);
         match sent {
             // An error that came before stays.
-            Ok(_) if fault.is_some() && self.error().is_none() => self.fault = fault,
+            Ok(_) if fault.is_some() && self.error().is_none() => {
+                self.fault = fault.map(Fault::System);
+            }
             Ok(_) => {}
             // Its descriptors are not sent.
             Err(_) => self.outgoing.clear(),
@@ -514,6 +526,13 @@ impl Session {
             sender_id: ObjectId::new(&event.sender, interface),
             opcode: event.opcode as u16,
         })
+    }
+
+    /// The event that was handed out is malformed, which ends the connection.
+    #[cold]
+    pub(super) fn refuse_event(&mut self) -> Status {
+        self.fault.get_or_insert(Fault::NullText);
+        Status::FAILED
     }
 
     /// Finishes the event that was handed out. An object that it made gets the data that the callback answered.
@@ -665,6 +684,16 @@ fn child_interface(table: &Table, data: &Slab<Kept>, event: &Event) -> &'static 
                 .child_interface
         })
         .unwrap_or_else(|| table.interface(event.created.interface))
+}
+
+/// The error that the library has for a message that is malformed.
+fn malformed() -> ProtocolError {
+    ProtocolError {
+        code: 0,
+        object_id: 0,
+        object_interface: String::new(),
+        message: "Malformed Wayland message.".into(),
+    }
 }
 
 /// The system's error for a fault of a session.

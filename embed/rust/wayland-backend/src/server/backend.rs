@@ -1,6 +1,7 @@
 //! The server itself: it reads, and calls the handlers.
 
 use std::{
+    ffi::CString,
     fmt, io,
     os::fd::{AsFd, BorrowedFd, OwnedFd},
     sync::{
@@ -18,7 +19,7 @@ use super::{
 use crate::{
     library::{Arguments, RawClientId, Ready, Received, Status},
     panics::Panics,
-    protocol::Message,
+    protocol::{has_forbidden_null, Message},
 };
 
 /// How many clients are told of at once that have sent something.
@@ -301,6 +302,20 @@ impl<D> Backend<D> {
         }
     }
 
+    /// Ends a client for a request that has a null text where its interface allows none. The library lets it pass.
+    #[cold]
+    fn refuse(&self, sender: ObjectId, opcode: u16) {
+        const INVALID_METHOD: u32 = 1;
+        let name = sender.interface().requests[usize::from(opcode)].name;
+        let number = sender.protocol_id();
+        let text = format!(
+            "invalid arguments for {}#{number}.{name}",
+            sender.interface().name
+        );
+        let text = CString::new(text).expect("names have no null byte");
+        self.handle.post_error(sender, INVALID_METHOD, text);
+    }
+
     /// Calls the handler for the next thing that the client asks, and answers what it answers. The state is not locked
     /// then. Where an object ends, and the program is told so, that is noted.
     #[inline]
@@ -322,6 +337,11 @@ impl<D> Backend<D> {
             Err(status) => return Err(NoRequest { state, status }),
         };
         let (sender_id, opcode) = state.core.sender();
+        if has_forbidden_null(sender_id.interface().requests, opcode, &args) {
+            drop(state);
+            self.refuse(sender_id, opcode);
+            return Ok(None);
+        }
         let ending = state.is_last().then(|| (object.clone(), sender_id.clone()));
         drop(state);
         let ends = self.ends.load(Ordering::Relaxed);

@@ -4,6 +4,7 @@ mod descriptors;
 mod ends;
 mod events_by_hand;
 mod found;
+mod generated;
 mod globals;
 mod misuse;
 mod objects;
@@ -21,6 +22,7 @@ pub fn all() -> Vec<Case> {
         globals::CASES,
         ends::CASES,
         found::CASES,
+        generated::CASES,
         requests_by_hand::CASES,
         events_by_hand::CASES,
         descriptors::CASES,
