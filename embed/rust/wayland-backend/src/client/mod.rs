@@ -287,9 +287,9 @@ impl Backend {
     /// While another thread reads, it waits until that one has ended: so what came before was handed out, and `poll` tells
     /// of all that comes then. A callback that prepares a reading does not wait for the one that has called it.
     ///
-    /// The answer is `None` if another thread has read events, or the end of the connection, since this thread read. What this
-    /// thread waits for may have come so, and `poll` does not tell of it. Call [`Backend::dispatch_inner_queue`] then, look
-    /// at what came, and prepare again. The queues of wayland-client do so.
+    /// The answer is `None` if another thread has read events, or the end of the connection, since this thread read, or before
+    /// it used the connection at all. What this thread waits for may have come so, and `poll` does not tell of it. Call
+    /// [`Backend::dispatch_inner_queue`] then, look at what came, and prepare again. The queues of wayland-client do so.
     #[inline]
     #[must_use]
     pub fn prepare_read(&self) -> Option<ReadEventsGuard> {
