@@ -1,6 +1,7 @@
 //! From a socket into a session.
 
 use std::collections::VecDeque;
+use std::mem;
 use std::os::fd::{AsRawFd, BorrowedFd, IntoRawFd, OwnedFd};
 
 use rustix::io::Errno;
@@ -13,9 +14,10 @@ use crate::socket;
 /// What has come over a connection.
 #[derive(Debug, Default)]
 pub(crate) struct Inbox {
-    /// Descriptors for which the session has no room until messages have taken some. There are none almost always:
-    /// descriptors come with the message that they belong to.
+    /// Descriptors for which the session has no room until it has read those that it has, and the bytes that they came with. There
+    /// are none almost always: what came is read before more is received.
     descriptors: VecDeque<OwnedFd>,
+    bytes: Vec<u8>,
     /// How many descriptors have come.
     came: usize,
     frames: Frames,
@@ -90,9 +92,10 @@ impl Inbox {
             ..Receipt::NOTHING
         };
         if !self.descriptors.is_empty() {
-            // The session has read all that it could. If it has room for none of these all the same, no message takes
-            // those that it has: then the other side has broken the protocol.
-            let is_stuck = self.give(arrive) == 0;
+            // The session has read all that it could. If it has no room for these all the same, no message takes those that it
+            // has: then the other side has broken the protocol.
+            let bytes = mem::take(&mut self.bytes);
+            let is_stuck = !self.hand_over(&bytes, arrive);
             return (some, is_stuck.then(|| self.fail(Errno::PROTO)));
         }
         let count = match socket::receive(from, buffer, control, &mut self.descriptors) {
@@ -108,7 +111,11 @@ impl Inbox {
             ..some
         };
         if !self.descriptors.is_empty() {
-            return (receipt, self.arrive_with_descriptors(bytes, arrive));
+            self.came += self.descriptors.len();
+            if !self.hand_over(bytes, arrive) {
+                self.bytes.extend_from_slice(bytes);
+            }
+            return (receipt, None);
         }
         // The error is that the client is gone.
         let is_taken = arrive(bytes, &[]).is_ok();
@@ -123,15 +130,14 @@ impl Inbox {
         (receipt, None)
     }
 
-    /// Hands over bytes, and the descriptors that have come with them. More may be there: the kernel ends a receive behind
-    /// descriptors.
+    /// Hands over bytes, and the descriptors that have come with them. Answers whether they are the session's now, or nobody's, since
+    /// the client is gone; else nothing was handed over. More may be there: the kernel ends a receive behind descriptors.
     #[cold]
-    fn arrive_with_descriptors(
+    fn hand_over(
         &mut self,
         bytes: &[u8],
         mut arrive: impl FnMut(&[u8], &[i32]) -> Result<(), Status>,
-    ) -> Option<Ending> {
-        self.came += self.descriptors.len();
+    ) -> bool {
         let mut numbers = SmallVec::<[i32; MOST_DESCRIPTORS]>::new();
         for descriptor in &self.descriptors {
             numbers.push(descriptor.as_raw_fd());
@@ -142,30 +148,10 @@ impl Inbox {
                     let _ = descriptor.into_raw_fd();
                 }
             }
-            Err(Status::TOO_MANY_DESCRIPTORS) => {
-                // The bytes first, and then one descriptor after the other.
-                if arrive(bytes, &[]).is_err() {
-                    return Some(self.fail(Errno::PROTO));
-                }
-                self.give(arrive);
-            }
-            // The client is gone.
+            Err(Status::TOO_MANY_DESCRIPTORS) => return false,
             Err(_) => self.descriptors.clear(),
         }
-        None
-    }
-
-    /// Hands over as many descriptors as there is room for, and answers how many these were.
-    fn give(&mut self, mut arrive: impl FnMut(&[u8], &[i32]) -> Result<(), Status>) -> usize {
-        let before = self.descriptors.len();
-        while let Some(first) = self.descriptors.pop_front() {
-            if arrive(&[], &[first.as_raw_fd()]).is_err() {
-                self.descriptors.push_front(first);
-                break;
-            }
-            let _ = first.into_raw_fd();
-        }
-        before - self.descriptors.len()
+        true
     }
 
     #[cold]
@@ -223,5 +209,35 @@ mod tests {
         assert_eq!(came, (2, usize::MAX));
         let many = MESSAGE.repeat(8);
         assert_eq!(receive(Received::Some, &many, &[]), (8, usize::MAX));
+    }
+
+    #[test]
+    fn descriptors_for_which_there_is_no_room_wait_with_their_bytes() {
+        let (ours, theirs) = UnixStream::pair().unwrap();
+        let descriptor = File::open("/dev/null").unwrap();
+        let mut inbox = Inbox::default();
+        let mut receive = |answer| {
+            let (buffer, control) = (&mut [0; 64][..], &mut [0; CONTROL_ROOM][..]);
+            let mut came = None;
+            let (receipt, ending) =
+                inbox.receive(ours.as_fd(), (buffer, control), |bytes, descriptors| {
+                    came = Some((bytes.to_vec(), descriptors.len()));
+                    answer
+                });
+            (receipt.received, ending.is_some(), came)
+        };
+        let both = Some((b"some".to_vec(), 2));
+        let full = Err(Status::TOO_MANY_DESCRIPTORS);
+        let two = [descriptor.as_fd(), descriptor.as_fd()];
+        socket::send_with(theirs.as_fd(), b"some", &two).unwrap();
+        socket::send_with(theirs.as_fd(), b"more", &[]).unwrap();
+        assert_eq!(receive(full), (Received::Some, false, both.clone()));
+        assert_eq!(receive(Ok(())), (Received::Some, false, both.clone()));
+        let rest = Some((b"more".to_vec(), 0));
+        assert_eq!(receive(Ok(())), (Received::All, false, rest));
+        // Where there is no room after a reading either, none will come.
+        socket::send_with(theirs.as_fd(), b"some", &two).unwrap();
+        assert_eq!(receive(full), (Received::Some, false, both.clone()));
+        assert_eq!(receive(full), (Received::Some, true, both));
     }
 }
