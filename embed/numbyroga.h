@@ -59,10 +59,10 @@
  *     nb_client_receive_failed, take and finish events until NB_FAILED, and empty nb_client_next_dropped.
  *   - Actions and events that you do not care for may have descriptors, too. Close them.
  *
- * Bounds. The session bounds how many bytes wait for a client (nb_server_set_default_max_buffer_size). It bounds neither
- * how many objects a client makes, nor how many descriptors it sends that no request takes. So a host that serves
- * strangers counts both, and ends a client that has too many: nb_server_objects, and the descriptors that came less
- * those that actions had. first/server.c does so.
+ * Bounds. The session bounds how many bytes wait for a client (nb_server_set_default_max_buffer_size). It bounds
+ * neither how many objects a client makes, nor how many descriptors it sends that no request takes. So a host that
+ * serves strangers counts both, and ends a client that has too many: nb_server_objects, and the descriptors that came
+ * less those that actions had. first/server.c does so.
  *
  * What a C program must not do:
  *
