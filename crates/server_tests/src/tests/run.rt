@@ -366,12 +366,15 @@ fn clients(server: &Server, log: &mut String) -> Result<(), Fail> {
 /// Tells the serials of the client's objects, one digit for each, counted from 1.
 fn objects(server: &Server, log: &mut String, who: Who) -> Result<(), Fail> {
     let mut serials: u64 = 0;
-    let answer = server.with_all_objects_for(&who.id(), &mut |id| {
-        serials = serials
-            .wrapping_mul(10)
-            .wrapping_add(id.serial())
-            .wrapping_add(1)
-    });
+    let answer = server.with_all_objects_for(
+        &who.id(),
+        &mut |id| {
+            serials = serials
+                .wrapping_mul(10)
+                .wrapping_add(id.serial())
+                .wrapping_add(1)
+        },
+    );
     match answer {
         Ok(()) => writeln!(log, "objects: {serials}")?,
         Err(error) => writeln!(log, "{error}, objects: {serials}")?,
