@@ -13,6 +13,7 @@ use Rattle.std.proofs.lemmas.List.{get_or-append-add, get_or-map, length-map, ta
 use Rattle.std.proofs.lemmas.List.Folds.{list_any-append, list_any_none, list_any_more}
 use Rattle.std.proofs.lemmas.Option.{slice_get-get_or, slice_get_past}
 use Rattle.wl_wire.specs.declared.interface.Interface.{Interface}
+use Rattle.wl_wire.specs.declared.interface.MessageDesc.{MessageDesc}
 use Rattle.wl_wire.specs.declared.protocol.TableError.{TableError}
 use Rattle.wl_wire.specs.declared.protocol.TableError.TheVariants as fault
 use Rattle.wl_wire.specs.Inside.TableCheck.{is_repeated_behind, LacksFirst}
@@ -22,13 +23,13 @@ pub list_any-map : {X Y : Type 0} (p : Y → Bool) (f : X → Y) (xs : List X) �
 list_any-map p f [] = refl
 list_any-map p f (x ∷ xs) = ap (λ b. p (f x) || b) (list_any-map p f xs)
 
--- a test of an interface's messages, requests and events apart
-pub any_message : (p : MessageRow → Bool) (i : Interface)
-    → list_any p (messages (interface_row i)) ≡ (list_any (λ m. p (message_row m)) i.requests.items || list_any (λ m. p (message_row m)) i.events.items)
-any_message p i =
-    list_any-append p (map message_row i.requests.items) (map message_row i.events.items)
-    ∙ ap (λ b. b || list_any p (map message_row i.events.items)) (list_any-map p message_row i.requests.items)
-    ∙ ap (λ b. list_any (λ m. p (message_row m)) i.requests.items || b) (list_any-map p message_row i.events.items)
+-- a test of messages, requests and events apart
+pub any_message : (p : MessageRow → Bool) (requests events : List MessageDesc)
+    → list_any p (map message_row requests ++ map message_row events) ≡ (list_any (λ m. p (message_row m)) requests || list_any (λ m. p (message_row m)) events)
+any_message p requests events =
+    list_any-append p (map message_row requests) (map message_row events)
+    ∙ ap (λ b. b || list_any p (map message_row events)) (list_any-map p message_row requests)
+    ∙ ap (λ b. list_any (λ m. p (message_row m)) requests || b) (list_any-map p message_row events)
 
 -- ---- a list of interfaces behind those of a table
 

@@ -102,6 +102,17 @@ module _ (old new : List InterfaceRow) (accepted : IsAcceptedTable old) where
 
 -- ---- what the answer says
 
+-- if two answers tell the same faults, they are one
+pub one_answer : (Is : TableError → Type 0) (r s : Result (Unit {0}) TableError) → r ≢ Err fault.OutOfMemory → s ≢ Err fault.OutOfMemory
+    → ((f : TableError) → f ≢ fault.OutOfMemory → (r ≡ Err f) ↔ Is f) → ((f : TableError) → f ≢ fault.OutOfMemory → (s ≡ Err f) ↔ Is f) → r ≡ s
+one_answer Is (Ok u) (Ok v) ample ample' one two = refl
+one_answer Is (Ok u) (Err e) ample ample' one two =
+    let real : e ≢ fault.OutOfMemory = λ is. ample' (ap Err is) in
+    (one e real).1 ((two e real).0 refl)
+one_answer Is (Err e) s ample ample' one two =
+    let real : e ≢ fault.OutOfMemory = λ is. ample (ap Err is) in
+    sym ((two e real).1 ((one e real).0 refl))
+
 module _ (old new : List InterfaceRow) where
   pub AnswersGrowth-first : (e : TableError) → IsFirstFaultFrom (length old) (old ++ new) e → AnswersGrowth old new (Err e)
   AnswersGrowth-first fault.OutOfMemory first = absurd (no_fault_of_memory (length old) (old ++ new) first.here)
@@ -115,13 +126,8 @@ module _ (old new : List InterfaceRow) where
 
   -- if memory is not refused, there is one answer
   pub AnswersGrowth-unique : (r s : Result (Unit {0}) TableError) → r ≢ Err fault.OutOfMemory → s ≢ Err fault.OutOfMemory → AnswersGrowth old new r → AnswersGrowth old new s → r ≡ s
-  AnswersGrowth-unique (Ok u) (Ok v) ample ample' one two = refl
-  AnswersGrowth-unique (Ok u) (Err e) ample ample' one two =
-      let real : e ≢ fault.OutOfMemory = λ is. ample' (ap Err is) in
-      (answer_refused (Ok u) one e real).1 ((answer_refused (Err e) two e real).0 refl)
-  AnswersGrowth-unique (Err e) s ample ample' one two =
-      let real : e ≢ fault.OutOfMemory = λ is. ample (ap Err is) in
-      sym ((answer_refused s two e real).1 ((answer_refused (Err e) one e real).0 refl))
+  AnswersGrowth-unique r s ample ample' one two =
+      one_answer (IsFirstFaultFrom (length old) (old ++ new)) r s ample ample' (answer_refused r one) (answer_refused s two)
 
 module _ (old new : List InterfaceRow) (accepted : IsAcceptedTable old) where
   pub answer_accepted : (r : Result (Unit {0}) TableError) → AnswersGrowth old new r → IsAcceptedTable (grown old new r)

@@ -4,7 +4,7 @@
 -- `wl_registry` and `wl_callback`. The caller's follow, in their order. The table is accepted if each name can go on the
 -- wire and is taken once, each interface that a message names is in the table, and each message says of its new object
 -- and of its objects what a session has to know.
-use Rattle.std.specs.Prelude.{◌≡◌, ℕ, ◌+◌, ◌<◌, ◌⊎◌, List, [], ◌∷◌, ◌++◌, length, take, map, Option, Some, None, Result, Ok, Err, Bool, true, false, ◌||◌, ◌&&◌, not, ◌==◌, nat_le, is_none, IsTrue, IsSomeAnd, slice_get, count_by, codes}
+use Rattle.std.specs.Prelude.{◌≡◌, ℕ, ◌+◌, ◌<◌, ◌⊎◌, List, [], ◌∷◌, ◌++◌, length, take, map, max, set, Option, Some, None, Result, Ok, Err, Bool, true, false, ◌||◌, ◌&&◌, not, ◌==◌, nat_le, nat_lt, is_none, IsTrue, IsSomeAnd, slice_get, count_by, codes}
 use Rattle.std.specs.List.{list_any}
 use Rattle.std.specs.Option.{option_map_or, option_to_list}
 use Rattle.std.specs.Str.{bytes_eq}
@@ -262,3 +262,84 @@ AnswersGrowth table rows (Err other) = IsFirstFaultFrom (length table) (table ++
 abbrev pub refused_growth : Result (Unit {0}) TableError → Bool
 refused_growth (Err fault.OutOfMemory) = true
 refused_growth _ = false
+
+-- ---- an interface of the table that grows
+
+-- What the interface at a place of the table is asked to take: more requests and events, and the version that has them.
+pub record Extension : Type 0 where
+  pub place : ℕ
+  pub version : ℕ
+  pub requests : List MessageRow
+  pub events : List MessageRow
+
+abbrev pub extension_of : InterfaceId → ℕ → List MessageDesc → List MessageDesc → Extension
+extension_of i version requests events = record {
+  place = i.0;
+  version = version;
+  requests = map message_row requests;
+  events = map message_row events;
+}
+
+-- The new messages follow those that are there, so that each of these keeps its opcode. The version does not fall.
+abbrev pub extended_row : Extension → InterfaceRow → InterfaceRow
+extended_row more row = record {
+  name = row.name;
+  version = max row.version more.version;
+  requests = row.requests ++ more.requests;
+  events = row.events ++ more.events;
+}
+
+-- the table with the longer row in the place of the shorter one
+abbrev pub extended_table : List InterfaceRow → Extension → List InterfaceRow
+extended_table table more =
+    option_map_or (λ row. set table more.place (extended_row more row)) (slice_get table more.place) table
+
+-- the requests and the events that are new
+abbrev pub new_messages : Extension → List MessageRow
+new_messages more = more.requests ++ more.events
+
+-- Only an interface of the program takes more messages: a fixed one is as unknown here as one that the table lacks.
+abbrev pub is_place_at_fault : List InterfaceRow → ℕ → TableError → Bool
+is_place_at_fault table n (fault.UnknownInterface _) = nat_lt n 4 || nat_le (length table) n
+is_place_at_fault table n _ = false
+
+-- there is no interface at that place to take the messages, or one of them has the fault
+abbrev pub is_extension_at_fault : List InterfaceRow → ℕ → List MessageRow → TableError → Bool
+is_extension_at_fault table n new fault =
+    is_place_at_fault table n fault || list_any (λ m. is_message_at_fault (length table) m fault) new
+
+-- they have the fault, and none of a lower rank; what is extended is one interface, so the place that is named is 0
+pub record IsFirstOfExtension (table : List InterfaceRow) (n : ℕ) (new : List MessageRow) (fault : TableError) : Type 0 where
+  pub one : place fault ≡ 0
+  pub here : IsTrue (is_extension_at_fault table n new fault)
+  pub first : (other : TableError) → rank other < rank fault → is_extension_at_fault table n new other ≡ false
+
+-- they have no fault
+abbrev pub LacksExtensionFaults : List InterfaceRow → ℕ → List MessageRow → Type 0
+LacksExtensionFaults table n new = (fault : TableError) → is_extension_at_fault table n new fault ≡ false
+
+-- the table once it was asked for that: with the longer row if it was taken, else as before
+abbrev pub after_extension : List InterfaceRow → Extension → Result (Unit {0}) TableError → List InterfaceRow
+after_extension table more (Ok _) = extended_table table more
+after_extension table more (Err _) = table
+
+-- What the table answers: the first fault of the extension. If it has none, it is taken, or memory was refused.
+abbrev pub AnswersExtension : List InterfaceRow → Extension → Result (Unit {0}) TableError → Type 0
+AnswersExtension table more (Ok _) = LacksExtensionFaults table more.place (new_messages more)
+AnswersExtension table more (Err fault.OutOfMemory) = LacksExtensionFaults table more.place (new_messages more)
+AnswersExtension table more (Err other) = IsFirstOfExtension table more.place (new_messages more) other
+
+-- ---- both ways to grow
+
+-- what a table is asked to take: more interfaces, or more messages of one that it has
+pub data Growth : Type 0 where
+  NewRows : List InterfaceRow → Growth
+  LongerRow : Extension → Growth
+
+abbrev pub table_after : List InterfaceRow → Growth → Result (Unit {0}) TableError → List InterfaceRow
+table_after table (NewRows rows) answer = grown table rows answer
+table_after table (LongerRow more) answer = after_extension table more answer
+
+abbrev pub AnswersTo : List InterfaceRow → Growth → Result (Unit {0}) TableError → Type 0
+AnswersTo table (NewRows rows) answer = AnswersGrowth table rows answer
+AnswersTo table (LongerRow more) answer = AnswersExtension table more answer

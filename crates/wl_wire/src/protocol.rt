@@ -1,9 +1,9 @@
 //! The table of the interfaces that a session knows.
 
-ghost use Rattle.std.specs.Prelude.{ℕ, None, Some, ◌≡◌, ◌≢◌, ◌<◌, ◌↔◌, ◌⊎◌, ◌++◌, [], IsTrue, IfOk, IfSome, OnErr, length, slice_get, option_map};
+ghost use Rattle.std.specs.Prelude.{ℕ, None, Some, ◌≡◌, ◌≢◌, ◌<◌, ◌≤◌, ◌↔◌, ◌⊎◌, ◌++◌, [], if◌then◌else◌, is_ok, IsTrue, IfOk, IfSome, OnErr, length, slice_get, option_map};
 ghost use Rattle.std.specs.Option.{option_copied};
 ghost use Rattle.wl_wire.specs.Argument.{Matches};
-ghost use Rattle.wl_wire.specs.Table.{anonymous_id, anonymous_row, callback_row, display_row, registry_row, AnswersGrowth, IsAcceptedTable, IsFirstFault, IsFirstFaultFrom, grown, interface_row, interface_rows, message_row, name_of, table_of};
+ghost use Rattle.wl_wire.specs.Table.{anonymous_id, anonymous_row, callback_row, display_row, registry_row, AnswersExtension, AnswersGrowth, IsAcceptedTable, IsFirstFault, IsFirstFaultFrom, IsFirstOfExtension, MessageRow, after_extension, extended_row, extended_table, extension_of, grown, interface_row, interface_rows, message_row, name_of, new_messages, table_of};
 ghost use Rattle.wl_wire.specs.MessageRows.{event_row, matches, request_row};
 ghost use Rattle.wl_wire.specs.declared.protocol.TableError.{TableError as Fault};
 ghost use Rattle.wl_wire.specs.declared.protocol.TableError.TheVariants.{OutOfMemory};
@@ -14,7 +14,7 @@ use crate::interface::{
     ANONYMOUS_INTERFACE, Interface, InterfaceId, MessageDesc, WL_CALLBACK_INTERFACE,
     WL_DISPLAY_INTERFACE, WL_REGISTRY_INTERFACE,
 };
-use crate::table_check::{check, check_behind};
+use crate::table_check::{check, check_behind, check_extension};
 use std::alloc::{AllocError, Global};
 use std::fmt;
 use std::marker::Model;
@@ -124,6 +124,45 @@ fn append(table: &mut Vec<Interface>, interfaces: Vec<Interface>) -> Result<(), 
     Ok(())
 }
 
+/// Appends the messages to those of the interface, all of them or none, and raises its version to that one if it is lower.
+fn extend_interface(
+    interface: &mut Interface,
+    version: u32,
+    requests: Vec<MessageDesc>,
+    events: Vec<MessageDesc>,
+) -> Result<(), TableError>
+    ensures row { (id : InterfaceId) → interface_row interface.new
+        ≡ (if is_ok result then extended_row (extension_of id version requests.items events.items) (interface_row interface.old) else interface_row interface.old) }
+    ensures memory { OnErr result (result ≡ Err OutOfMemory) }
+{
+    let [mut requests, mut events] = [requests, events];
+    // Once there is room for the requests, only the events can be refused.
+    interface.requests.reserve(requests.len())?;
+    interface.events.append(&mut events)?;
+    interface.requests.append(&mut requests)?;
+    interface.version = interface.version.max(version);
+    Ok(())
+}
+
+/// Appends the messages to those of an interface of the table, all of them or none.
+fn append_messages(
+    table: &mut Vec<Interface>,
+    id: InterfaceId,
+    version: u32,
+    requests: Vec<MessageDesc>,
+    events: Vec<MessageDesc>,
+) -> Result<(), TableError>
+    ensures table { interface_rows table.new.items
+        ≡ after_extension (interface_rows table.old.items) (extension_of id version requests.items events.items) result }
+    ensures answer { AnswersExtension (interface_rows table.old.items) (extension_of id version requests.items events.items) result }
+{
+    check_extension(table, id, &requests, &events)?;
+    match table.get_mut(id.0) {
+        Some(interface) => extend_interface(interface, version, requests, events),
+        None => Err(TableError::UnknownInterface(0)),
+    }
+}
+
 impl Protocol {
     /// The table of the fixed interfaces, with these after them. The first of these has the id 4.
     ///
@@ -171,6 +210,43 @@ impl Protocol {
         ensures memory { result ≡ Err OutOfMemory → IsAcceptedTable (self.old ++ interface_rows interfaces.items) }
     {
         append(&mut self.interfaces, interfaces)
+    }
+
+    /// Appends more requests and events to those of an interface that the table has, all of them or none, and raises its
+    /// version to `version` if it is lower. What is there keeps its opcodes: the first new request has the opcode after the
+    /// last one that was there. The other interfaces stay as they are.
+    ///
+    /// A message may name each interface of the table. The error is the first fault that one of the messages has, in the
+    /// order of `TableError`'s variants, and its place is 0. `UnknownInterface` also tells that no interface of the program
+    /// has that id: it is outside the table, or that of a fixed one. `OutOfMemory` comes only if there is no fault. After an
+    /// error the table is as it was.
+    pub fn extend_row(
+        &mut self,
+        id: InterfaceId,
+        version: u32,
+        requests: Vec<MessageDesc>,
+        events: Vec<MessageDesc>,
+    ) -> Result<(), TableError>
+        ensures table { self.new ≡ after_extension self.old (extension_of id version requests.items events.items) result }
+        ensures answer { AnswersExtension self.old (extension_of id version requests.items events.items) result }
+        ensures accepted { IsAcceptedTable self.new }
+        ensures was_accepted { IsAcceptedTable self.old }
+
+        ensures count { length self.new ≡ length self.old }
+        ensures names { (n : ℕ) → name_of self.new n ≡ name_of self.old n }
+        ensures requests { (i : InterfaceId) (opcode : ℕ) (row : MessageRow) →
+            request_row self.old i opcode ≡ Some row → request_row self.new i opcode ≡ Some row }
+        ensures events { (i : InterfaceId) (opcode : ℕ) (row : MessageRow) →
+            event_row self.old i opcode ≡ Some row → event_row self.new i opcode ≡ Some row }
+
+        ensures refused { (fault : Fault) → fault ≢ OutOfMemory → (result ≡ Err fault)
+            ↔ IsFirstOfExtension self.old id.0 (new_messages (extension_of id version requests.items events.items)) fault }
+        ensures exact { OnErr result (¬ (result ≡ Err OutOfMemory) → 4 ≤ id.0 → id.0 < length self.old
+            → ¬ (IsAcceptedTable (extended_table self.old (extension_of id version requests.items events.items)))) }
+        ensures memory { result ≡ Err OutOfMemory
+            → IsAcceptedTable (extended_table self.old (extension_of id version requests.items events.items)) }
+    {
+        append_messages(&mut self.interfaces, id, version, requests, events)
     }
 
     /// The interface with that id; `None` if the id is outside the table.

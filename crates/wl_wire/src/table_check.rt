@@ -1,11 +1,12 @@
 //! The search for a reason to refuse a list of interfaces as a table.
 
-ghost use Rattle.std.specs.Prelude.{◌≡◌, ◌++◌, ℕ, ◌+◌, ◌<◌, ◌≤◌, false, true, length, nat_le, IsTrue, OnOk, IfErr};
+ghost use Rattle.std.specs.Prelude.{◌≡◌, ◌++◌, ◌∷◌, [], map, ℕ, ◌+◌, ◌<◌, ◌≤◌, false, true, length, nat_le, IsTrue, OnOk, IfErr};
 ghost use Rattle.std.specs.List.{list_any};
 ghost use Rattle.std.specs.Str.{bytes_eq};
 ghost use Rattle.std.specs.String.{string_bytes};
-ghost use Rattle.wl_wire.specs.Inside.TableCheck.{LacksFirst, is_repeated_behind};
-ghost use Rattle.wl_wire.specs.Table.{IsAcceptedTable, IsFirstFaultFrom, LacksFaults, fixed_rows, is_taken, place, rank, table_of, holds_zero, interfaces_of, interface_row, interface_rows, is_at_fault, is_message_at_fault, is_name_at_fault, message_row, messages, new_ids, objects};
+ghost use Rattle.wl_wire.specs.declared.protocol.TableError.TheVariants.{ZeroInName, DuplicateName, UnknownInterface, TooManyNewIds, MissingChild, ArgInterfaces};
+ghost use Rattle.wl_wire.specs.Inside.TableCheck.{LackFirst, LacksFirst, is_repeated_behind};
+ghost use Rattle.wl_wire.specs.Table.{IsAcceptedTable, IsFirstFaultFrom, IsFirstOfExtension, LacksExtensionFaults, LacksFaults, is_extension_at_fault, is_place_at_fault, fixed_rows, is_taken, place, rank, table_of, holds_zero, interfaces_of, interface_row, interface_rows, is_at_fault, is_message_at_fault, is_name_at_fault, message_row, messages, new_ids, objects};
 
 use crate::argument::ArgumentType;
 use crate::interface::{Interface, InterfaceId, MessageDesc};
@@ -73,7 +74,7 @@ fn is_message_at_fault(message: &MessageDesc, fault: TableError, count: usize) -
     }
 }
 
-/// Whether one of the messages has the fault.
+/// Whether one of the messages of a list has the fault.
 fn any_at_fault(messages: &[MessageDesc], fault: TableError, count: usize) -> bool
     ensures { result ≡ list_any (λ m. is_message_at_fault count (message_row m) fault) messages.now }
 {
@@ -82,12 +83,17 @@ fn any_at_fault(messages: &[MessageDesc], fault: TableError, count: usize) -> bo
         .any(|message| is_message_at_fault(message, fault, count))
 }
 
-/// Whether one of the interface's messages has the fault.
+/// Whether one of the requests or of the events has the fault.
 #[tactic(auto, using(crate::proofs::Faults::any_message))]
-fn any_message_at_fault(interface: &Interface, fault: TableError, count: usize) -> bool
-    ensures { result ≡ list_any (λ m. is_message_at_fault count m fault) (messages (interface_row interface.now)) }
+fn any_message_at_fault(
+    requests: &[MessageDesc],
+    events: &[MessageDesc],
+    fault: TableError,
+    count: usize,
+) -> bool
+    ensures { result ≡ list_any (λ m. is_message_at_fault count m fault) (map message_row requests.now ++ map message_row events.now) }
 {
-    any_at_fault(&interface.requests, fault, count) || any_at_fault(&interface.events, fault, count)
+    any_at_fault(requests, fault, count) || any_at_fault(events, fault, count)
 }
 
 /// Whether an interface's name has the fault. `is_taken` says whether an earlier interface has the same name.
@@ -106,7 +112,21 @@ fn is_at_fault(interface: &Interface, fault: TableError, is_taken: bool, count: 
     ensures { result ≡ is_at_fault is_taken count (interface_row interface.now) fault }
 {
     is_name_at_fault(&interface.name, fault, is_taken)
-        || any_message_at_fault(interface, fault, count)
+        || any_message_at_fault(&interface.requests, &interface.events, fault, count)
+}
+
+/// Each fault of an interface that is at the place `at` of the caller's list, in the order in which they are looked for.
+fn faults_at(at: usize) -> [TableError; 6]
+    ensures { result ≡ (ZeroInName at ∷ DuplicateName at ∷ UnknownInterface at ∷ TooManyNewIds at ∷ MissingChild at ∷ ArgInterfaces at ∷ []) }
+{
+    [
+        TableError::ZeroInName(at),
+        TableError::DuplicateName(at),
+        TableError::UnknownInterface(at),
+        TableError::TooManyNewIds(at),
+        TableError::MissingChild(at),
+        TableError::ArgInterfaces(at),
+    ]
 }
 
 /// Looks for the first fault of the interface, which is at the place `at` of the caller's list, in the order of
@@ -122,15 +142,7 @@ fn check_interface(
     ensures place { IfErr result (λ fault. place fault ≡ at) }
     ensures first { IfErr result (λ fault. LacksFirst (rank fault) is_taken count (interface_row interface.now)) }
 {
-    let faults = [
-        TableError::ZeroInName(at),
-        TableError::DuplicateName(at),
-        TableError::UnknownInterface(at),
-        TableError::TooManyNewIds(at),
-        TableError::MissingChild(at),
-        TableError::ArgInterfaces(at),
-    ];
-    for fault in faults {
+    for fault in faults_at(at) {
         if is_at_fault(interface, fault, is_taken, count) {
             return Err(fault);
         }
@@ -240,4 +252,46 @@ pub(crate) fn check_behind(
     ensures first { IfErr result (IsFirstFaultFrom (length (interface_rows table.now)) (interface_rows table.now ++ interface_rows interfaces.now)) }
 {
     check(alloc, &table[4..], interfaces)
+}
+
+/// Whether the fault is that no interface of the program has that id.
+fn is_place_at_fault(table: &[Interface], id: InterfaceId, fault: TableError) -> bool
+    ensures { result ≡ is_place_at_fault (interface_rows table.now) id.0 fault }
+{
+    match fault {
+        TableError::UnknownInterface(_) => id.0 < 4 || table.len() <= id.0,
+        _ => false,
+    }
+}
+
+/// Whether these messages have the fault as more messages of the interface `id` of the table.
+fn is_extension_at_fault(
+    table: &[Interface],
+    id: InterfaceId,
+    requests: &[MessageDesc],
+    events: &[MessageDesc],
+    fault: TableError,
+) -> bool
+    ensures { result ≡ is_extension_at_fault (interface_rows table.now) id.0 (map message_row requests.now ++ map message_row events.now) fault }
+{
+    is_place_at_fault(table, id, fault)
+        || any_message_at_fault(requests, events, fault, table.len())
+}
+
+/// Looks for the first fault of more messages for the interface `id` of the table, in the order of `TableError`'s variants.
+pub(crate) fn check_extension(
+    table: &[Interface],
+    id: InterfaceId,
+    requests: &[MessageDesc],
+    events: &[MessageDesc],
+) -> Result<(), TableError>
+    ensures faultless { OnOk result (LacksExtensionFaults (interface_rows table.now) id.0 (map message_row requests.now ++ map message_row events.now)) }
+    ensures first { IfErr result (IsFirstOfExtension (interface_rows table.now) id.0 (map message_row requests.now ++ map message_row events.now)) }
+{
+    for fault in faults_at(0) {
+        if is_extension_at_fault(table, id, requests, events, fault) {
+            return Err(fault);
+        }
+    }
+    Ok(())
 }
