@@ -10,7 +10,7 @@ use Rattle.wl_wire.specs.declared.argument.ArgumentType.TheVariants.{Int, Str, O
 use Rattle.wl_wire.specs.declared.interface.InterfaceId.{InterfaceId}
 use Rattle.wl_wire.specs.declared.protocol.TableError.{TableError}
 use Rattle.wl_wire.specs.declared.protocol.TableError.TheVariants as fault
-use Rattle.wl_wire.specs.Table.{InterfaceRow, first_message, fixed_rows, HasFault, HasFaultFrom, IsAcceptedTable}
+use Rattle.wl_wire.specs.Table.{Extension, InterfaceRow, MessageRow, first_message, fixed_rows, extended_table, is_extension_at_fault, HasFault, HasFaultFrom, IsAcceptedTable, LacksExtensionFaults}
 
 -- an interface with messages of each kind
 abbrev quad_row : InterfaceRow
@@ -85,3 +85,38 @@ second_quad = refl
 
 outside_of_both : HasFaultFrom 5 (alone quad_row ++ asking (NewId ∷ []) (Some (record { 0 = 6 })) ∷ []) (fault.UnknownInterface 0)
 outside_of_both = refl
+
+-- `quad` takes more messages, of which the first request has the opcode 5, and the first event the opcode 3
+abbrev tip : MessageRow
+tip = record (first_message (codes "tip") (Int ∷ []) None []) { since = 4 }
+
+abbrev more_of_quad : ℕ → Extension
+more_of_quad version = record { place = 4; version = version; requests = tip ∷ []; events = tip ∷ tip ∷ [] }
+
+longer_quad : extended_table (alone quad_row) (more_of_quad 4)
+    ≡ alone (record quad_row { version = 4; requests = quad_row.requests ++ tip ∷ []; events = quad_row.events ++ tip ∷ tip ∷ [] })
+longer_quad = refl
+
+-- its version does not fall
+version_stays : extended_table (alone quad_row) (more_of_quad 2)
+    ≡ alone (record quad_row { requests = quad_row.requests ++ tip ∷ []; events = quad_row.events ++ tip ∷ tip ∷ [] })
+version_stays = refl
+
+no_fault_of_tips : LacksExtensionFaults (alone quad_row) 4 (tip ∷ tip ∷ tip ∷ [])
+no_fault_of_tips fault.OutOfMemory = refl
+no_fault_of_tips _ = refl
+
+-- a fixed interface takes no messages, and neither does one past the last
+fixed_stays : is_extension_at_fault (alone quad_row) 3 [] (fault.UnknownInterface 0) ≡ true
+fixed_stays = refl
+
+past_the_last : is_extension_at_fault (alone quad_row) 5 [] (fault.UnknownInterface 0) ≡ true
+past_the_last = refl
+
+-- a new message may make an object of the interface that it is of, but none of one past the last
+own_child : LacksExtensionFaults (alone quad_row) 4 (first_message (codes "r") (NewId ∷ []) (Some (record { 0 = 4 })) [] ∷ [])
+own_child fault.OutOfMemory = refl
+own_child _ = refl
+
+child_past_the_last : is_extension_at_fault (alone quad_row) 4 (first_message (codes "r") (NewId ∷ []) (Some (record { 0 = 5 })) [] ∷ []) (fault.UnknownInterface 0) ≡ true
+child_past_the_last = refl

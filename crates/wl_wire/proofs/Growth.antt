@@ -64,7 +64,7 @@ module _ (old new : List InterfaceRow) (n : ℕ) (lt : n < length old) where
 
 -- ---- a fault whose place is counted from another row
 
-counted_from : (begin k n : ℕ) (table : List InterfaceRow) (e : TableError) → n ≡ begin + k → At table n e → HasFaultFrom begin table (fault_of k (rank e))
+pub counted_from : (begin k n : ℕ) (table : List InterfaceRow) (e : TableError) → n ≡ begin + k → At table n e → HasFaultFrom begin table (fault_of k (rank e))
 counted_from begin k n table fault.OutOfMemory same has = absurd (no_fault_of_memory_at table n has)
 counted_from begin k n table (fault.ZeroInName i) same has = subst (λ at. At table at (fault.ZeroInName k)) same has
 counted_from begin k n table (fault.DuplicateName i) same has = subst (λ at. At table at (fault.DuplicateName k)) same has
