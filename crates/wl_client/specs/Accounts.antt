@@ -1,7 +1,7 @@
 -- What holds of a client over its history: ids, names, notes and errors, of one and the same list of changes.
 use Rattle.std.specs.Prelude.{◌≡◌, false, List, [], ◌∷◌, ◌++◌, IsSome, Result, Ok, Err, MatchOption, length}
 use Rattle.wl_wire.specs.declared.protocol.TableError.{TableError}
-use Rattle.wl_wire.specs.Table.{InterfaceRow, refused_growth}
+use Rattle.wl_wire.specs.Table.{Growth, InterfaceRow, refused_growth}
 use Rattle.wl_link.specs.Identity.{Change}
 use Rattle.wl_link.specs.Named.{StaysNamed}
 use Rattle.wl_link.specs.Runs.{IsWhereItStops}
@@ -60,8 +60,8 @@ module _ {T U : Type 0} (makes : Making T U) where
     pub change : Does makes before (Changed t) after
     pub accounted : StaysAccountedFor before (Changed t) after
 
-  -- And for interfaces that were to be added to the table. The answer tells whether memory was refused.
-  pub record IsGrowth (before : ClientState T U) (rows : List InterfaceRow) (answer : Result (Unit {0}) TableError) (after : ClientState T U) : Type 0 where
+  -- And for a table that was to grow. The answer tells whether memory was refused.
+  pub record IsGrowth (before : ClientState T U) (rows : Growth) (answer : Result (Unit {0}) TableError) (after : ClientState T U) : Type 0 where
     pub growth : Does makes before.session (Grown rows answer) after.session
     pub refused : after.refused ≡ refused_growth answer
     pub accounted : StaysAccountedFor before.session (Grown rows answer) after.session

@@ -1,24 +1,24 @@
 -- The history of a session over any transport: its calls one after another, what the program makes of the transport between
--- them, and the interfaces that it adds to the table.
+-- them, and what it adds to the table.
 use Rattle.std.specs.Prelude.{◌≡◌, List, [], ◌∷◌, Result, map}
 use Rattle.wl_wire.specs.declared.protocol.TableError.{TableError}
-use Rattle.wl_wire.specs.Table.{InterfaceRow}
+use Rattle.wl_wire.specs.Table.{Growth}
 use Rattle.wl_client.specs.Session.{SessionState, over_transport}
 use Rattle.wl_client.specs.Steps.{Entry, InterfacesAdded, IsOfScript, Making}
 
--- A deed is a call, as an entry of a run; a change of the transport, which becomes this one; or interfaces that were to be
--- added to the table, with the answer.
+-- A deed is a call, as an entry of a run; a change of the transport, which becomes this one; or what the table was asked to
+-- take, with the answer.
 pub data Deed (T U : Type 0) : Type 0 where
   Called : Entry U → Deed T U
   Changed : T → Deed T U
-  Grown : List InterfaceRow → Result (Unit {0}) TableError → Deed T U
+  Grown : Growth → Result (Unit {0}) TableError → Deed T U
 
 -- the entries of a run as deeds
 abbrev pub called : {T U : Type 0} → List (Entry U) → List (Deed T U)
 called run = map Called run
 
 module _ {T U : Type 0} (makes : Making T U) where
-  -- what a deed does: a call is a step, a change leaves all but the transport as it was, and interfaces leave all but the table
+  -- what a deed does: a call is a step, a change leaves all but the transport as it was, and a growth leaves all but the table
   abbrev pub Does : SessionState T U → Deed T U → SessionState T U → Type 0
   Does before (Called e) after = makes before e.step e.answer e.refused after
   Does before (Changed t) after = after ≡ over_transport before t

@@ -8,7 +8,7 @@ use Rattle.std.specs.Prelude.{◌≡◌, ℕ, ◌<◌, List, [], ◌∷◌, ◌+
 use Rattle.wl_wire.specs.declared.error.IoFault.{IoFault}
 use Rattle.wl_wire.specs.declared.error.OutOfMemory.{OutOfMemory}
 use Rattle.wl_wire.specs.declared.protocol.TableError.{TableError}
-use Rattle.wl_wire.specs.Table.{AnswersGrowth, InterfaceRow, grown}
+use Rattle.wl_wire.specs.Table.{AnswersTo, Growth, table_after}
 use Rattle.wl_link.specs.declared.memory.ArriveError.{ArriveError}
 use Rattle.wl_link.specs.declared.memory.ArriveError.TheVariants as arrive
 use Rattle.wl_link.specs.Exchange.{Queue}
@@ -81,9 +81,9 @@ module _ {U : Type 0} where
   ArrivesWith before chunk (Err arrive.OutOfMemory) after = ¬ (28 < length chunk.tokens) × (after ≡ before)
 
 module _ {T U : Type 0} where
-  -- the table takes these rows, or not, as it answers; all else is as it was
-  abbrev pub InterfacesAdded : SessionState T U → List InterfaceRow → Result (Unit {0}) TableError → SessionState T U → Type 0
-  InterfacesAdded before rows answer after = AnswersGrowth before.table rows answer × (after ≡ record before { table = grown before.table rows answer })
+  -- the table grows by that, or not, as it answers; all else is as it was
+  abbrev pub InterfacesAdded : SessionState T U → Growth → Result (Unit {0}) TableError → SessionState T U → Type 0
+  InterfacesAdded before growth answer after = AnswersTo before.table growth answer × (after ≡ record before { table = table_after before.table growth answer })
 
 -- what a step does: the session before it, the step, its reply, whether memory was refused, and the session after it
 abbrev pub Making : Type 0 → Type 0 → Type 1

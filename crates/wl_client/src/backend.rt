@@ -3,11 +3,11 @@
 
 ghost use Rattle.std.specs.Prelude.{◌≡◌, ◌∷◌, [], false, length, Ok, IfOk, option_copied};
 ghost use Rattle.std.specs.Borrow.{sem};
-ghost use Rattle.wl_wire.specs.Table.{AnswersGrowth, IsAcceptedTable, display_id, grown, interface_rows, refused_growth};
+ghost use Rattle.wl_wire.specs.Table.{AnswersExtension, AnswersGrowth, IsAcceptedTable, LongerRow, NewRows, after_extension, display_id, extension_of, grown, interface_rows, refused_growth};
 ghost use Rattle.wl_link.specs.Link.{LinkState, LimitSet};
 ghost use Rattle.wl_link.specs.Store.{empty_store, stored};
 ghost use Rattle.wl_client.specs.Accounts.{CallsLocally, IsGrowth};
-ghost use Rattle.wl_client.specs.Plain.Calls.{AddsInterfaces, SetsLimit, TakesNotes};
+ghost use Rattle.wl_client.specs.Plain.Calls.{AddsInterfaces, ExtendsInterface, SetsLimit, TakesNotes};
 ghost use Rattle.wl_client.specs.Session.{IsConnected, display_object};
 ghost use Rattle.wl_client.specs.Steps.{CallOf};
 ghost use Rattle.wl_client.specs.declared.step.Reply.TheVariants as reply;
@@ -21,7 +21,10 @@ use std::alloc::Global;
 use std::marker::Model;
 use std::{fmt, mem};
 use wl_link::{BufferedSocket, MessagePlace, ObjectMap, Transport};
-use wl_wire::{DISPLAY, Interface, OutOfMemory, Protocol, TableError, WL_DISPLAY_INTERFACE};
+use wl_wire::{
+    DISPLAY, Interface, InterfaceId, MessageDesc, OutOfMemory, Protocol, TableError,
+    WL_DISPLAY_INTERFACE,
+};
 
 /// A client's session with its server.
 ///
@@ -93,7 +96,7 @@ fn first_objects<U: Drop>(alloc: Global) -> Result<ObjectMap<Kept<U>>, OutOfMemo
     }
 }
 
-/// Whether new interfaces were refused for want of memory.
+/// Whether the table refused to grow for want of memory.
 fn lacks_memory(answer: &Result<(), TableError>) -> bool
     ensures { result ≡ refused_growth answer.now }
 {
@@ -132,7 +135,7 @@ impl<T: Drop, U: Drop> Backend<T, U> {
         ObjectId::from_parts(DISPLAY, 0, WL_DISPLAY_INTERFACE)
     }
 
-    /// The table of interfaces: the one that the session was made with, and behind it what was added since.
+    /// The table of interfaces: the one that the session was made with, and what was added since.
     pub fn protocol(&self) -> &Protocol
         ensures { result.now ≡ self.now.session.table }
     {
@@ -235,7 +238,7 @@ impl<T: Transport + Drop, U: Drop> Backend<T, U> {
     /// Appends more interfaces to the session's table, all of them or none, as `Protocol::extend` does. The interfaces that
     /// are there keep their ids, and nothing else of the session changes. After an error the table is as it was.
     pub fn add_interfaces(&mut self, interfaces: Vec<Interface>) -> Result<(), TableError>
-        ensures call { IsGrowth (CallOf T.sends T.receives) self.old (interface_rows interfaces.items) result self.new }
+        ensures call { IsGrowth (CallOf T.sends T.receives) self.old (NewRows (interface_rows interfaces.items)) result self.new }
         ensures plain { AddsInterfaces self.old.session (interface_rows interfaces.items) result self.new.session }
         ensures answer { AnswersGrowth self.old.session.table (interface_rows interfaces.items) result }
         ensures session { self.new.session
@@ -244,6 +247,36 @@ impl<T: Transport + Drop, U: Drop> Backend<T, U> {
         ensures refused { self.new.refused ≡ refused_growth result }
     {
         let answer = self.protocol.extend(interfaces);
+        self.refused = lacks_memory(&answer);
+        answer
+    }
+
+    /// Appends more requests and events to those of an interface that the session's table has, all of them or none, and
+    /// raises its version, as `Protocol::extend_row` does. What is there keeps its opcodes, and nothing else of the session
+    /// changes. After an error the table is as it was.
+    ///
+    /// What was received and is not read yet is read by the longer row: an event whose opcode was outside the row, which would
+    /// have ended the session, is then handed out.
+    pub fn extend_interface(
+        &mut self,
+        interface: InterfaceId,
+        version: u32,
+        requests: Vec<MessageDesc>,
+        events: Vec<MessageDesc>,
+    ) -> Result<(), TableError>
+        ensures call { IsGrowth (CallOf T.sends T.receives) self.old
+            (LongerRow (extension_of interface version requests.items events.items)) result self.new }
+        ensures plain { ExtendsInterface self.old.session (extension_of interface version requests.items events.items) result self.new.session }
+        ensures answer { AnswersExtension self.old.session.table (extension_of interface version requests.items events.items) result }
+        ensures session { self.new.session ≡ record self.old.session {
+          table = after_extension self.old.session.table (extension_of interface version requests.items events.items) result;
+        } }
+        ensures accepted { IsAcceptedTable self.new.session.table }
+        ensures refused { self.new.refused ≡ refused_growth result }
+    {
+        let answer = self
+            .protocol
+            .extend_row(interface, version, requests, events);
         self.refused = lacks_memory(&answer);
         answer
     }

@@ -2,8 +2,8 @@
 //! ids; its contract states a law.
 //!
 //! A *run* is a list of calls over the transport by script, each with its reply. A *history* is a list of calls over any
-//! transport, each with its reply, of changes that the program makes to the transport between them, and of interfaces that it
-//! adds. A history *from `connect` on* begins with a session as `connect` returns it (`IsConnected`); any other may begin
+//! transport, each with its reply, of changes that the program makes to the transport between them, and of what it adds to the
+//! table. A history *from `connect` on* begins with a session as `connect` returns it (`IsConnected`); any other may begin
 //! with any session. The laws of histories speak of every transport. Over the transport by script a call of that transport is
 //! a change of it (`calls_over_scripts_are_steps`). An id *names* an object if its number has that object and its serial is
 //! that object's.

@@ -11,7 +11,8 @@ use wl_wire::{InterfaceId, IoFault, Message, OutOfMemory, Token};
 
 /// A call that changes a session over the transport by script: a call of the session, or one of its transport, `Memory`.
 ///
-/// `Backend::transport_mut` and `Backend::add_interfaces` are no steps, but a history has entries for them.
+/// `Backend::transport_mut`, `Backend::add_interfaces` and `Backend::extend_interface` are no steps, but a history has entries
+/// for them.
 #[derive(Drop)]
 pub enum Step<U> {
     /// `Backend::set_data`, with the object and its user data.

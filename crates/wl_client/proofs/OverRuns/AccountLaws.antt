@@ -5,7 +5,7 @@ use mathlib.Core.Logic.{inl, inr}
 use Rattle.wl_wire.specs.declared.error.IoFault.{IoFault}
 use Rattle.wl_wire.specs.declared.error.OutOfMemory.{OutOfMemory}
 use Rattle.wl_wire.specs.declared.protocol.TableError.{TableError}
-use Rattle.wl_wire.specs.Table.{InterfaceRow, refused_growth}
+use Rattle.wl_wire.specs.Table.{Growth, InterfaceRow, refused_growth}
 use Rattle.wl_link.proofs.OverRuns.RunLaws.{stopped_leads}
 use Rattle.wl_link.specs.declared.memory.ArriveError.{ArriveError}
 use Rattle.wl_link.specs.declared.memory.ArriveError.TheVariants as arrive
@@ -45,7 +45,7 @@ module _ {T U : Type 0} (makes : Making T U) where
     change_by : (before : SessionState T U) (t : T) → IsChange makes before t (over_transport before t)
     change_by before t = record { change = refl; accounted = stays_accounted_for before (Changed t) (over_transport before t) refl }
 
-    growth_by : (before : ClientState T U) (rows : List InterfaceRow) (answer : Result (Unit {0}) TableError) (after : ClientState T U)
+    growth_by : (before : ClientState T U) (rows : Growth) (answer : Result (Unit {0}) TableError) (after : ClientState T U)
         → InterfacesAdded before.session rows answer after.session → after.refused ≡ refused_growth answer → IsGrowth makes before rows answer after
     growth_by before rows answer after added refused = record {
       growth = added;
@@ -72,7 +72,7 @@ module _ {T U : Type 0} (sends : T → Queue → Result ℕ IoFault → T → Ty
   pub is_change : (before : SessionState T U) (t : T) → IsChange (CallOf sends receives) before t (over_transport before t)
   is_change = change_by (CallOf sends receives) (calls_kept sends receives)
 
-  pub is_growth : (before : ClientState T U) (rows : List InterfaceRow) (answer : Result (Unit {0}) TableError) (after : ClientState T U)
+  pub is_growth : (before : ClientState T U) (rows : Growth) (answer : Result (Unit {0}) TableError) (after : ClientState T U)
       → InterfacesAdded before.session rows answer after.session → after.refused ≡ refused_growth answer → IsGrowth (CallOf sends receives) before rows answer after
   is_growth = growth_by (CallOf sends receives) (calls_kept sends receives)
 

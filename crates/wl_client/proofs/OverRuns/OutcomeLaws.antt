@@ -6,8 +6,8 @@ use Rattle.wl_wire.specs.declared.error.IoFault.TheVariants as fault
 use Rattle.wl_wire.specs.declared.error.OutOfMemory.{OutOfMemory}
 use Rattle.wl_wire.specs.declared.protocol.TableError.{TableError}
 use Rattle.wl_wire.specs.Message.{WireMessage}
-use Rattle.wl_wire.specs.Table.{InterfaceRow, grown, refused_growth}
-use Rattle.wl_wire.proofs.Growth.{AnswersGrowth-unique}
+use Rattle.wl_wire.specs.Table.{Growth, refused_growth, table_after}
+use Rattle.wl_wire.proofs.Extension.{AnswersTo-unique}
 use Rattle.wl_link.specs.declared.memory.ArriveError.{ArriveError}
 use Rattle.wl_link.specs.Exchange.{Queue, IsFunction, IsReceiveFunction}
 use Rattle.wl_link.specs.Link.{LinkState}
@@ -165,12 +165,12 @@ module _ {U : Type 0} where
 
 -- ---- interfaces that are added
 
-module _ {T U : Type 0} (s : SessionState T U) (rows : List InterfaceRow) where
+module _ {T U : Type 0} (s : SessionState T U) (rows : Growth) where
   growth_one : (a b : Result (Unit {0}) TableError) (x y : SessionState T U) → false ≡ refused_growth a → false ≡ refused_growth b
       → InterfacesAdded s rows a x → InterfacesAdded s rows b y → (a ≡ b) × (x ≡ y)
   growth_one a b x y unasked unasked' (answers, same) (answers', same') =
-      let one = AnswersGrowth-unique s.table rows a b (λ e. not_refused _ unasked (ap refused_growth e)) (λ e. not_refused _ unasked' (ap refused_growth e)) answers answers' in
-      (one, same ∙ ap (λ r. record s { table = grown s.table rows r }) one ∙ sym same')
+      let one = AnswersTo-unique s.table rows a b (λ e. not_refused _ unasked (ap refused_growth e)) (λ e. not_refused _ unasked' (ap refused_growth e)) answers answers' in
+      (one, same ∙ ap (λ r. record s { table = table_after s.table rows r }) one ∙ sym same')
 
 -- ---- a step
 
@@ -249,7 +249,7 @@ module _ {T U : Type 0} (makes : Making T U)
       let at : n ≡ m = by' ∙ ap (over_transport s) (sym is) ∙ sym by in
       history_one m x y deeds others same h (subst (λ (k : SessionState T U). History makes k others y) at g)
   history_one s x y (Grown rows p ∷ deeds) (Grown rows' q ∷ others) (is, fine, fine', same) (m, by, h) (n, by', g) =
-      let there : InterfacesAdded s rows q n = subst (λ (these : List InterfaceRow). InterfacesAdded s these q n) (sym is) by' in
+      let there : InterfacesAdded s rows q n = subst (λ (these : Growth). InterfacesAdded s these q n) (sym is) by' in
       let one = growth_one s rows p q m n (sym fine) (sym fine') by there in
       let rest = history_one m x y deeds others same h (subst (λ (k : SessionState T U). History makes k others y) (sym one.1) g) in
       ((one.0, rest.0), rest.1)

@@ -5,7 +5,7 @@ use Rattle.std.specs.Prelude.{◌≡◌, ◌⊎◌, ℕ, List, [], true, false, 
 use Rattle.wl_wire.specs.declared.error.IoFault.{IoFault}
 use Rattle.wl_wire.specs.declared.error.IoFault.TheVariants as fault
 use Rattle.wl_wire.specs.declared.protocol.TableError.{TableError}
-use Rattle.wl_wire.specs.Table.{AnswersGrowth, InterfaceRow, grown}
+use Rattle.wl_wire.specs.Table.{AnswersTo, Extension, Growth, InterfaceRow, LongerRow, NewRows, table_after}
 use Rattle.wl_link.specs.declared.object.Object.{Object}
 use Rattle.wl_link.specs.Exchange.{Queue}
 use Rattle.wl_link.specs.Link.{Flushed, LimitSet}
@@ -120,13 +120,21 @@ module _ {T U : Type 0} where
     pub link : after.link ≡ before.link
     pub rest : RestStays before after
 
-  -- The table has the new rows behind the others. Or it answers why not, and is as before. Nothing else has changed.
-  pub record AddsInterfaces (before : SessionState T U) (rows : List InterfaceRow) (answer : Result (Unit {0}) TableError) (after : SessionState T U) : Type 0 where
-    pub answered : AnswersGrowth before.table rows answer
-    pub table : after.table ≡ grown before.table rows answer
+  -- The table has grown by that. Or it answers why not, and is as before. Nothing else has changed.
+  pub record GrowsTable (before : SessionState T U) (growth : Growth) (answer : Result (Unit {0}) TableError) (after : SessionState T U) : Type 0 where
+    pub answered : AnswersTo before.table growth answer
+    pub table : after.table ≡ table_after before.table growth answer
     pub objects : ObjectsStay before after
     pub last_serial : after.last_serial ≡ before.last_serial
     pub notes : after.notes ≡ before.notes
     pub link : after.link ≡ before.link
     pub open_event : after.open_event ≡ before.open_event
     pub error : after.error ≡ before.error
+
+  -- the new rows follow the others
+  abbrev pub AddsInterfaces : SessionState T U → List InterfaceRow → Result (Unit {0}) TableError → SessionState T U → Type 0
+  AddsInterfaces before rows answer after = GrowsTable before (NewRows rows) answer after
+
+  -- the new messages follow those of their interface
+  abbrev pub ExtendsInterface : SessionState T U → Extension → Result (Unit {0}) TableError → SessionState T U → Type 0
+  ExtendsInterface before more answer after = GrowsTable before (LongerRow more) answer after
