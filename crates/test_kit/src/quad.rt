@@ -41,7 +41,7 @@ const OBJECT: ArgumentType = ArgumentType::Object(AllowNull::No);
 const STR: ArgumentType = ArgumentType::Str(AllowNull::No);
 
 /// The message of that name and signature, which ends no object.
-fn plain(name: &'static str, since: u32, signature: &'static [ArgumentType]) -> Row {
+pub fn plain(name: &'static str, since: u32, signature: &'static [ArgumentType]) -> Row {
     Row {
         name,
         since,
@@ -121,6 +121,13 @@ fn push_messages(alloc: Global, messages: &mut Vec<MessageDesc>, rows: &[Row]) -
         messages.push(described(alloc, row)?)?;
     }
     Ok(())
+}
+
+/// The descriptions of the messages.
+pub fn messages(alloc: Global, rows: &[Row]) -> Result<Vec<MessageDesc>, Fail> {
+    let mut messages = Vec::new(alloc);
+    push_messages(alloc, &mut messages, rows)?;
+    Ok(messages)
 }
 
 /// Appends an interface with these requests and events to the others.

@@ -10,10 +10,10 @@ use std::fmt::{Display, Write};
 use std::test::Fail;
 use test_kit::cuts::{Cut, Stream};
 use test_kit::log::row_tells;
-use test_kit::quad::{destructor, push_interface, quad_table};
+use test_kit::quad::{destructor, messages, plain, push_interface, quad_table};
 use wl_client::{Backend, EventError};
 use wl_link::Memory;
-use wl_wire::{IoFault, Token};
+use wl_wire::{InterfaceId, IoFault, Token};
 
 /// A client whose objects have numbers as their data.
 pub type Client = Backend<Memory, u32>;
@@ -49,6 +49,8 @@ pub enum Act {
     Notes,
     /// Adds an interface of this name and of version 1, whose only event, `gone`, ends its object.
     Add(&'static str),
+    /// Adds a request and an event `tip`, without arguments, to an interface, which then has at least this version.
+    Extend(InterfaceId, u32),
     /// Runs the steps.
     Replay(&'static [Call]),
     /// Looks at something.
@@ -331,6 +333,21 @@ fn add(alloc: Global, client: &mut Client, log: &mut String, name: &str) -> Resu
     done(client, log, "done", &answer)
 }
 
+/// Adds a request and an event to the interface.
+fn extend(
+    alloc: Global,
+    client: &mut Client,
+    log: &mut String,
+    interface: InterfaceId,
+    version: u32,
+) -> Result<(), Fail> {
+    let tip = [plain("tip", 1, &[])];
+    let requests = messages(alloc, &tip)?;
+    let events = messages(alloc, &tip)?;
+    let answer = client.extend_interface(interface, version, requests, events);
+    done(client, log, "done", &answer)
+}
+
 /// Tells what is there.
 fn look_at(alloc: Global, client: &Client, log: &mut String, look: Look) -> Result<(), Fail> {
     let written = match look {
@@ -388,6 +405,7 @@ fn perform(
         Act::AddToData(object, more) => add_to_data(client, log, object, more),
         Act::Notes => notes(client, log),
         Act::Add(name) => add(alloc, client, log, name),
+        Act::Extend(interface, version) => extend(alloc, client, log, interface, version),
         Act::Replay(calls) => replay(alloc, client, log, calls),
         Act::Look(look) => look_at(alloc, client, log, look),
         Act::Script(cue) => play(alloc, client, cue),

@@ -3,12 +3,15 @@
 use super::acts::{Act, Cue, Look, Row, rows_tell};
 use crate::kit::values::{Object, Request};
 use std::test::Fail;
-use test_kit::quad::PAIR;
-use wl_wire::IoFault;
+use test_kit::quad::{PAIR, QUAD};
+use wl_wire::{InterfaceId, IoFault, WL_REGISTRY_INTERFACE};
+
+/// An interface that the table of `quad` and `pair` lacks.
+const PAST_THE_LAST: InterfaceId = InterfaceId(6);
 
 /// The runs, and what they tell: of a client with a `quad`, the object 3, or with a `pair` beside it, the object 4, whose events
 /// come with the descriptor 9. It tells the event, and the session's error.
-static ROWS: [Row; 9] = [
+static ROWS: [Row; 10] = [
     // `wl_registry.global` of the name 1, `quad` and the version 3.
     Row {
         name: "event with a string",
@@ -98,6 +101,32 @@ static ROWS: [Row; 9] = [
             Act::Look(Look::LastError),
         ],
         told: "sent: 2, 1\nsent: 3, 2\nthe session failed\nProtocol error 0 on object @0: Malformed Wayland message.\n",
+    },
+    // A `quad` gets the request 5 and the event 3. The event came before, with one that was read, and is handed out; there is no
+    // event 4. Only the program's interfaces are extended.
+    Row {
+        name: "event of an opcode that was unknown when it came",
+        acts: &[
+            Act::Bound,
+            Act::Send(Request::Bare(Object::Quad, 5)),
+            Act::Script(Cue::Arrive(&[
+                3, 0, 0, 0, 0, 0, 12, 0, 5, 0, 0, 0, 3, 0, 0, 0, 3, 0, 8, 0,
+            ])),
+            Act::Next,
+            Act::Finish(None),
+            Act::Extend(PAST_THE_LAST, 4),
+            Act::Extend(WL_REGISTRY_INTERFACE, 2),
+            Act::Extend(QUAD, 4),
+            Act::Next,
+            Act::Finish(None),
+            Act::Send(Request::Bare(Object::Quad, 5)),
+            Act::Flush,
+            Act::Look(Look::Sent),
+            Act::Script(Cue::Arrive(&[3, 0, 0, 0, 4, 0, 8, 0])),
+            Act::Next,
+            Act::Look(Look::LastError),
+        ],
+        told: "sent: 2, 1\nsent: 3, 2\nthe interface has no request of that opcode\nevent 0 of 3: 5\nfinished\ninterface 0: a message names an interface outside the table\ninterface 0: a message names an interface outside the table\ndone\nevent 3 of 3:\nfinished\nsent: 0, 0\nflushed\n0100000001000c000200000002000000000020000100000005000000717561640000000003000000030000000300000005000800\nthe session failed\nProtocol error 0 on object @0: Malformed Wayland message.\n",
     },
     // `wl_registry.global` of the name 1 and the version 3, whose string has the length 4 and is `quad` without a zero.
     Row {
