@@ -5,7 +5,7 @@ use std::alloc::{AllocError, Global};
 use std::process::Abort;
 use std::test::Fail;
 use test_kit::log::tells;
-use test_kit::quad::{QUAD, quad_table};
+use test_kit::quad::{PAIR, QUAD, quad_table};
 use wl_wire::{
     ANONYMOUS_INTERFACE, ArgumentType, Interface, InterfaceId, MessageDesc, Protocol, TableError,
     WL_CALLBACK_INTERFACE, WL_DISPLAY_INTERFACE, same_interface, same_interface_or_anonymous,
@@ -106,6 +106,43 @@ fn new_faults(rt: &impl Abort, alloc: Global, row: &Faulty) -> Result<(), Fail> 
         "{}",
         row.name
     );
+    Ok(())
+}
+
+/// The messages of the rows.
+fn messages(alloc: Global, rows: &[Row]) -> Result<Vec<MessageDesc>, AllocError> {
+    let mut messages = Vec::new(alloc);
+    push_messages(alloc, &mut messages, rows)?;
+    Ok(messages)
+}
+
+/// More messages for an interface as plain data: its id, the version that has them, and the new requests and events.
+#[derive(Clone, Copy)]
+struct More(InterfaceId, u32, &'static [Row], &'static [Row]);
+
+/// What the table answers to more messages for an interface.
+fn extended(
+    alloc: Global,
+    table: &mut Protocol,
+    More(id, version, requests, events): More,
+) -> Result<Result<(), TableError>, AllocError> {
+    let requests = messages(alloc, requests)?;
+    let events = messages(alloc, events)?;
+    Ok(table.extend_row(id, version, requests, events))
+}
+
+/// A row of the table: what a failing one is named, more messages for an interface, and their fault, if they have one.
+struct FaultyMore {
+    name: &'static str,
+    more: More,
+    fault: Option<TableError>,
+}
+
+/// Fails if a table with `quad` and `pair` finds another fault in the row's messages.
+fn more_faults(rt: &impl Abort, alloc: Global, row: &FaultyMore) -> Result<(), Fail> {
+    let mut table = quad_table(alloc)?;
+    let answer = extended(alloc, &mut table, row.more)?;
+    assert_eq!(rt; answer.err(), row.fault, "{}", row.name);
     Ok(())
 }
 
@@ -366,6 +403,154 @@ fn new_interfaces_follow_the_old_ones(rt: HostRuntime) -> Result<(), Fail> {
         &rt,
         growth_log(rt.alloc()),
         "taken\ninterface 1: the name is taken\n0 <anonymous>\n1 wl_display\n2 wl_registry\n3 wl_callback\n4 quad\n5 pair\n6 a\n7 empty\n8 <unknown>\ntaken\n0 <anonymous>\n1 wl_display\n2 wl_registry\n3 wl_callback\n4 quad\n5 pair\n6 a\n7 empty\n8 b\n9 <unknown>\n1: 0, 1, true\n3: 5, 3, false\n3: 1, 1, false\n",
+    )
+}
+
+/// An interface that is not in the table of `quad` and `pair`, but would be the next one.
+const NEXT: InterfaceId = InterfaceId(6);
+
+/// More messages for an interface, and their faults.
+static MORE_FAULTS: [FaultyMore; 15] = [
+    FaultyMore {
+        name: "no message",
+        more: More(QUAD, 3, &[], &[]),
+        fault: None,
+    },
+    FaultyMore {
+        name: "messages about the interface itself",
+        more: More(QUAD, 4, &LINKS, &OWN_CHILD),
+        fault: None,
+    },
+    FaultyMore {
+        name: "the name of a message that is there",
+        more: More(QUAD, 4, &[], &GONE),
+        fault: None,
+    },
+    FaultyMore {
+        name: "an interface past the last",
+        more: More(NEXT, 4, &[], &[]),
+        fault: Some(TableError::UnknownInterface(0)),
+    },
+    FaultyMore {
+        name: "a fixed interface: the first",
+        more: More(ANONYMOUS_INTERFACE, 4, &[], &[]),
+        fault: Some(TableError::UnknownInterface(0)),
+    },
+    FaultyMore {
+        name: "a fixed interface: the last",
+        more: More(WL_CALLBACK_INTERFACE, 1, &[], &GONE),
+        fault: Some(TableError::UnknownInterface(0)),
+    },
+    FaultyMore {
+        name: "a zero in the name of a request",
+        more: More(QUAD, 4, &ZERO, &[]),
+        fault: Some(TableError::ZeroInName(0)),
+    },
+    FaultyMore {
+        name: "a zero in the name of an event",
+        more: More(QUAD, 4, &GONE, &ZERO),
+        fault: Some(TableError::ZeroInName(0)),
+    },
+    FaultyMore {
+        name: "two new ids",
+        more: More(PAIR, 4, &TWO_NEW_IDS, &[]),
+        fault: Some(TableError::TooManyNewIds(0)),
+    },
+    FaultyMore {
+        name: "a child interface past the last",
+        more: More(QUAD, 4, &[], &CHILD_BEHIND),
+        fault: Some(TableError::UnknownInterface(0)),
+    },
+    FaultyMore {
+        name: "no child interface goes before an object without an interface",
+        more: More(QUAD, 4, &NO_CHILD, &[]),
+        fault: Some(TableError::MissingChild(0)),
+    },
+    FaultyMore {
+        name: "an object without an interface",
+        more: More(QUAD, 4, &[], &NO_OBJECT),
+        fault: Some(TableError::ArgInterfaces(0)),
+    },
+    FaultyMore {
+        name: "an event's fault of a lower rank goes before a request's",
+        more: More(QUAD, 4, &TWO_NEW_IDS, &ZERO),
+        fault: Some(TableError::ZeroInName(0)),
+    },
+    FaultyMore {
+        name: "a zero in a name goes before the interface",
+        more: More(NEXT, 4, &ZERO, &[]),
+        fault: Some(TableError::ZeroInName(0)),
+    },
+    FaultyMore {
+        name: "the interface goes before two new ids",
+        more: More(NEXT, 4, &TWO_NEW_IDS, &[]),
+        fault: Some(TableError::UnknownInterface(0)),
+    },
+];
+
+#[test]
+fn faults_of_more_messages(rt: HostRuntime) -> Result<(), Fail> {
+    for row in &MORE_FAULTS {
+        more_faults(&rt, rt.alloc(), row)?;
+    }
+    Ok(())
+}
+
+/// Tells the name of the message, if it is there.
+fn tell_message(log: &mut String, message: Option<&MessageDesc>) -> Result<(), Fail> {
+    match message {
+        Some(message) => Ok(writeln!(log, "{}", message.name)?),
+        None => Ok(writeln!(log, "none")?),
+    }
+}
+
+/// Tells of `quad`, of its requests from the opcode 4 on, of its events from the opcode 2 on, and of `pair`.
+fn tell_quad(log: &mut String, table: &Protocol) -> Result<(), Fail> {
+    tell_found(log, table, QUAD)?;
+    for opcode in 4..7 {
+        tell_message(log, table.request(QUAD, opcode))?;
+    }
+    for opcode in 2..6 {
+        tell_message(log, table.event(QUAD, opcode))?;
+    }
+    tell_found(log, table, PAIR)
+}
+
+/// Tells what the table answers to more messages for an interface, and what it then has.
+fn tell_more(
+    alloc: Global,
+    log: &mut String,
+    table: &mut Protocol,
+    more: More,
+) -> Result<(), Fail> {
+    match extended(alloc, table, more)? {
+        Ok(()) => writeln!(log, "taken")?,
+        Err(error) => writeln!(log, "{error}")?,
+    }
+    tell_quad(log, table)
+}
+
+/// Tells of a table that refuses messages, takes some of a later version, and more of an earlier one.
+fn tell_longer(alloc: Global, log: &mut String, table: &mut Protocol) -> Result<(), Fail> {
+    tell_more(alloc, log, table, More(QUAD, 5, &LINKS, &ZERO))?;
+    tell_more(alloc, log, table, More(QUAD, 4, &LINKS, &GONE))?;
+    tell_more(alloc, log, table, More(QUAD, 2, &[], &OWN_CHILD))?;
+    tell_names(log, table, 7)
+}
+
+/// What `tell_longer` tells of the table of `quad` and `pair`.
+fn longer_log(alloc: Global) -> Result<String, Fail> {
+    let mut log = String::new(alloc);
+    tell_longer(alloc, &mut log, &mut quad_table(alloc)?)?;
+    Ok(log)
+}
+
+#[test]
+fn new_messages_follow_the_old_ones(rt: HostRuntime) -> Result<(), Fail> {
+    tells(
+        &rt,
+        longer_log(rt.alloc()),
+        "interface 0: a name holds a zero byte\n3: 5, 3, false\ngive\nnone\nnone\ngone\nnone\nnone\nnone\n1: 1, 1, false\ntaken\n4: 6, 4, false\ngive\nlink\nnone\ngone\ngone\nnone\nnone\n1: 1, 1, false\ntaken\n4: 6, 5, false\ngive\nlink\nnone\ngone\ngone\nr\nnone\n1: 1, 1, false\n0 <anonymous>\n1 wl_display\n2 wl_registry\n3 wl_callback\n4 quad\n5 pair\n6 <unknown>\n",
     )
 }
 
