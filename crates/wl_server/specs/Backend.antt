@@ -1,7 +1,7 @@
 -- What contracts see of a backend: the server, and whether memory was refused in its last call.
-use Rattle.std.specs.Prelude.{Bool, false, List, Result}
+use Rattle.std.specs.Prelude.{Bool, false, Result}
 use Rattle.wl_wire.specs.declared.protocol.TableError.{TableError}
-use Rattle.wl_wire.specs.Table.{InterfaceRow}
+use Rattle.wl_wire.specs.Table.{Growth}
 use Rattle.wl_link.specs.Exchange.{IsWithinOffer}
 use Rattle.wl_server.specs.declared.runs.step.Reply.{Reply}
 use Rattle.wl_server.specs.declared.runs.step.Step.{Step}
@@ -27,8 +27,8 @@ pub record IsChange {T U G C : Type 0} (w : World T G C) (before : ServerState T
   pub step : Makes w before (Changed id t) false after
   pub accounted : IsWithinOffer w.sends → StaysAccountedFor w before step.0 after
 
--- And for interfaces that were to be added to the table.
-pub record IsGrowth {T U G C : Type 0} (w : World T G C) (before : BackendState T U G C) (rows : List InterfaceRow) (answer : Result (Unit {0}) TableError)
+-- And for a table that was to grow.
+pub record IsGrowth {T U G C : Type 0} (w : World T G C) (before : BackendState T U G C) (rows : Growth) (answer : Result (Unit {0}) TableError)
     (after : BackendState T U G C) : Type 0 where
   pub step : Makes w before.server (Grown rows answer) after.refused after.server
   pub accounted : IsWithinOffer w.sends → StaysAccountedFor w before.server step.0 after.server

@@ -11,7 +11,7 @@ use Rattle.wl_wire.specs.declared.error.IoFault.TheVariants as fault
 use Rattle.wl_wire.specs.declared.error.OutOfMemory.{OutOfMemory}
 use Rattle.wl_wire.specs.declared.interface.InterfaceId.{InterfaceId}
 use Rattle.wl_wire.specs.declared.protocol.TableError.{TableError}
-use Rattle.wl_wire.specs.Table.{InterfaceRow}
+use Rattle.wl_wire.specs.Table.{Growth}
 use Rattle.wl_link.specs.Exchange.{Queue}
 use Rattle.wl_link.specs.Link.{LinkState, IsFresh, LimitSet, with_transport}
 use Rattle.wl_link.specs.Script.{Script, ScriptReceives, ScriptSends}
@@ -68,7 +68,7 @@ over_scripts views = record { sends = ScriptSends; receives = ScriptReceives; mo
 pub data Call (T U G C : Type 0) : Type 0 where
   Asked : Step T U G C → Reply T U → Call T U G C
   Changed : ClientParts → T → Call T U G C
-  Grown : List InterfaceRow → Result (Unit {0}) TableError → Call T U G C
+  Grown : Growth → Result (Unit {0}) TableError → Call T U G C
 
 -- ---- whether memory was refused, by the answer
 

@@ -3,7 +3,7 @@ use Rattle.std.specs.Prelude.{◌≡◌, ◌≢◌, ℕ, ◌+◌, ◌<◌, ◌�
 use Rattle.std.specs.Option.{option_map_or}
 use Rattle.wl_wire.specs.declared.interface.InterfaceId.{InterfaceId}
 use Rattle.wl_wire.specs.declared.protocol.TableError.TheVariants as table
-use Rattle.wl_wire.specs.Table.{AnswersGrowth, grown}
+use Rattle.wl_wire.specs.Table.{AnswersTo, table_after}
 use Rattle.wl_server.specs.declared.error.GlobalError.TheVariants as global
 use Rattle.wl_server.specs.declared.error.InsertClientError.{InsertClientError}
 use Rattle.wl_server.specs.declared.error.InsertClientError.TheVariants as insert
@@ -84,14 +84,14 @@ module _ {T U G C : Type 0} where
   offer_after offer (Asked (step.DisableGlobal g) answer) = with_globals offer (disabled offer.globals g)
   offer_after offer (Asked (step.RemoveGlobal g) answer) = with_globals offer (freed offer.globals g)
   offer_after offer (Asked (step.SetDefaultMaxBufferSize limit) answer) = record offer { default_limit = limit }
-  offer_after offer (Grown rows answer) = with_table offer (grown offer.table rows answer)
+  offer_after offer (Grown rows answer) = with_table offer (table_after offer.table rows answer)
   offer_after offer _ = offer
 
   -- A new global has the least free name and the next serial, and each error has its reason. Interfaces that are added are
   -- refused for their first fault, and for want of memory if they have none.
   abbrev pub AnswersShared : Offer G → Call T U G C → Type 0
   AnswersShared offer (Asked (step.CreateGlobal i version handler) (reply.CreateGlobal r)) = CreatesGlobal offer.table offer.globals i version r
-  AnswersShared offer (Grown rows answer) = AnswersGrowth offer.table rows answer
+  AnswersShared offer (Grown rows answer) = AnswersTo offer.table rows answer
   AnswersShared offer _ = Unit {0}
 
   -- the clients that a cleanup takes out are in the order of their slots

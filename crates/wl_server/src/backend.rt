@@ -120,7 +120,7 @@ impl<T: Drop, U: Drop, G: Drop, C: Drop> Backend<T, U, G, C> {
         *self.notes.allocator()
     }
 
-    /// The table of interfaces: the one that the server was made with, and behind it what was added since.
+    /// The table of interfaces: the one that the server was made with, and what was added since.
     pub fn protocol(&self) -> &Protocol
         ensures { result.now ≡ self.now.server.offer.table }
     {

@@ -6,7 +6,7 @@ ghost use Rattle.wl_link.specs.ObjectMap.{InsertsNew, NextNew};
 ghost use Rattle.wl_link.specs.Store.{held, rewritten};
 ghost use Rattle.wl_server.specs.Globals.{CreatesGlobal, as_disabled, disabled, freed, global_serial, name_range, new_global, with_created};
 
-/// `add_interfaces`: the table grows.
+/// `add_interfaces` and `extend_interface`: the table grows.
 pub mod add_interfaces;
 /// The message `wl_registry.global`, and how each registry of a client is told.
 pub mod announce;

@@ -3,8 +3,8 @@
 //!
 //! These words are used in this file:
 //!
-//! - A *run* is a list of calls, one after another. Changes of a transport through `transport_mut`, and `add_interfaces`, may be
-//!   among them. Most laws are about each run of a new server (`Backend::new`).
+//! - A *run* is a list of calls, one after another. Changes of a transport through `transport_mut`, and the calls by which the
+//!   table grows (`add_interfaces`, `extend_interface`), may be among them. Most laws are about each run of a new server (`Backend::new`).
 //! - A client is *stored* from its insertion until `Backend::cleanup` takes it out. It is *live* as long as it is stored
 //!   and not killed.
 //! - A *shared* call is about no single client: for instance `create_global` or `cleanup`.
@@ -18,7 +18,7 @@
 //! of it (clause `change` of [`calls_over_scripts_are_steps`]).
 
 ghost use Rattle.std.specs.Prelude.{◌≡◌, ◌≢◌, ◌<◌, ◌≤◌, ◌∷◌, ◌++◌, [], ◌↔◌, ℕ, Bool, false, IsTrue, List, None, Option, Some, Result, Err};
-ghost use Rattle.wl_wire.specs.Table.{AnswersGrowth, InterfaceRow};
+ghost use Rattle.wl_wire.specs.Table.{AnswersExtension, AnswersGrowth, Extension, InterfaceRow};
 ghost use Rattle.wl_wire.specs.declared.protocol.TableError.{TableError};
 ghost use Rattle.wl_wire.specs.declared.protocol.TableError.TheVariants as table_error;
 ghost use Rattle.wl_wire.specs.declared.error.IoFault.{IoFault};
@@ -107,13 +107,13 @@ pub fn each_client_has_one_outcome<T: Transport, U, G: GlobalHandler<C>, C>()
 /// Their replies are the same, and the servers look the same afterwards: what is held of each client id, the globals and
 /// limits, how many clients were inserted, and the order of the notes that are not taken yet. A program does not see where
 /// lists lie in memory. The same holds if the order of the notes of different clients is left out (`ordered` is `false`),
-/// before and after. It holds of steps over the transport by script, too, also if changes of transports and added interfaces
+/// before and after. It holds of steps over the transport by script, too, also if changes of transports and growths of the table
 /// are among them (clause `script`).
 ///
 /// Servers of which the same is held return the same in look-ups (clause `answers`): which clients are live, what is
 /// known of a client, an object and a global, and which handler a global has. What calls return about all clients
 /// together has one outcome, too: the id of a new client, the id of a new global or the reason for which there is none,
-/// what became of interfaces that were to be added, and the lists that `cleanup` and `take_notes` return.
+/// what became of interfaces or messages that were to be added, and the lists that `cleanup` and `take_notes` return.
 pub fn each_run_of_a_server_has_one_outcome<T: Transport, U, G: GlobalHandler<C>, C>()
     ensures run { IsFunction T.sends → IsReceiveFunction T.receives → RunsHaveOneOutcome U (over T.sends T.receives G.views) }
     ensures steps { IsFunction T.sends → IsReceiveFunction T.receives → PerformancesHaveOneOutcome U (over T.sends T.receives G.views) }
@@ -128,6 +128,9 @@ pub fn each_run_of_a_server_has_one_outcome<T: Transport, U, G: GlobalHandler<C>
     ensures interfaces { (table rows : List InterfaceRow) (a b : Result (Unit {0}) TableError) →
         a ≢ Err table_error.OutOfMemory → b ≢ Err table_error.OutOfMemory →
         AnswersGrowth table rows a → AnswersGrowth table rows b → a ≡ b }
+    ensures messages { (table : List InterfaceRow) (more : Extension) (a b : Result (Unit {0}) TableError) →
+        a ≢ Err table_error.OutOfMemory → b ≢ Err table_error.OutOfMemory →
+        AnswersExtension table more a → AnswersExtension table more b → a ≡ b }
     ensures cleanup { (out out' : List (ClientParts × T)) → RiseBySlot out → RiseBySlot out' →
         ((id : ClientParts) → share_of id out ≡ share_of id out') → out ≡ out' }
 {}

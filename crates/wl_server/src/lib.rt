@@ -24,7 +24,7 @@
 //! | `finish_request`, `finish_bind`, and both `_returning` | `reading::finish` | `Finish`, `Cutting`, `Plain` |
 //! | `dispatch_single_client`, `dispatch_all_clients`, [`Handler`] | `dispatch` | `Dispatch`, `Reached`, `Plain/Dispatch` |
 //! | `create_global`, `disable_global`, `remove_global` | `globals::create_global`, `globals::remove_global` | `PartStep`, `Globals`, `Felt` |
-//! | `add_interfaces` | `globals::add_interfaces` | `Steps`, `Plain/Calls`, and `Table` of `wl_wire` |
+//! | `add_interfaces`, `extend_interface` | `globals::add_interfaces` | `Steps`, `Plain/Calls`, and `Table` of `wl_wire` |
 //! | `cleanup`, `take_notes` | `notes` | `PartStep`, `Felt` |
 //! | look-ups, `next_global_id`, `all_clients`, `with_all_clients`, and the same of objects | `lookups`, `globals::lookups` | `Lookups`, `Next` |
 //! | `replay` | `runs::replay` | `Runs`, `Histories`, `Outcome/Whole` |
@@ -55,7 +55,7 @@ mod dispatch;
 mod error;
 /// Events: `send_event`, `post_error`, and those that the server sends by itself.
 mod events;
-/// Globals: the calls that create, remove and look them up; what registries are told; and `add_interfaces`.
+/// Globals: the calls that create, remove and look them up; what registries are told; and the calls by which the table grows.
 mod globals;
 /// The ids of clients, objects and globals.
 mod ids;

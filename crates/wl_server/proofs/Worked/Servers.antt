@@ -2,7 +2,7 @@
 use Rattle.std.proofs.Common.{◌≡◌, ℕ, Bool, List, [], ◌∷◌, ◌++◌, Option, Some, None, Result, Ok, Err, true, false, refl, arith, ◌⊎◌, ap, sym, lit<, true≢false, is_some}
 use Rattle.std.specs.Prelude.{Vec, is_ok}
 use Rattle.wl_wire.specs.declared.protocol.TableError.{TableError}
-use Rattle.wl_wire.specs.Table.{InterfaceRow}
+use Rattle.wl_wire.specs.Table.{Extension, InterfaceRow, LongerRow, NewRows, extended_table}
 use Rattle.wl_wire.specs.declared.argument.Token.{Token}
 use Rattle.wl_wire.specs.declared.message.Message.{Message}
 use Rattle.wl_link.specs.Script.{Script}
@@ -131,7 +131,7 @@ offers_after = (refl, refl)
 -- more interfaces follow those of the table; if they are refused, the offer stays
 module _ (rows : List InterfaceRow) where
   abbrev added : Result (Unit {0}) TableError → Call ℕ ℕ ℕ Bool
-  added answer = Grown rows answer
+  added answer = Grown (NewRows rows) answer
 
   more_interfaces : (offer_after offer (added (Ok tt)) ≡ record offer { table = table ++ rows })
       × (offer_after offer (added (Err (table_error.UnknownInterface 0))) ≡ offer)
@@ -140,6 +140,19 @@ module _ (rows : List InterfaceRow) where
   refused_interfaces : (lacks_growth (added (Err table_error.OutOfMemory)) ≡ true)
       × (lacks_growth (added (Err (table_error.UnknownInterface 0))) ≡ false)
   refused_interfaces = (refl, refl)
+
+-- more messages follow those of their interface; if they are refused, the offer stays
+module _ (more : Extension) where
+  abbrev extended : Result (Unit {0}) TableError → Call ℕ ℕ ℕ Bool
+  extended answer = Grown (LongerRow more) answer
+
+  more_messages : (offer_after offer (extended (Ok tt)) ≡ record offer { table = extended_table table more })
+      × (offer_after offer (extended (Err (table_error.UnknownInterface 0))) ≡ offer)
+  more_messages = (refl, refl)
+
+  refused_messages : (lacks_growth (extended (Err table_error.OutOfMemory)) ≡ true)
+      × (lacks_growth (extended (Err (table_error.UnknownInterface 0))) ≡ false)
+  refused_messages = (refl, refl)
 
 -- ---- memory
 

@@ -1,11 +1,11 @@
--- What a program finds after an insertion of a client, after a limit was set, and after interfaces were added, in the words of the
+-- What a program finds after an insertion of a client, after a limit was set, and after the table grew, in the words of the
 -- look-ups.
 --
--- A contract that cites one of these has another clause beside it, `call`, from which it follows. `AddsInterfaces` also needs the
+-- A contract that cites one of these has another clause beside it, `call`, from which it follows. `GrowsTable` also needs the
 -- clause `server`.
 use Rattle.std.specs.Prelude.{◌≡◌, ℕ, List, ◌∷◌, [], ◌++◌, Bool, true, false, None, Some, Result, Ok, Err, MatchOption}
 use Rattle.wl_wire.specs.declared.protocol.TableError.{TableError}
-use Rattle.wl_wire.specs.Table.{AnswersGrowth, InterfaceRow, grown, refused_growth}
+use Rattle.wl_wire.specs.Table.{AnswersTo, Extension, Growth, InterfaceRow, LongerRow, NewRows, refused_growth, table_after}
 use Rattle.wl_link.specs.Link.{IsFresh, LimitSet, LinkState}
 use Rattle.wl_server.specs.declared.error.InsertClientError.{InsertClientError}
 use Rattle.wl_server.specs.declared.error.InsertClientError.TheVariants as insert
@@ -58,10 +58,18 @@ module _ {T U G C : Type 0} where
     pub server : after.server ≡ record before.server { offer = record before.server.offer { default_limit = limit } }
     pub memory : after.refused ≡ false
 
-  -- The table has the new rows behind the others. Or it answers why not, and is as before. Nothing else of the server has changed:
-  -- no client, no global, no note, nor what the next of these will get.
-  pub record AddsInterfaces (before : BackendState T U G C) (rows : List InterfaceRow) (answer : Result (Unit {0}) TableError) (after : BackendState T U G C)
+  -- The table has grown by that. Or it answers why not, and is as before. Nothing else of the server has changed: no client, no
+  -- global, no note, nor what the next of these will get.
+  pub record GrowsTable (before : BackendState T U G C) (growth : Growth) (answer : Result (Unit {0}) TableError) (after : BackendState T U G C)
       : Type 0 where
-    pub answered : AnswersGrowth before.server.offer.table rows answer
-    pub server : after.server ≡ record before.server { offer = with_table before.server.offer (grown before.server.offer.table rows answer) }
+    pub answered : AnswersTo before.server.offer.table growth answer
+    pub server : after.server ≡ record before.server { offer = with_table before.server.offer (table_after before.server.offer.table growth answer) }
     pub memory : after.refused ≡ refused_growth answer
+
+  -- the new rows follow the others
+  abbrev pub AddsInterfaces : BackendState T U G C → List InterfaceRow → Result (Unit {0}) TableError → BackendState T U G C → Type 0
+  AddsInterfaces before rows answer after = GrowsTable before (NewRows rows) answer after
+
+  -- the new messages follow those of their interface
+  abbrev pub ExtendsInterface : BackendState T U G C → Extension → Result (Unit {0}) TableError → BackendState T U G C → Type 0
+  ExtendsInterface before more answer after = GrowsTable before (LongerRow more) answer after

@@ -206,7 +206,7 @@ impl<U: Drop, G: GlobalHandler<C> + Drop, C: Drop> Backend<Memory, U, G, C> {
     /// # What is promised
     ///
     /// The steps are a run of calls like any other. So they may follow any history of the server: calls, changes of a
-    /// client's transport by `transport_mut`, interfaces that were added, and other lists of steps. These laws of runs
+    /// client's transport by `transport_mut`, growths of the table, and other lists of steps. These laws of runs
     /// (`laws`) hold of the whole (clauses `history` and `stopped_history`):
     ///
     /// - Each client that was inserted since the server was made depends only on its own steps and on the shared ones.

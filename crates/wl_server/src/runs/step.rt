@@ -15,8 +15,8 @@ use wl_wire::{CString, InterfaceId, IoFault, Message, OutOfMemory, Token};
 /// A call that changes a server, as a value: a call of the server, or one of a client's transport by script.
 ///
 /// The values of a variant are the arguments of the call, in order. The calls of `wl_link::Memory` have the client first
-/// whose transport it is. `Backend::transport_mut` and `Backend::add_interfaces` are no steps, but a history has entries for
-/// them.
+/// whose transport it is. `Backend::transport_mut`, `Backend::add_interfaces` and `Backend::extend_interface` are no steps, but
+/// a history has entries for them.
 #[derive(Drop)]
 pub enum Step<T, U, G, C> {
     /// `Backend::insert_client`.

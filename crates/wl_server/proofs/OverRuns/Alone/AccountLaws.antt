@@ -1,7 +1,8 @@
 -- That steps with their replies have one history, of which all the laws hold, and that each public call keeps it so.
-use Rattle.std.proofs.Common.{false, Result, List, [], ◌∷◌, ◌++◌, refl}
+use Rattle.std.proofs.Common.{◌≡◌, Bool, false, Result, Err, List, [], ◌∷◌, ◌++◌, refl, sym}
 use Rattle.wl_wire.specs.declared.protocol.TableError.{TableError}
-use Rattle.wl_wire.specs.Table.{InterfaceRow}
+use Rattle.wl_wire.specs.declared.protocol.TableError.TheVariants as table_error
+use Rattle.wl_wire.specs.Table.{Growth, InterfaceRow, refused_growth}
 use Rattle.wl_link.specs.Exchange.{IsWithinOffer}
 use Rattle.wl_server.specs.declared.runs.step.Reply.{Reply}
 use Rattle.wl_server.specs.declared.runs.step.Step.{Step}
@@ -18,7 +19,7 @@ use Rattle.wl_server.specs.Ids.{ClientParts}
 use Rattle.wl_server.specs.PartStep.{Changed, Grown, World}
 use Rattle.wl_server.specs.Runs.{Leads}
 use Rattle.wl_server.specs.Server.{ServerState, new_server}
-use Rattle.wl_server.specs.Steps.{Entry, Makes, OneStep, StepOf}
+use Rattle.wl_server.specs.Steps.{Entry, Makes, OneStep, StepOf, lacks_growth}
 
 pub is_accounted_for : {T U G C : Type 0} (w : World T G C) → IsWithinOffer w.sends
     → (table : List InterfaceRow) (run : List (Entry T U G C)) (after : ServerState T U G C)
@@ -52,7 +53,13 @@ pub is_change : {T U G C : Type 0} (w : World T G C) (before : ServerState T U G
     → Makes w before (Changed id t) false after → IsChange w before id t after
 is_change w before id t after (e, is, refused, one) = record { step = (e, is, refused, one); accounted = goes_on w one }
 
-pub is_growth : {T U G C : Type 0} (w : World T G C) (before : BackendState T U G C) (rows : List InterfaceRow)
+-- the answer of a table that was to grow tells whether memory was refused
+pub growth_lacked : (T U G C : Type 0) (rows : Growth) (r : Result (Unit {0}) TableError) (refused : Bool) → refused ≡ refused_growth r
+    → lacks_growth {T = T} {U = U} {G = G} {C = C} (Grown rows r) ≡ refused
+growth_lacked T U G C rows (Err table_error.OutOfMemory) refused is = sym is
+growth_lacked T U G C rows r refused is = sym is
+
+pub is_growth : {T U G C : Type 0} (w : World T G C) (before : BackendState T U G C) (rows : Growth)
     (answer : Result (Unit {0}) TableError)
     (after : BackendState T U G C) → Makes w before.server (Grown rows answer) after.refused after.server → IsGrowth w before rows answer after
 is_growth w before rows answer after (e, is, refused, one) = record { step = (e, is, refused, one); accounted = goes_on w one }

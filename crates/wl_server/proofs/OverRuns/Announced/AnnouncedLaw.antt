@@ -8,7 +8,8 @@ use Rattle.std.proofs.lemmas.Option.{same_Some, none-some}
 use Rattle.wl_wire.specs.declared.error.IoFault.{IoFault}
 use Rattle.wl_wire.specs.declared.error.OutOfMemory.{OutOfMemory}
 use Rattle.wl_wire.specs.declared.interface.InterfaceId.{InterfaceId}
-use Rattle.wl_wire.specs.Table.{InterfaceRow}
+use Rattle.wl_wire.specs.declared.protocol.TableError.{TableError}
+use Rattle.wl_wire.specs.Table.{Extension, InterfaceRow, LongerRow, NewRows, after_extension}
 use Rattle.wl_link.specs.declared.object.Object.{Object}
 use Rattle.wl_link.proofs.Calls.Branches.{either_bool, either_option}
 use Rattle.wl_link.specs.Identity.{Id}
@@ -47,6 +48,7 @@ use Rattle.wl_server.proofs.OverRuns.Announced.Watching.{Watch, part_scene, Scen
 use Rattle.wl_server.proofs.OverRuns.Announced.AnnouncementLaws.{announced-append, some_turns}
 use Rattle.wl_server.specs.Telling.{Core, Tells, core_of, global_message, making, removal_message, speaker, tells}
 use Rattle.std.specs.Option.{option_map_or}
+use Rattle.wl_wire.proofs.Extension.{name_stays}
 use Rattle.wl_wire.proofs.Growth.{row_stays}
 use Rattle.wl_server.proofs.ObjectCalls.Destroying.{named_is_held}
 use Rattle.wl_server.specs.Objects.{new_object}
@@ -64,6 +66,13 @@ growth_stays : {G C : Type 0} (views : G → ClientParts → C → GlobalParts �
 growth_stays views client client_data offer known new =
     renamed_stays views client client_data offer (with_table offer (offer.table ++ new)) refl (λ a x at.
     ap (λ (name : List ℕ). let g : Announced = record { name = a.name; interface = name; version = x.version } in g) (grind (arith, option_map_or, codes, row_stays, a.name)))
+
+-- and so are more messages of one of them, taken or refused
+extension_stays : {G C : Type 0} (views : G → ClientParts → C → GlobalParts → Bool) (client : ClientParts) (client_data : C) (offer : Offer G)
+    → (more : Extension) (answer : Result (Unit {0}) TableError) → StaysShown views client client_data offer (with_table offer (after_extension offer.table more answer))
+extension_stays views client client_data offer more answer =
+    renamed_stays views client client_data offer (with_table offer (after_extension offer.table more answer)) refl (λ a x at.
+    ap (λ (name : List ℕ). let g : Announced = record { name = a.name; interface = name; version = x.version } in g) (name_stays offer.table more answer x.interface.0))
 
 module _ {G C : Type 0} (views : G → ClientParts → C → GlobalParts → Bool) (client : ClientParts) (r : Id) {U : Type 0} (offer : Offer G)
     (s : Scene U C) where
@@ -380,10 +389,13 @@ module _ {T U G C : Type 0} (w : World T G C) (id : ClientParts) (r : Id) where
   call_follows offer known (Changed target x) s lacked did t about numbered alone h =
       of_client offer (same_client target id) s _ _ lacked did t
       (λ p q (no_memory, none, (y, becomes, same)). relinked_lives w.views id r offer p (with_transport p.link y) did q none same) h
-  call_follows offer known (Grown rows (Ok u)) s lacked did t about numbered alone h =
+  call_follows offer known (Grown (NewRows rows) (Ok u)) s lacked did t about numbered alone h =
       unfelt_stays offer (with_table offer (offer.table ++ rows)) s lacked did t
       (λ client_data. growth_stays w.views id client_data offer known rows) h
-  call_follows offer known (Grown rows (Err e)) s lacked did t about numbered alone h = unfelt_follows offer s lacked did t h
+  call_follows offer known (Grown (NewRows rows) (Err e)) s lacked did t about numbered alone h = unfelt_follows offer s lacked did t h
+  call_follows offer known (Grown (LongerRow more) answer) s lacked did t about numbered alone h =
+      unfelt_stays offer (with_table offer (after_extension offer.table more answer)) s lacked did t
+      (λ client_data. extension_stays w.views id client_data offer more answer) h
 
   -- ---- a run
 

@@ -4,6 +4,7 @@ use Rattle.std.specs.Prelude.{slice_get}
 use Rattle.std.proofs.lemmas.Bool.{cases_eq}
 use Rattle.std.proofs.lemmas.Option.{same_Some, slice_get_within, none-some}
 use Rattle.wl_wire.specs.Table.{InterfaceRow}
+use Rattle.wl_wire.proofs.Extension.{extended_length}
 use Rattle.wl_link.specs.declared.object.Object.{Object}
 use Rattle.wl_link.specs.Store.{held}
 use Rattle.wl_link.proofs.Ids.StoreLaws.{held_empty, removed_here, removed_other, rewritten_here, rewritten_other, stored_here, stored_other}
@@ -33,7 +34,7 @@ module _ {G : Type 0} where
 
 module _ {T U G C : Type 0} where
   pub after_call : (offer : Offer G) (call : Call T U G C) → HasInterfaces offer → AnswersShared offer call → HasInterfaces (offer_after offer call)
-  after_call offer h2 known n = grind (arith, cases_eq, same_Some, stored_here, length, slice_get, stored_other, new_global, slice_get_within, after_disabled, after_freed, length-append)
+  after_call offer h2 known n = grind (arith, cases_eq, same_Some, stored_here, length, slice_get, stored_other, new_global, slice_get_within, after_disabled, after_freed, length-append, extended_length)
 
   pub after_run : (offer : Offer G) (last : ℕ) (run : List (Entry T U G C)) (offer' : Offer G) (last' : ℕ) → HasInterfaces offer
       → SharedAlone offer last run offer' last' → HasInterfaces offer'

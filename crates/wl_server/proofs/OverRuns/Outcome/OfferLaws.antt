@@ -2,8 +2,8 @@
 use Rattle.std.proofs.Common.{◌≡◌, Bool, true, false, List, [], ◌∷◌, Result, refl, ap, ◌∙◌, true≢false, arith}
 use Rattle.std.specs.Prelude.{if◌then◌else◌, nat_le, slice_get}
 use Rattle.wl_wire.specs.declared.protocol.TableError.{TableError}
-use Rattle.wl_wire.specs.Table.{AnswersGrowth, InterfaceRow, grown}
-use Rattle.wl_wire.proofs.Growth.{AnswersGrowth-unique}
+use Rattle.wl_wire.specs.Table.{AnswersTo, Growth, table_after}
+use Rattle.wl_wire.proofs.Extension.{AnswersTo-unique}
 use Rattle.wl_server.specs.declared.error.GlobalError.{GlobalError}
 use Rattle.wl_server.specs.declared.runs.step.Reply.{Reply}
 use Rattle.wl_server.specs.declared.runs.step.Reply.TheVariants as reply
@@ -22,13 +22,13 @@ use Rattle.wl_server.specs.Steps.{Entry, AnswersShared, lacks_growth, offer_afte
 use Rattle.wl_link.proofs.Calls.NumberLaws.{full_not_absent, least_absent_one}
 use Rattle.wl_server.proofs.OverRuns.Outcome.NumberLaws.{global_is}
 
--- ---- interfaces that were to be added
+-- ---- a table that was to grow
 
 -- what is shared determines the answer
-pub growth_same : (T U G C : Type 0) (offer : Offer G) (rows rows' : List InterfaceRow) (p q : Result (Unit {0}) TableError) → rows ≡ rows'
+pub growth_same : (T U G C : Type 0) (offer : Offer G) (rows rows' : Growth) (p q : Result (Unit {0}) TableError) → rows ≡ rows'
     → lacks_growth {T = T} {U = U} {G = G} {C = C} (Grown rows p) ≡ false → lacks_growth {T = T} {U = U} {G = G} {C = C} (Grown rows' q) ≡ false
-    → AnswersGrowth offer.table rows p → AnswersGrowth offer.table rows' q → p ≡ q
-growth_same T U G C offer rows rows' p q same ample ample' n n' = grind (arith, true≢false, AnswersGrowth-unique)
+    → AnswersTo offer.table rows p → AnswersTo offer.table rows' q → p ≡ q
+growth_same T U G C offer rows rows' p q same ample ample' n n' = grind (arith, true≢false, AnswersTo-unique)
 
 module _ {T U G C : Type 0} where
   -- ---- a call
@@ -58,7 +58,7 @@ module _ {T U G C : Type 0} where
     shared_call (Asked s p) (Asked s' q) same own ample ample' n n' h g = grind (arith, shared_same, offer_one, offer_after)
     shared_call (Changed target t) (Changed target' t') same own ample ample' n n' h g = (tt, refl)
     shared_call (Grown rows p) (Grown rows' q) same own ample ample' n n' h g =
-        let answers = growth_same T U G C offer rows rows' p q same ample ample' n n' in (answers, (grind (arith, with_table, grown)))
+        let answers = growth_same T U G C offer rows rows' p q same ample ample' n n' in (answers, (grind (arith, with_table, table_after)))
     shared_call _ _ same own ample ample' n n' h g = absurd same
 
   -- ---- a run

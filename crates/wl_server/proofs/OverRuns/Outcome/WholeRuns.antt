@@ -23,7 +23,7 @@ use Rattle.wl_server.proofs.OverRuns.Outcome.SameNotes.{notes_one, out_one}
 use Rattle.wl_server.proofs.OverRuns.Outcome.WholeLaws.{ample_by, inserts_there, slots_same, whole_one}
 use Rattle.wl_server.specs.Outcome.Whole.{HoldsSame, PerformancesHaveOneOutcome, RunsHaveOneOutcome, SameServer, WholeAnswer}
 use Rattle.wl_server.proofs.OverRuns.Noted.NotesInOrder.{takes_of}
-use Rattle.wl_wire.specs.Table.{grown}
+use Rattle.wl_wire.specs.Table.{table_after}
 
 module _ {T U G C : Type 0} where
   -- how many clients a call inserts
@@ -88,7 +88,7 @@ module _ {T U G C : Type 0} where
         one.0,
         λ id. (each one.1 id).deeds,
         record {
-          held = grind (arith, offer_one, offer_after, with_table, grown, call_inserted, inserted_by, each one.1);
+          held = grind (arith, offer_one, offer_after, with_table, table_after, call_inserted, inserted_by, each one.1);
           order = λ counts. notes_one w s t x y e f (whole.order counts) (λ id. (each one.1 id).held) same_call ample.0 ample'.0 by by';
         },
       )

@@ -1,3 +1,4 @@
+use Rattle.wl_wire.proofs.Extension.{AnswersExtension-unique}
 use Rattle.wl_wire.proofs.Growth.{AnswersGrowth-unique}
 use Rattle.wl_server.proofs.OverRuns.Outcome.MoveLaws.{scripts_determined, transport_determined}
 use Rattle.wl_server.proofs.OverRuns.Outcome.NumberLaws.{inserts_next_one, global_is}
@@ -21,5 +22,6 @@ returns g c = record {
   client = inserts_next_one;
   global = λ table globals i version a b ok ok' h g. grind (arith, slice_get, nat_le, global_is, least_absent_one, name_range, full_not_absent);
   interfaces = AnswersGrowth-unique;
+  messages = AnswersExtension-unique;
   cleanup = shares_one;
 }
