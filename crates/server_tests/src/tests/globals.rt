@@ -1,12 +1,12 @@
 //! Globals: who is told of them, and who may bind them.
 
-use super::run::{Act, Look, Row, rows_tell};
+use super::run::{Act, Look, Row, WITH_A_QUAD, rows_tell};
 use server_test_kit::arrivals::{BIND, DESTROY, GET_REGISTRY};
 use server_test_kit::steps::Call;
-use server_test_kit::values::{BOUND, FIRST, Named, SECOND, THIRD, Who};
+use server_test_kit::values::{BOUND, Event, FIRST, Named, SECOND, THIRD, Who};
 use std::test::Fail;
 use test_kit::quad::QUAD;
-use wl_wire::{InterfaceId, IoFault};
+use wl_wire::{InterfaceId, IoFault, WL_REGISTRY_INTERFACE};
 
 /// The first global.
 const GLOBAL: Named = Named(1, 1);
@@ -14,8 +14,11 @@ const GLOBAL: Named = Named(1, 1);
 /// The interface that a server with the two of the tests takes next.
 const ADDED: InterfaceId = InterfaceId(6);
 
+/// To the `quad` of the number 3: `poke` of 5, and the request 5, which a longer `quad` has.
+const POKE_AND_TIP: [u8; 20] = [3, 0, 0, 0, 0, 0, 12, 0, 5, 0, 0, 0, 3, 0, 0, 0, 5, 0, 8, 0];
+
 /// The runs, and what they tell.
-static ROWS: [Row; 9] = [
+static ROWS: [Row; 10] = [
     // A registry is told of the globals, of one that is disabled once, and of a new one of a name that was used.
     Row {
         name: "registry is told",
@@ -196,6 +199,33 @@ static ROWS: [Row; 9] = [
             Act::Look(Look::Global(GLOBAL)),
         ],
         told: "client 0, 1\nIo error: would block\nglobal 1, 1\ndone\n02 00 00 00 00 00 1c 00 01 00 00 00 05 00 00 00 71 75 61 64 00 00 00 00 03 00 00 00\nthe interface is not in the table\ndone\ndone\ninterface 0: the name is taken\nglobal 2, 2\ndone\n02 00 00 00 00 00 1c 00 02 00 00 00 05 00 00 00 73 6f 6c 6f 00 00 00 00 01 00 00 00\ninterface 4, version 3, disabled: false\n",
+    },
+    // A `quad` gets the request 5 and the event 3, and its interface the version 4. The request came before, with one that was
+    // read, and is handed out; there is no request 6. A global that was created keeps its version. Only the program's interfaces
+    // are extended.
+    Row {
+        name: "an interface is extended",
+        acts: &[
+            Act::Quietly(&WITH_A_QUAD),
+            Act::Do(Call::Send(Event::Bare(BOUND, 3))),
+            Act::Do(Call::Global(QUAD, 4)),
+            Act::Do(Call::Arrive(FIRST, &POKE_AND_TIP)),
+            Act::Do(Call::Next(FIRST)),
+            Act::Do(Call::Finish(FIRST, None)),
+            Act::Extend(ADDED, 4),
+            Act::Extend(WL_REGISTRY_INTERFACE, 2),
+            Act::Extend(QUAD, 4),
+            Act::Do(Call::Next(FIRST)),
+            Act::Do(Call::Finish(FIRST, None)),
+            Act::Do(Call::Send(Event::Bare(BOUND, 3))),
+            Act::Do(Call::Global(QUAD, 4)),
+            Act::Look(Look::Global(GLOBAL)),
+            Act::Do(Call::FlushAll),
+            Act::Do(Call::TakeSent(FIRST)),
+            Act::Do(Call::Arrive(FIRST, &[3, 0, 0, 0, 6, 0, 8, 0])),
+            Act::Do(Call::Next(FIRST)),
+        ],
+        told: "the interface has no event of that opcode\nthe version is above the interface's\nrequest 0 to 3, 2, 4 of 0: 5\nfinished\ninterface 0: a message names an interface outside the table\ninterface 0: a message names an interface outside the table\ndone\nrequest 5 to 3, 2, 4 of 0\nfinished\ndone\nglobal 2, 2\ninterface 4, version 3, disabled: false\ndone\n03 00 00 00 03 00 08 00 02 00 00 00 00 00 1c 00 02 00 00 00 05 00 00 00 71 75 61 64 00 00 00 00 04 00 00 00\nIo error: protocol fault\n",
     },
     // Slots are used again, serials are not.
     Row {

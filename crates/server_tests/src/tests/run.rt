@@ -8,7 +8,7 @@ use std::fmt::{Display, Write};
 use std::test::Fail;
 use test_kit::cuts::{Cut, Stream};
 use test_kit::log::row_tells;
-use test_kit::quad::{QUAD, push_interface, quad_table};
+use test_kit::quad::{QUAD, messages, plain, push_interface, quad_table};
 use wl_link::Memory;
 use wl_server::{Action, ActionError, Backend, ClientId, ObjectId, Reading, Reply};
 use wl_wire::{InterfaceId, IoFault};
@@ -37,6 +37,9 @@ pub enum Act {
     Quietly(&'static [Call]),
     /// Adds an interface of this name and of version 1, which has no messages, and tells the answer.
     Add(&'static str),
+    /// Adds a request and an event `tip`, without arguments, to an interface, which then has at least this version, and tells
+    /// the answer.
+    Extend(InterfaceId, u32),
     /// Makes a call beside one of those of `Do`.
     Beside(Beside),
     /// Looks at something.
@@ -589,6 +592,24 @@ fn add(alloc: Global, server: &mut Server, log: &mut String, name: &str) -> Resu
     done(log, &answer)
 }
 
+/// Adds a request and an event to the interface, for which there is to be memory, and tells the answer.
+fn extend(
+    alloc: Global,
+    server: &mut Server,
+    log: &mut String,
+    interface: InterfaceId,
+    version: u32,
+) -> Result<(), Fail> {
+    let tip = [plain("tip", 1, &[])];
+    let requests = messages(alloc, &tip)?;
+    let events = messages(alloc, &tip)?;
+    let answer = server.extend_interface(interface, version, requests, events);
+    if server.memory_refused() {
+        return Err(Fail::new("memory was refused"));
+    }
+    done(log, &answer)
+}
+
 /// Looks at it.
 fn look_at(alloc: Global, server: &Server, log: &mut String, at_what: Look) -> Result<(), Fail> {
     match at_what {
@@ -633,6 +654,7 @@ fn perform_act(alloc: Global, server: &mut Server, log: &mut String, act: Act) -
         Act::GlobalInWant => global_in_want(server, log),
         Act::TakeOut => take_out(server, log),
         Act::Add(name) => add(alloc, server, log, name),
+        Act::Extend(interface, version) => extend(alloc, server, log, interface, version),
         Act::Beside(call) => make_beside(alloc, server, log, call),
         Act::Look(what) => look_at(alloc, server, log, what),
         _ => prepare(alloc, server, act),
