@@ -43,7 +43,7 @@ use Rattle.wl_wire.specs.declared.error.IoFault.{IoFault}
 use Rattle.wl_wire.specs.declared.error.OutOfMemory.{OutOfMemory}
 use Rattle.wl_wire.specs.declared.interface.InterfaceId.{InterfaceId}
 use Rattle.wl_wire.specs.declared.protocol.TableError.{TableError}
-use Rattle.wl_wire.specs.Table.{InterfaceRow}
+use Rattle.wl_wire.specs.Table.{Growth, InterfaceRow}
 use Rattle.wl_host.proofs.Asking.{one_client}
 use Rattle.wl_host.proofs.Killing.{came_to_last, next_action_says, says_killed}
 use Rattle.wl_host.specs.Calls.{CoreState, world}
@@ -262,8 +262,8 @@ module _ (b a : CoreState) where
   pub default_kills : (limit : ℕ) → Calls world b (step.SetDefaultMaxBufferSize limit) reply.SetDefaultMaxBufferSize a → KillsNobody b a
   default_kills limit call = by_each _ _ call (λ id lacked did h k. unfelt (seen id b.server) (seen id a.server) lacked did h.1 k)
 
-  pub interfaces_kill : (interfaces : List InterfaceRow) (answer : Result (Unit {0}) TableError) → IsGrowth world b interfaces answer a → KillsNobody b a
-  interfaces_kill interfaces answer growth id k =
+  pub growth_kills : (more : Growth) (answer : Result (Unit {0}) TableError) → IsGrowth world b more answer a → KillsNobody b a
+  growth_kills more answer growth id k =
       let (e, is, refused, one) = growth.step in
       let none = subst (λ (c : Call MailboxState ℕ HostGlobal HostClient).
       PartCall world id b.server.offer c (seen id b.server) (e.lacks id) (e.did id) (seen id a.server)) is (one.each id) in

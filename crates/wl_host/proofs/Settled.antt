@@ -19,9 +19,10 @@ use Rattle.wl_server.specs.Lending.{state_over}
 use Rattle.wl_server.specs.Lookups.{transport_of}
 use Rattle.wl_server.specs.Plain.{action_in, killed_in}
 use Rattle.wl_server.specs.Reading.{action_content}
+use Rattle.wl_wire.specs.Table.{NewRows}
 use Rattle.wl_wire.specs.declared.error.OutOfMemory.{OutOfMemory}
 use Rattle.wl_host.proofs.Killing.{says_killed}
-use Rattle.wl_host.proofs.Marking.{KillsNobody, action_kills, cleanup_leaves_none, creates_kills, finish_bind_kills, finish_request_kills, flush_kills, insert_kills, interfaces_kill, mailbox_kills, notes_kill, refused_global_kills, set_data_kills}
+use Rattle.wl_host.proofs.Marking.{KillsNobody, action_kills, cleanup_leaves_none, creates_kills, finish_bind_kills, finish_request_kills, flush_kills, insert_kills, growth_kills, mailbox_kills, notes_kill, refused_global_kills, set_data_kills}
 use Rattle.wl_host.specs.Actions.{EndsBind, EndsRequest, Lent, NextAction, ReadsNext, ended, is_killed_by, marked_if}
 use Rattle.wl_host.specs.Calls.{CoreState, CreatesGlobal, CreatesObject, InsertsClient, SetsObjectData, flattened, interface_of, world}
 use Rattle.wl_host.specs.Clients.{SetsRoom, inserted}
@@ -170,7 +171,7 @@ pub interfaces_settled : (b a : ServerState) (rows : Rows) (result : Result (Uni
     → StaysSettled b a
 interfaces_settled b a rows result h e =
     stays_by b a (elim h [
-      | inl asked ↦ interfaces_kill b.core a.core asked.0 asked.1 asked.3
+      | inl asked ↦ growth_kills b.core a.core (NewRows asked.0) asked.1 asked.3
       | inr refused ↦ kills_same b.core a.core refused.3
     ])
     (ap (λ (s : ServerState). s.may_clean_up) e)

@@ -1,7 +1,7 @@
 -- Which table a session has: when it is made for rows, and when the interfaces of more rows are added.
 use Rattle.std.specs.Prelude.{◌≡◌, ◌⊎◌, [], ◌++◌, List, false, None, Result, Ok, Err}
 use Rattle.wl_wire.specs.declared.protocol.TableError.{TableError}
-use Rattle.wl_wire.specs.Table.{AnswersGrowth, InterfaceRow, IsAcceptedTable, IsFirstFault, fixed_rows, grown, refused_growth}
+use Rattle.wl_wire.specs.Table.{AnswersGrowth, InterfaceRow, IsAcceptedTable, IsFirstFault, NewRows, fixed_rows, grown, refused_growth}
 use Rattle.wl_client.specs.Session.{IsConnected}
 use Rattle.wl_server.specs.Backend.{IsGrowth}
 use Rattle.wl_server.specs.Globals.{new_offer}
@@ -63,7 +63,7 @@ IsNewClient rows s = (table : List InterfaceRow) × IsTableOf rows table × IsCo
 abbrev pub AddsInterfaces : Rows → CoreState → Result (Unit {0}) TableFault → CoreState → Type 0
 AddsInterfaces rows before result after =
     ((interfaces : List InterfaceRow) × (answer : Result (Unit {0}) TableError) × (said_by rows ≡ Ok interfaces)
-    × IsGrowth world before interfaces answer after × (result ≡ table_answer answer))
+    × IsGrowth world before (NewRows interfaces) answer after × (result ≡ table_answer answer))
     ⊎ ((fault : TableFault) × RefusesRows rows fault × (result ≡ Err fault) × (after ≡ before))
 
 -- and so of a client's session
