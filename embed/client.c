@@ -205,6 +205,8 @@ static void act(void)
     nb_status status;
     uint32_t is_kept;
     while ((status = nb_client_next_event(&session, &event, arguments, MOST_ARGUMENTS, bytes, sizeof bytes)) == NB_OK) {
+        if (event.forbidden_null != 0)
+            fail("the server sent a null that the interface does not allow");
         handle(&event, arguments);
         /* The data stand for nothing, so nothing has to be freed if they are not kept. */
         status = nb_is_null(&event.created) ? nb_client_finish_event(&session)

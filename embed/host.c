@@ -452,12 +452,21 @@ static nb_status finish(struct client *client, const nb_action *action, struct o
     return kept ? status : NB_CLOSED;
 }
 
+/* A request with a null that its interface does not allow: its client ends. */
+static void refuse(const struct client *client, const nb_action *action)
+{
+    post_error(&action->sender, NB_WL_DISPLAY_ERROR_INVALID_METHOD, "an argument is null and may not be");
+    nb_server_finish_request(&server, &client->id);
+}
+
 static void take(struct client *client, const nb_action *action, const nb_argument *arguments)
 {
     struct object *made;
     if (is_logging)
         log_action(client, action);
-    if (finish(client, action, &made) != NB_OK)
+    if (action->forbidden_null != 0)
+        refuse(client, action);
+    else if (finish(client, action, &made) != NB_OK)
         nb_server_kill_client(&server, &client->id);
     else if (action->kind == NB_BIND)
         greet(&action->created, action->version);

@@ -46,6 +46,17 @@
  * yours. A session never looks at it: 0 is data like any other, and an object that was given 0 is noted, too. Where
  * `data` is answered for an object that has none, it is 0.
  *
+ * Nulls. A peer may send a null string where the table allows none, and a server also a null object. The session hands
+ * such a message out, and says so: `forbidden_null` of the action or event is the place of the first such argument,
+ * counted from 1, and 0 if there is none. A null string has no bytes, and a null object no data. So look at that number
+ * before the arguments. A server's host ends the client:
+ *
+ *     if (action.forbidden_null != 0) {
+ *         nb_server_post_error(&server, &action.sender, NB_WL_DISPLAY_ERROR_INVALID_METHOD, text, length);
+ *         nb_server_finish_request(&server, &client);
+ *
+ * and a client's host ends its session. Descriptors of the message are the host's all the same.
+ *
  * Descriptors. Each descriptor has one owner at a time.
  *
  *   - What you hand to nb_server_received, nb_server_send_event, nb_client_received or nb_client_send_request is the
@@ -330,31 +341,34 @@ typedef struct {
 
 enum { NB_REQUEST = 1, NB_BIND = 2 };
 
-/* What a client asks of the server: 112 bytes. It is open until it is finished. */
+/* What a client asks of the server: 120 bytes. It is open until it is finished. */
 typedef struct {
-    uint32_t kind;          /* NB_REQUEST, or NB_BIND: an object was bound to a global */
-    uint32_t opcode;        /* of a request; its index among the requests of the sender's interface */
-    uint32_t arguments;     /* of a request: how many */
-    uint32_t is_destructor; /* of a request: whether finishing it ends its sender (0 or 1) */
-    nb_object_id sender;    /* of a request: the object that it was sent to. Null for a bind */
-    uint64_t data;          /* of the sender, or of the global */
-    nb_object_id created;   /* the object that was made or bound; null if none was */
-    uint32_t version;       /* of `created`; 0 if none was */
-    uint32_t bytes;         /* how many bytes its strings and arrays take */
-    nb_global_id global;    /* of a bind */
+    uint32_t kind;           /* NB_REQUEST, or NB_BIND: an object was bound to a global */
+    uint32_t opcode;         /* of a request; its index among the requests of the sender's interface */
+    uint32_t arguments;      /* of a request: how many */
+    uint32_t is_destructor;  /* of a request: whether finishing it ends its sender (0 or 1) */
+    nb_object_id sender;     /* of a request: the object that it was sent to. Null for a bind */
+    uint64_t data;           /* of the sender, or of the global */
+    nb_object_id created;    /* the object that was made or bound; null if none was */
+    uint32_t version;        /* of `created`; 0 if none was */
+    uint32_t bytes;          /* how many bytes its strings and arrays take */
+    nb_global_id global;     /* of a bind */
+    uint32_t forbidden_null; /* of a request: 0, or the place, counted from 1, of the first argument that is null where
+                                the table allows no null: refuse it ("Nulls" at the head of this file) */
 } nb_action;
 
-/* What the server tells a client: 96 bytes. It is open until it is finished. */
+/* What the server tells a client: 104 bytes. It is open until it is finished. */
 typedef struct {
-    uint32_t opcode;        /* its index among the events of the sender's interface */
-    uint32_t arguments;     /* how many */
-    uint32_t is_destructor; /* whether finishing it ends its sender (0 or 1) */
-    uint32_t bytes;         /* how many bytes its strings and arrays take */
-    nb_object_id sender;    /* the object that it was sent to */
-    uint64_t data;          /* of the sender; 0 if it has none */
-    nb_object_id created;   /* the object that the event made; null if none was */
-    uint32_t version;       /* of `created`; 0 if none was */
-    uint32_t has_data;      /* whether the sender has data (0 or 1) */
+    uint32_t opcode;         /* its index among the events of the sender's interface */
+    uint32_t arguments;      /* how many */
+    uint32_t is_destructor;  /* whether finishing it ends its sender (0 or 1) */
+    uint32_t bytes;          /* how many bytes its strings and arrays take */
+    nb_object_id sender;     /* the object that it was sent to */
+    uint64_t data;           /* of the sender; 0 if it has none */
+    nb_object_id created;    /* the object that the event made; null if none was */
+    uint32_t version;        /* of `created`; 0 if none was */
+    uint32_t has_data;       /* whether the sender has data (0 or 1) */
+    uint32_t forbidden_null; /* as of an action: 0, or the place of the first argument that is null and may not be */
 } nb_event;
 
 /* What a client asks its session to send: 64 bytes. */
@@ -413,7 +427,8 @@ enum { NB_NO_ERROR = 0, NB_ERROR_OF_IO = 1, NB_ERROR_OF_PROTOCOL = 2 };
 /* The error of a client's session. */
 typedef struct {
     uint32_t kind;    /* NB_NO_ERROR, NB_ERROR_OF_IO, NB_ERROR_OF_PROTOCOL */
-    nb_status status; /* of NB_ERROR_OF_IO: NB_CLOSED, NB_PROTOCOL_ERROR, NB_TOO_BIG or NB_IO_ERROR */
+    nb_status status; /* of NB_ERROR_OF_IO: NB_CLOSED, NB_PROTOCOL_ERROR, NB_TOO_BIG or NB_IO_ERROR; or
+                         NB_OUT_OF_MEMORY: there was none for the text of an error of the protocol */
     int32_t number;   /* of NB_IO_ERROR: that of the system, as the host told it */
     uint32_t code,
         object_number; /* of NB_ERROR_OF_PROTOCOL: what the server said. 0 and 0 if the server broke the protocol */

@@ -43,6 +43,10 @@ static int act(void)
     uint32_t kept;
     int is_done = 0;
     while ((status = nb_client_next_event(&session, &event, arguments, 20, bytes, sizeof bytes)) == NB_OK) {
+        if (event.forbidden_null != 0) {
+            fprintf(stderr, "the server sent a null that the interface does not allow\n");
+            exit(1);
+        }
         if (event.sender.interface == NB_WL_REGISTRY && event.opcode == NB_WL_REGISTRY_EVENT_GLOBAL)
             printf("%u: %.*s %u\n", nb_uint_of(&arguments[0]), (int)arguments[1].length,
                    (const char *)bytes + arguments[1].at, nb_uint_of(&arguments[2]));

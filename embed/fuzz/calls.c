@@ -229,6 +229,17 @@ static void saw_info(const nb_object_info *info)
     saw(info->version);
 }
 
+/* The argument at this place, counted from 1, is null; 0 is none. */
+static void check_null(uint32_t place, uint32_t count)
+{
+    must(place <= count, "the null that is told of is an argument");
+    if (place > 0) {
+        const nb_argument *told = &arguments[place - 1];
+        must(told->kind == NB_NULL_STRING || (told->kind == NB_OBJECT && nb_is_null(&told->object)), "it is null");
+    }
+    saw(place);
+}
+
 static void next_action(void)
 {
     nb_client_id id = any_client();
@@ -246,6 +257,7 @@ static void next_action(void)
         saw(action.version);
         saw_global(&action.global);
         check_arguments(action.arguments, room, action.bytes, byte_room, objects);
+        check_null(action.forbidden_null, action.arguments);
         keep(objects, action.created);
         keep(objects, action.sender);
     } else if (status == NB_TOO_SMALL) {
@@ -270,6 +282,7 @@ static void next_event(void)
         saw(event.version);
         saw(event.has_data);
         check_arguments(event.arguments, room, event.bytes, byte_room, own);
+        check_null(event.forbidden_null, event.arguments);
         keep(own, event.created);
         keep(own, event.sender);
     } else if (status == NB_TOO_SMALL) {

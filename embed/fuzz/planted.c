@@ -1,4 +1,5 @@
-/* A fault for corpus.c to find, linked by -Wl,--wrap=nb_server_to_send: the last byte that is to be sent is another. */
+/* A fault for corpus.c, talk.c and beside.c to find, linked by -Wl,--wrap=nb_server_to_send: the last byte that is to
+ * be sent is another. */
 #include <numbyroga.h>
 
 nb_status __real_nb_server_to_send(nb_server *place, const nb_client_id *client, uint8_t *bytes, size_t byte_room,

@@ -41,7 +41,7 @@ AT(nb_argument, at, 8);
 AT(nb_argument, length, 12);
 AT(nb_argument, object, 16);
 AT(nb_argument, data, 48);
-SIZE(nb_action, 112);
+SIZE(nb_action, 120);
 AT(nb_action, opcode, 4);
 AT(nb_action, arguments, 8);
 AT(nb_action, is_destructor, 12);
@@ -51,7 +51,8 @@ AT(nb_action, created, 56);
 AT(nb_action, version, 88);
 AT(nb_action, bytes, 92);
 AT(nb_action, global, 96);
-SIZE(nb_event, 96);
+AT(nb_action, forbidden_null, 112);
+SIZE(nb_event, 104);
 AT(nb_event, arguments, 4);
 AT(nb_event, is_destructor, 8);
 AT(nb_event, bytes, 12);
@@ -60,6 +61,7 @@ AT(nb_event, data, 48);
 AT(nb_event, created, 56);
 AT(nb_event, version, 88);
 AT(nb_event, has_data, 92);
+AT(nb_event, forbidden_null, 96);
 SIZE(nb_request, 64);
 AT(nb_request, opcode, 32);
 AT(nb_request, has_data, 36);
@@ -120,7 +122,7 @@ int main(void)
           action.is_destructor == 0);
     HOLDS(nb_same_object(&action.sender, &object) && action.data == 77 && nb_is_null(&action.created) &&
           action.version == 0);
-    HOLDS(action.bytes == 9);
+    HOLDS(action.bytes == 9 && action.forbidden_null == 0);
     HOLDS(arguments[0].kind == NB_STRING && arguments[0].length == 4 &&
           memcmp(bytes + arguments[0].at, "text", 4) == 0);
     HOLDS(arguments[1].kind == NB_ARRAY && arguments[1].length == 5 &&

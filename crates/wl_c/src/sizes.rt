@@ -31,9 +31,9 @@ const _: () = prove!(size_of::<TableFault>() == 8);
 
 const _: () = prove!(size_of::<FlatArgument>() == 56);
 
-const _: () = prove!(size_of::<FlatAction>() == 112);
+const _: () = prove!(size_of::<FlatAction>() == 120);
 
-const _: () = prove!(size_of::<FlatEvent>() == 96);
+const _: () = prove!(size_of::<FlatEvent>() == 104);
 
 const _: () = prove!(size_of::<FlatRequest>() == 64);
 

@@ -1,5 +1,6 @@
 -- The actions of clients: as flat structs, and what the calls that hand them out and end them do.
 use Rattle.std.specs.Prelude.{◌≡◌, ◌&&◌, ℕ, ℤ, List, [], length, nat_le, Bool, true, false, MatchBool, Option, None, Some, Result, Ok, Err, MatchOption, MatchResult, if◌then◌else◌}
+use Rattle.wl_wire.specs.MessageRows.{request_row}
 use Rattle.wl_wire.specs.declared.argument.Argument.{Argument}
 use Rattle.wl_wire.specs.declared.argument.Token.{Token}
 use Rattle.wl_wire.specs.declared.error.IoFault.TheVariants as fault
@@ -19,6 +20,7 @@ use Rattle.wl_host.specs.Arguments.{all_bytes, descriptors_out, flat_arguments, 
 use Rattle.wl_host.specs.Calls.{CoreState, bit_of, data_or_zero, global_data_or_zero, kept_by, version_or_zero, world}
 use Rattle.wl_host.specs.Flat.{count_number, flat_global, flat_resource, no_action, no_object, over_front}
 use Rattle.wl_host.specs.Kinds as kinds
+use Rattle.wl_host.specs.Nulls.{forbidden_null, signature_of}
 use Rattle.wl_host.specs.Seats.{ledger_of, listed, with_ledger}
 use Rattle.wl_host.specs.Server.{ServerState}
 use Rattle.wl_host.specs.Status.{of_action}
@@ -54,7 +56,7 @@ version_created core (Some id) = version_or_zero core id
 abbrev pub flat_needs : Handed → FlatAction
 flat_needs h = record no_action { arguments = count_number (length (args_of h)); bytes = count_number (length (all_bytes (args_of h))) }
 
--- with what the core knows of its objects and of its global
+-- with what the core knows of its objects, its signature and its global
 abbrev pub flat_action : CoreState → Handed → FlatAction
 flat_action core (deeds.Request sender opcode args is_destructor created) = record {
   kind = kinds.request;
@@ -67,6 +69,7 @@ flat_action core (deeds.Request sender opcode args is_destructor created) = reco
   version = version_created core created;
   bytes = count_number (length (all_bytes args));
   global = no_action.global;
+  forbidden_null = forbidden_null flat_resource (signature_of (request_row core.server.offer.table sender.interface opcode)) args;
 }
 flat_action core (deeds.Bind global object) = record {
   kind = kinds.bind;
@@ -79,6 +82,7 @@ flat_action core (deeds.Bind global object) = record {
   version = version_or_zero core object;
   bytes = 0;
   global = flat_global global;
+  forbidden_null = 0;
 }
 
 -- ---- the next action of a client

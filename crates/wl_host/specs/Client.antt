@@ -1,6 +1,7 @@
 -- What a client's session holds for its host, and what its calls do, in the words of its core.
 use Rattle.std.specs.List.{count_by}
 use Rattle.std.specs.Prelude.{◌≡◌, ℕ, ℤ, ◌+◌, ◌++◌, ◌≤◌, ◌^◌, ◌⊎◌, ◌==◌, ◌&&◌, List, [], ◌∷◌, length, map, nat_le, Bool, true, false, if◌then◌else◌, Option, None, Some, is_some, unwrap_or, Result, Ok, Err, MatchBool, MatchOption}
+use Rattle.wl_wire.specs.MessageRows.{event_row}
 use Rattle.wl_wire.specs.declared.argument.Argument.{Argument}
 use Rattle.wl_wire.specs.declared.argument.Token.{Token}
 use Rattle.wl_wire.specs.declared.interface.ObjectInfo.{ObjectInfo}
@@ -38,6 +39,7 @@ use Rattle.wl_host.specs.Arrivals.{Arrives}
 use Rattle.wl_host.specs.Calls.{flattened}
 use Rattle.wl_host.specs.Descriptors.{Conserves, Descriptors, given_up, kept_in, last_held, put_in}
 use Rattle.wl_host.specs.Flat.{count_number, flat_proxy, interface_number, over_front, proxy_of}
+use Rattle.wl_host.specs.Nulls.{forbidden_null, signature_of}
 use Rattle.wl_host.specs.Sending.{came_out, mailbox_after, queue_after}
 use Rattle.wl_host.specs.Status.{of_finish_event, of_flush, of_next_event, of_proxy_destroy, of_request}
 
@@ -312,6 +314,7 @@ flat_event core event = record {
   created = flat_proxy (created_by core.session.open_event);
   version = version_in (info_of core.session (created_by core.session.open_event));
   has_data = bit_of (is_some (user_data_of core.session event.sender));
+  forbidden_null = forbidden_null flat_proxy (signature_of (event_row core.session.table event.sender.interface event.opcode)) event.args;
 }
 
 -- what the host lends for an event: the event itself, its arguments and their bytes

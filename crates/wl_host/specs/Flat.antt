@@ -91,4 +91,5 @@ no_action = record {
   version = 0;
   bytes = 0;
   global = no_global;
+  forbidden_null = 0;
 }

@@ -15,6 +15,7 @@ pub mod Kinds
 pub mod Lent
 pub mod Lists
 pub mod Notes
+pub mod Nulls
 pub mod Rows
 pub mod Seats
 pub mod Sending

@@ -129,6 +129,9 @@ pub struct FlatAction {
     pub bytes: u32,
     /// The global of a bind.
     pub global: FlatGlobalId,
+    /// The place of the first argument of a request that is null where the table allows no null, counted from 1; 0 if there is
+    /// none.
+    pub forbidden_null: u32,
 }
 
 /// An event that a client received.
@@ -153,6 +156,8 @@ pub struct FlatEvent {
     pub version: u32,
     /// 1 if the sender has data; else 0.
     pub has_data: u32,
+    /// The place of the first argument that is null where the table allows no null, counted from 1; 0 if there is none.
+    pub forbidden_null: u32,
 }
 
 /// A request that a client sends, without its arguments.
@@ -465,6 +470,7 @@ impl FlatAction {
             version: 0,
             bytes: 0,
             global: FlatGlobalId::none(),
+            forbidden_null: 0,
         }
     }
 }

@@ -9,6 +9,7 @@ ghost use Rattle.wl_server.specs.Ids.{ClientParts, IdParts};
 ghost use Rattle.wl_server.specs.declared.runs.step.Reply.TheVariants as reply;
 ghost use Rattle.wl_server.specs.declared.runs.step.Step.TheVariants as step;
 ghost use Rattle.wl_wire.specs.declared.argument.Argument.{Argument};
+ghost use Rattle.wl_wire.specs.declared.argument.ArgumentType.{ArgumentType};
 ghost use Rattle.wl_wire.specs.declared.argument.Token.{Token};
 ghost use Rattle.wl_host.specs.Actions.{EndsBind, EndsRequest, Lent, NextAction};
 ghost use Rattle.wl_host.specs.Arguments.{ComesBack, all_bytes, arguments_of, flat_arguments, moved};
@@ -19,6 +20,7 @@ ghost use Rattle.wl_host.specs.Events.{Passed, PostsError, SendsEvent};
 ghost use Rattle.wl_host.specs.Flat.{flat_proxy, flat_resource, proxy_of, resource_of};
 ghost use Rattle.wl_host.specs.Killed.{IsSettled, KnowsEnd, StaysSettled};
 ghost use Rattle.wl_host.specs.Notes.{NextNote};
+ghost use Rattle.wl_host.specs.Nulls.{TellsNull, forbidden_null};
 ghost use Rattle.wl_host.specs.Server.{CleansUp, Ends, NextWritable, Received, Sent, ServerState};
 ghost use Rattle.wl_host.specs.Tables.{AddsInterfaces, IsNewServer};
 ghost use Rattle.wl_host.specs.declared.flat.FlatArgument.{FlatArgument};
@@ -36,6 +38,13 @@ ghost use Rattle.wl_host.specs.declared.status.Status.{Status};
 pub fn flat_arguments_come_back()
     ensures server { (user_data : IdParts → ℕ) (out_of into : Descriptors) (args : List (Argument IdParts Token)) → AllByRecursion (ComesBack flat_resource resource_of) args → length (all_bytes args) < 2 ^ 32 → arguments_of resource_of (all_bytes args) into (flat_arguments flat_resource user_data out_of 0 args) ≡ Some (moved out_of into args) }
     ensures client { (user_data : ProxyParts → ℕ) (out_of into : Descriptors) (args : List (Argument ProxyParts Token)) → AllByRecursion (ComesBack flat_proxy proxy_of) args → length (all_bytes args) < 2 ^ 32 → arguments_of proxy_of (all_bytes args) into (flat_arguments flat_proxy user_data out_of 0 args) ≡ Some (moved out_of into args) }
+{}
+
+/// What an action of a server's session, and an event of a client's, tells of nulls is 0 if no argument is null where the signature
+/// allows no null. Else it is the place of the first such argument, counted from 1.
+pub fn a_forbidden_null_is_told()
+    ensures server { (signature : List ArgumentType) (args : List (Argument IdParts Token)) → TellsNull flat_resource signature args (forbidden_null flat_resource signature args) }
+    ensures client { (signature : List ArgumentType) (args : List (Argument ProxyParts Token)) → TellsNull flat_proxy signature args (forbidden_null flat_proxy signature args) }
 {}
 
 /// While the next `cleanup` of a server's session would not look for killed clients, nobody is killed: a new session is so, and

@@ -15,8 +15,9 @@
 //! | the table of interfaces as rows | `rows` | `Rows`, `Tables` |
 //! | which client sees which global | `server`, `server::hidden` | `Visibility` |
 //! | arguments of messages, from flat structs and into lent memory | `arguments` | `Arguments` |
-//! | a law of the flat structs | `laws` | `Arguments` |
+//! | laws of the flat structs | `laws` | `Arguments`, `Nulls` |
 //! | which file descriptor a token stands for | `descriptors` | `Descriptors` |
+//! | nulls that the table forbids | `nulls` | `Nulls` |
 #![tactic(auto)]
 
 mod arguments;
@@ -25,6 +26,7 @@ mod descriptors;
 mod flat;
 mod incoming;
 mod laws;
+mod nulls;
 mod outgoing;
 mod rows;
 mod server;
@@ -36,7 +38,7 @@ pub use flat::{
     FlatGlobalId, FlatGlobalInfo, FlatNote, FlatObjectId, FlatObjectInfo, FlatRequest, Gone,
     INSERTED, IO, KILLED, PROTOCOL, REQUEST, kind,
 };
-pub use laws::flat_arguments_come_back;
+pub use laws::{a_forbidden_null_is_told, flat_arguments_come_back};
 pub use rows::{ArgumentRow, InterfaceRow, MessageRow, Rows, TableFault, fault};
 pub use server::{HostClient, HostGlobal, Server};
 pub use status::Status;

@@ -1,6 +1,6 @@
 //! What a test does with a server's session, and what it tells.
 
-use crate::tests::rows::{NOTE, TABLE};
+use crate::tests::rows::{KNOT, NOTE, TABLE};
 use crate::tests::session::Session;
 use crate::tests::told::{
     NO_ARGUMENT, NOBODY, NOTHING, NULL, bytes_of, tell_counts, tell_descriptor, tell_kept,
@@ -27,6 +27,8 @@ pub enum Act {
     Sees(FlatClientId),
     /// The interface `note` is added to the table.
     AddNote,
+    /// The interface `knot` is added to the table.
+    AddKnot,
     /// A send to the client failed.
     SendFailed(FlatClientId),
     /// The client is killed.
@@ -120,6 +122,7 @@ fn tell_action(
             ("version", u64::from(action.version)),
             ("arguments", u64::from(action.arguments)),
             ("bytes", u64::from(action.bytes)),
+            ("null", u64::from(action.forbidden_null)),
         ],
     )?;
     tell_objects(log, &[("by", action.sender), ("made", action.created)])?;
@@ -251,6 +254,7 @@ fn on_clients(log: &mut String, server: &mut Server, act: &Act) -> Result<Status
             Ok(Status::Ok)
         }
         Act::AddNote => told_table(log, server.add_interfaces(&NOTE)),
+        Act::AddKnot => told_table(log, server.add_interfaces(&KNOT)),
         _ => Err(Fail::new("no act of this kind")),
     }
 }

@@ -37,8 +37,23 @@ const TO_LIVE: &[u32] = &[4, 0x00080001];
 /// One of each.
 const TO_BOTH: &[u32] = &[3, 0x00080001, 4, 0x00080001];
 
+/// `knot.tied` by the object 4, of no object, the object 3, a null string and "x": that is allowed.
+const TIED: &[u32] = &[4, 0x001c0000, 0, 3, 0, 2, 0x78];
+
+/// The same of no objects and null strings. The second object and the second string may not be null.
+const TIED_NULLS: &[u32] = &[4, 0x00180000, 0, 0, 0, 0];
+
+/// The same of the object 3, twice, and null strings.
+const TIED_LAST_NULL: &[u32] = &[4, 0x00180000, 3, 3, 0, 0];
+
+/// `pad.moved` by the object 3, of 0.
+const MOVED: &[u32] = &[3, 0x000c0000, 0];
+
+/// `wl_registry.global` with a null name, which is not allowed.
+const GLOBAL_NULL: &[u32] = &[2, 0x00140000, 1, 0, 1];
+
 /// The conversations, each of a new session.
-static ROWS: [Run<Act>; 4] = [
+static ROWS: [Run<Act>; 5] = [
     // `wl_display.sync` is sent, and `wl_callback.done` and `wl_display.delete_id` come back. The callback had data, so it is
     // noted.
     Run {
@@ -261,6 +276,52 @@ static ROWS: [Run<Act>; 4] = [
                 "Ok opcode 1 has_data 1 data 8 arguments 1 by 4@4 (7: 57)",
             ),
             (Act::Dropped, "WouldBlock"),
+        ],
+    },
+    // The place of the first null that is not allowed, an object or a string, is told, counted from 1; 0 if there is none. The
+    // number 0 is no null.
+    Run {
+        name: "forbidden nulls are told",
+        first: &[],
+        entries: &[
+            (Act::AddKnot, "Ok"),
+            (Act::Send(DISPLAY, 1, Some(1), NEW, &[]), "Ok 2@2 serial 1"),
+            (Act::BindPad(9), "Ok 4@3 serial 2"),
+            (Act::BindKnot(8), "Ok 5@4 serial 3"),
+            (Act::Received(TIED, &[]), "Ok"),
+            (
+                Act::Next(4, 1),
+                "Ok has_data 1 data 8 arguments 4 bytes 1 by 5@4 (4: 0) (4: 0 data 9 object 4@3) (8: 0) (3: 0 length 1) [ 78 ]",
+            ),
+            (Act::Finish, "Ok"),
+            (Act::Received(TIED_NULLS, &[]), "Ok"),
+            (
+                Act::Next(3, 0),
+                "TooSmall has_data 1 data 8 arguments 4 null 2 by 5@4 (0: 0) (0: 0) (0: 0)",
+            ),
+            (
+                Act::Next(4, 0),
+                "Ok has_data 1 data 8 arguments 4 null 2 by 5@4 (4: 0) (4: 0) (8: 0) (8: 0)",
+            ),
+            (Act::Finish, "Ok"),
+            (Act::Received(TIED_LAST_NULL, &[]), "Ok"),
+            (
+                Act::Next(4, 0),
+                "Ok has_data 1 data 8 arguments 4 null 4 by 5@4 (4: 0 data 9 object 4@3) (4: 0 data 9 object 4@3) (8: 0) (8: 0)",
+            ),
+            (Act::Finish, "Ok"),
+            (Act::Received(MOVED, &[]), "Ok"),
+            (
+                Act::Next(1, 0),
+                "Ok has_data 1 data 9 arguments 1 by 4@3 (0: 0)",
+            ),
+            (Act::Finish, "Ok"),
+            (Act::Received(GLOBAL_NULL, &[]), "Ok"),
+            (
+                Act::Next(3, 0),
+                "Ok has_data 1 data 1 arguments 3 null 2 by 2@2 (1: 1) (8: 0) (1: 1)",
+            ),
+            (Act::Finish, "Ok"),
         ],
     },
 ];

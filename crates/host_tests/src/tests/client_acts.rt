@@ -1,7 +1,7 @@
 //! What a test does with a client's session, and what it tells.
 
 use crate::tests::args::{arg, id};
-use crate::tests::rows::{NOTE, TABLE};
+use crate::tests::rows::{KNOT, NOTE, TABLE};
 use crate::tests::session::Session;
 use crate::tests::told::{
     NO_ARGUMENT, NOBODY, NOTHING, NULL, bytes_of, tell_counts, tell_descriptor, tell_kept,
@@ -32,8 +32,12 @@ pub enum Act {
     BindPad(u64),
     /// The same of the global 2, as a `note` of version 1.
     BindNote(u64),
+    /// The same, as a `knot` of version 1.
+    BindKnot(u64),
     /// The interface `note` is added to the table.
     AddNote,
+    /// The interface `knot` is added to the table.
+    AddKnot,
     /// What is known of the object.
     Info(FlatObjectId),
     /// The data of the object.
@@ -68,7 +72,7 @@ pub const NEW: &[FlatArgument] = &[arg!(new)];
 /// The arguments of a bind of the global 1 as a `pad` of version 2, whose name stands at the beginning of the bytes.
 const BIND_PAD: &[FlatArgument] = &[arg!(uint: 1), arg!(string: 0, 3), arg!(uint: 2), arg!(new)];
 
-/// The same of the global 2 as a `note` of version 1.
+/// The same of the global 2 as a `note`, or a `knot`, of version 1.
 const BIND_NOTE: &[FlatArgument] = &[arg!(uint: 2), arg!(string: 0, 4), arg!(uint: 1), arg!(new)];
 
 /// An event with nothing in it.
@@ -82,6 +86,7 @@ const NO_EVENT: FlatEvent = FlatEvent {
     created: NULL,
     version: 0,
     has_data: 0,
+    forbidden_null: 0,
 };
 
 /// The event, and what was lent for its arguments and bytes.
@@ -101,6 +106,7 @@ fn tell_event(
             ("version", u64::from(event.version)),
             ("arguments", u64::from(event.arguments)),
             ("bytes", u64::from(event.bytes)),
+            ("null", u64::from(event.forbidden_null)),
         ],
     )?;
     tell_objects(log, &[("by", event.sender), ("made", event.created)])?;
@@ -265,7 +271,12 @@ fn on_requests(log: &mut String, client: &mut Client, act: &Act) -> Result<Statu
             let request = request(REGISTRY, 0, Some(*user_data), Some((5, 1)));
             send(log, client, request, BIND_NOTE, b"note")
         }
+        Act::BindKnot(user_data) => {
+            let request = request(REGISTRY, 0, Some(*user_data), Some((5, 1)));
+            send(log, client, request, BIND_NOTE, b"knot")
+        }
         Act::AddNote => told_table(log, client.add_interfaces(&NOTE)),
+        Act::AddKnot => told_table(log, client.add_interfaces(&KNOT)),
         _ => Err(Fail::new("no act of this kind")),
     }
 }

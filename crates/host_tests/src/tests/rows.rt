@@ -1,11 +1,14 @@
-//! The table of the tests, as flat rows: one interface, `pad`, with the number 4. A second one, `note`, with the number 5, may be
-//! added.
+//! The table of the tests, as flat rows: one interface, `pad`, with the number 4. A second one, `note` or `knot`, with the number 5,
+//! may be added.
 //!
 //! Requests of `pad`: `push(int, fd)`, `label(string)`, the destructor `close`, `make(new_id<pad>)`. Its events: `moved(int)`,
 //! `given(fd)`.
 //!
 //! The request of `note` has an argument of each kind: `tell(int, uint, fixed, string, string or null, pad, pad or null,
 //! new_id<pad>, array, fd)`. Its event: `said(string, array, fixed, fd, uint)`.
+//!
+//! `knot` has arguments that may be null beside such that may not. Its request: `tie(string or null, string, string)`. Its event:
+//! `tied(pad or null, pad, string or null, string)`.
 
 use wl_host::{ArgumentRow, InterfaceRow, MessageRow, Rows, kind};
 
@@ -89,5 +92,21 @@ pub const NOTE: Rows = Rows {
         argument!(kind::FIXED, 0, 0),
         argument!(kind::DESCRIPTOR, 0, 0),
         argument!(kind::UINT, 0, 0),
+    ],
+};
+
+/// The rows of `knot`.
+pub const KNOT: Rows = Rows {
+    text: b"knottietied",
+    interfaces: &[interface!(0, 4, 1, 1, 1)],
+    messages: &[message!(4, 3, 3, 0), message!(7, 4, 4, 0)],
+    arguments: &[
+        argument!(kind::STRING, 0, 1),
+        argument!(kind::STRING, 0, 0),
+        argument!(kind::STRING, 0, 0),
+        argument!(kind::OBJECT, 4, 1),
+        argument!(kind::OBJECT, 4, 0),
+        argument!(kind::STRING, 0, 1),
+        argument!(kind::STRING, 0, 0),
     ],
 };

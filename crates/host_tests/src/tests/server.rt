@@ -25,6 +25,18 @@ const LABEL: &[u32] = &[3, 0x00100001, 4, 0x00796568];
 /// `pad.close`.
 const CLOSE: &[u32] = &[3, 0x00080002];
 
+/// `pad.label` of a null string, which `pad` does not allow.
+const LABEL_NULL: &[u32] = &[3, 0x000c0001, 0];
+
+/// `knot.tie` by the first object of the server's range, of a null string, "a" and "b": that is allowed.
+const TIE: &[u32] = &[0xff000000, 0x001c0000, 0, 2, 0x61, 2, 0x62];
+
+/// The same of "a" and two null strings, neither of which is allowed.
+const TIE_NULLS: &[u32] = &[0xff000000, 0x00180000, 2, 0x61, 0, 0];
+
+/// The same of a null string, which is allowed, the empty string, and a null string, which is not.
+const TIE_LAST_NULL: &[u32] = &[0xff000000, 0x00180000, 0, 1, 0, 0];
+
 /// `wl_display.get_registry` with the new id 2.
 const REGISTRY: &[u32] = &[1, 0x000c0001, 2];
 
@@ -36,6 +48,9 @@ const BIND_FIFTH: &[u32] = &[2, 0x001c0000, 5, 4, 0x00646170, 2, 4];
 
 /// The `pad` that the first client binds.
 const FIRST_PAD: FlatObjectId = id!(FIRST, 4 @ 3, serial 2);
+
+/// The `knot` that the server makes for it next.
+const KNOT: FlatObjectId = id!(FIRST, 5 @ 4278190080, serial 3);
 
 /// The same with a serial that it does not have.
 const STALE_PAD: FlatObjectId = id!(FIRST, 4 @ 3, serial 9);
@@ -209,6 +224,65 @@ static REQUESTS: [Run<Act>; 4] = [
 #[test]
 fn requests(rt: HostRuntime) -> Result<(), Fail> {
     for run in &REQUESTS {
+        run_tells::<Server>(&rt, run, None, false)?;
+    }
+    Ok(())
+}
+
+/// Conversations about nulls that the table forbids.
+static NULLS: [Run<Act>; 1] = [
+    // The place of the first null that is not allowed is told, counted from 1; 0 if there is none. An empty string is no null.
+    // The place is told with the action, and not where there is no room for it. The host refuses such a request by an error.
+    Run {
+        name: "forbidden nulls are told",
+        first: BOUND,
+        entries: &[
+            (Act::AddKnot, "Ok"),
+            (Act::Create(FIRST, 5, 55), "Ok 5@4278190080"),
+            (Act::Received(FIRST, LABEL, &[]), "Ok"),
+            (
+                Act::Next(FIRST, 1, 3),
+                "Ok kind 1 opcode 1 data 33 arguments 1 bytes 3 by 4@3 (3: 0 length 3) [ 68 65 79 ]",
+            ),
+            (Act::Finish(FIRST), "Ok"),
+            (Act::Received(FIRST, LABEL_NULL, &[]), "Ok"),
+            (
+                Act::Next(FIRST, 1, 0),
+                "Ok kind 1 opcode 1 data 33 arguments 1 null 1 by 4@3 (8: 0)",
+            ),
+            (Act::Finish(FIRST), "Ok"),
+            (Act::Received(FIRST, TIE, &[]), "Ok"),
+            (
+                Act::Next(FIRST, 3, 2),
+                "Ok kind 1 data 55 arguments 3 bytes 2 by 5@4278190080 (8: 0) (3: 0 length 1) (3: 0 at 1 length 1) [ 61 62 ]",
+            ),
+            (Act::Finish(FIRST), "Ok"),
+            (Act::Received(FIRST, TIE_NULLS, &[]), "Ok"),
+            (
+                Act::Next(FIRST, 3, 0),
+                "TooSmall arguments 3 bytes 1 (0: 0) (0: 0) (0: 0)",
+            ),
+            (
+                Act::Next(FIRST, 3, 1),
+                "Ok kind 1 data 55 arguments 3 bytes 1 null 2 by 5@4278190080 (3: 0 length 1) (8: 0) (8: 0) [ 61 ]",
+            ),
+            (Act::Finish(FIRST), "Ok"),
+            (Act::Received(FIRST, TIE_LAST_NULL, &[]), "Ok"),
+            (
+                Act::Next(FIRST, 3, 0),
+                "Ok kind 1 data 55 arguments 3 null 3 by 5@4278190080 (8: 0) (3: 0) (8: 0)",
+            ),
+            (Act::PostError(KNOT, 1, b"null"), "Ok"),
+            (Act::Finish(FIRST), "Ok"),
+            (Act::Next(FIRST, 3, 0), "Closed"),
+        ],
+    },
+];
+
+/// Each of them tells what it has to.
+#[test]
+fn nulls(rt: HostRuntime) -> Result<(), Fail> {
+    for run in &NULLS {
         run_tells::<Server>(&rt, run, None, false)?;
     }
     Ok(())

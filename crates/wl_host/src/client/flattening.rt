@@ -9,6 +9,7 @@ ghost use Rattle.wl_host.specs.Client.{created_by, ends_sender, flat_event, vers
 use super::Core;
 use crate::arguments::{FromFlat, Needs, Objects};
 use crate::flat::{FlatEvent, FlatObjectId, count_number};
+use crate::nulls::forbidden_null;
 use wl_client::ObjectId;
 use wl_wire::{Message, Token};
 
@@ -70,6 +71,17 @@ pub fn made_and_ends(core: &Core) -> (ObjectId, bool)
     }
 }
 
+/// The place of the first argument of the event that is null where the table allows no null, counted from 1; 0 if there is
+/// none.
+fn forbidden_null_of(core: &Core, event: &Message<ObjectId, Token>) -> u32
+    ensures { result ≡ (flat_event core.now (session_content event.now)).forbidden_null }
+{
+    match core.protocol().event(event.sender_id.interface(), event.opcode) {
+        Some(desc) => forbidden_null(core, desc.signature.as_slice(), event.args.as_slice()),
+        None => 0,
+    }
+}
+
 /// The event without its arguments, which need this much. It is open.
 pub fn flat_event(core: &Core, event: &Message<ObjectId, Token>, needs: Needs) -> FlatEvent
     requires arguments { needs.arguments ≡ length event.now.args.items }
@@ -88,5 +100,6 @@ pub fn flat_event(core: &Core, event: &Message<ObjectId, Token>, needs: Needs) -
         created: FlatObjectId::of_proxy(created),
         version: version_of(core, &created),
         has_data: u32::from(user_data.is_some()),
+        forbidden_null: forbidden_null_of(core, event),
     }
 }

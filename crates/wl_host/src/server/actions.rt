@@ -20,6 +20,7 @@ use crate::descriptors::DescriptorQueue;
 use crate::flat::{
     BIND, FlatAction, FlatArgument, FlatClientId, FlatGlobalId, FlatObjectId, REQUEST, count_number,
 };
+use crate::nulls::forbidden_null;
 use crate::server::ledger::Ledger;
 use crate::server::{Core, Server, no_action};
 use crate::status::Status;
@@ -82,7 +83,7 @@ fn version_of(core: &Core, id: &ObjectId) -> u32
     }
 }
 
-/// A request as a flat struct, without how much its arguments need.
+/// A request as a flat struct, without what there is to say of its arguments.
 fn flat_request(
     core: &Core,
     sender: &ObjectId,
@@ -108,9 +109,29 @@ fn flat_request(
     }
 }
 
-/// The action as a flat struct, without how much its arguments need.
+/// The place of the first argument of the action that is null where the table allows no null, counted from 1; 0 if there is
+/// none.
+fn forbidden_null_of(core: &Core, action: &Action) -> u32
+    ensures { result ≡ (flat_action core.now (handed action.now)).forbidden_null }
+{
+    let Action::Request {
+        sender,
+        opcode,
+        args,
+        ..
+    } = action
+    else {
+        return 0;
+    };
+    match core.protocol().request(sender.interface(), *opcode) {
+        Some(desc) => forbidden_null(core, desc.signature.as_slice(), args.as_slice()),
+        None => 0,
+    }
+}
+
+/// The action as a flat struct, without what there is to say of its arguments.
 fn flat_action(core: &Core, action: &Action) -> FlatAction
-    ensures { result ≡ record (flat_action core.now (handed action.now)) { arguments = 0; bytes = 0 } }
+    ensures { result ≡ record (flat_action core.now (handed action.now)) { arguments = 0; bytes = 0; forbidden_null = 0 } }
 {
     match action {
         Action::Request {
@@ -217,6 +238,7 @@ fn hand_out(
     *out = FlatAction {
         arguments: count_number(needs.arguments),
         bytes: count_number(needs.bytes),
+        forbidden_null: forbidden_null_of(core, action),
         ..flat_action(core, action)
     };
     ledger.ends_sender = ends_sender(action);

@@ -336,7 +336,7 @@ pub const NB_BIND: u32 = 2;
 
 plain! {
     /// What a client asks of the server. It is open until it is finished.
-    nb_action: 112, 8 {
+    nb_action: 120, 8 {
         /// [`NB_REQUEST`] or [`NB_BIND`].
         kind: u32 = 0,
         /// Of a request: its index among the requests of the sender's interface.
@@ -357,12 +357,15 @@ plain! {
         bytes: u32 = 92,
         /// Of a bind: the global.
         global: nb_global_id = 96,
+        /// Of a request: the place, counted from 1, of the first argument that is null where the table allows no null; 0 if there
+        /// is none.
+        forbidden_null: u32 = 112,
     }
 }
 
 plain! {
     /// What the server tells a client. It is open until it is finished.
-    nb_event: 96, 8 {
+    nb_event: 104, 8 {
         /// Its index among the events of the sender's interface.
         opcode: u32 = 0,
         /// How many arguments it has.
@@ -381,6 +384,8 @@ plain! {
         version: u32 = 88,
         /// Whether the sender has data (0 or 1).
         has_data: u32 = 92,
+        /// The place, counted from 1, of the first argument that is null where the table allows no null; 0 if there is none.
+        forbidden_null: u32 = 96,
     }
 }
 
