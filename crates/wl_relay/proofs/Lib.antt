@@ -1,3 +1,5 @@
+mod HexWords
+mod Numbers
 pub mod Flows
 pub mod Lines
 pub mod OneSend

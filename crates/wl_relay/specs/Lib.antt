@@ -1,7 +1,8 @@
--- What is on its way through the relay, and the log.
+-- What is on its way through the relay, the log, and the program's lines.
 pub mod Announcements
 pub mod Objects
 pub mod Log
 pub mod Flow
 pub mod Runs
+pub mod Words
 pub mod Inside

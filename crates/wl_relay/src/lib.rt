@@ -11,7 +11,8 @@
 //! | what is handed on, dropped or lowered | `notes`, `follow` | `Announcements`, `Log`; `Inside/Passing` |
 //! | the relay | `relay` | `Flow`, `Log` |
 //! | calls one after another | `laws` | `Runs` |
-//! | the lines of the program | `words`, `rows`, `commands`, `stop` | none |
+//! | the words of the program's lines | `words` | `Words` |
+//! | the program | `rows`, `commands`, `stop` | none |
 #![tactic(auto)]
 
 mod commands;
