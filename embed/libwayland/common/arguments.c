@@ -1,0 +1,205 @@
+/* Arguments in the two forms. It touches the heap, and duplicates or closes the descriptors among arguments. */
+#include "arguments.h"
+#include "signature.h"
+#include <fcntl.h>
+#include <stdlib.h>
+#include <string.h>
+#include <unistd.h>
+
+void arguments_from_list(const char *signature, va_list list, union wl_argument *arguments)
+{
+    char letter;
+    bool is_nullable;
+    for (uint32_t i = 0; i < MOST_ARGUMENTS && (signature = signature_next(signature, &letter, &is_nullable)); i++)
+        switch (letter) {
+        case 's': arguments[i].s = va_arg(list, const char *); break;
+        case 'a': arguments[i].a = va_arg(list, struct wl_array *); break;
+        case 'o':
+        case 'n': arguments[i].o = va_arg(list, struct wl_object *); break;
+        default: arguments[i].i = va_arg(list, int32_t);
+        }
+}
+
+/* ======== From a session to the program */
+
+static size_t aligned(size_t at)
+{
+    return (at + 7) & ~(size_t)7;
+}
+
+/* How many bytes an argument takes of the text: a string has a zero behind it. */
+static size_t taken_by(const nb_argument *argument)
+{
+    switch (argument->kind) {
+    case NB_STRING: return aligned((size_t)argument->length + 1);
+    case NB_ARRAY: return aligned(argument->length);
+    default: return 0;
+    }
+}
+
+static void unpack_one(struct unpacked *to, uint32_t i, const nb_argument *from, const uint8_t *bytes, uint8_t *text)
+{
+    union wl_argument *value = &to->values[i];
+    switch (from->kind) {
+    case NB_STRING:
+        memcpy(text, bytes + from->at, from->length);
+        text[from->length] = 0;
+        value->s = (const char *)text;
+        break;
+    case NB_ARRAY:
+        memcpy(text, bytes + from->at, from->length);
+        to->arrays[i] = (struct wl_array){ from->length, 0, text };
+        value->a = &to->arrays[i];
+        break;
+    case NB_NULL_STRING: value->s = NULL; break;
+    case NB_OBJECT: value->o = NULL; break;
+    case NB_NEW_ID: value->n = from->object.number; break;
+    default: value->i = from->value;
+    }
+}
+
+bool unpack(struct unpacked *to, const nb_argument *from, uint32_t count, const uint8_t *bytes)
+{
+    size_t size = 0, at = 0;
+    for (uint32_t i = 0; i < count; i++)
+        size += taken_by(&from[i]);
+    to->many = NULL;
+    to->text = to->few;
+    if (size > sizeof to->few) {
+        to->many = malloc(size);
+        if (!to->many)
+            return false;
+        to->text = to->many;
+    }
+    for (uint32_t i = 0; i < count; i++) {
+        unpack_one(to, i, &from[i], bytes, to->text + at);
+        at += taken_by(&from[i]);
+    }
+    return true;
+}
+
+void unpacked_end(struct unpacked *unpacked)
+{
+    free(unpacked->many);
+}
+
+void close_descriptors(const nb_argument *arguments, uint32_t count)
+{
+    for (uint32_t i = 0; i < count; i++)
+        if (arguments[i].kind == NB_DESCRIPTOR)
+            close(arguments[i].value);
+}
+
+/* ======== From the program to a session */
+
+/* A string's or array's bytes; false if the argument is neither, or is null. */
+static bool text_of(char letter, const union wl_argument *argument, const void **text, size_t *length)
+{
+    if (letter == 's' && argument->s) {
+        *text = argument->s;
+        *length = strlen(argument->s);
+    } else if (letter == 'a' && argument->a) {
+        *text = argument->a->data;
+        *length = argument->a->size;
+    } else
+        return false;
+    return true;
+}
+
+/* Where the strings and arrays go. One alone is not copied. False if there are more than a message can have, or there
+ * was no memory. */
+static bool make_room(struct packed *to, const char *signature, const union wl_argument *arguments, bool *is_alone)
+{
+    const void *text = NULL;
+    size_t length, total = 0, count = 0;
+    char letter;
+    bool is_nullable;
+    for (uint32_t i = 0; i < MOST_ARGUMENTS && (signature = signature_next(signature, &letter, &is_nullable)); i++)
+        if (text_of(letter, &arguments[i], &text, &length)) {
+            count++;
+            if (length > NB_MOST_BYTES || (total += length) > NB_MOST_BYTES) {
+                to->fault = "it is longer than a message can be";
+                return false;
+            }
+        }
+    *is_alone = count == 1;
+    to->bytes = *is_alone ? text : to->few;
+    if (*is_alone || total <= sizeof to->few)
+        return true;
+    to->many = malloc(total);
+    to->bytes = to->many;
+    if (!to->many)
+        to->fault = "there is no memory";
+    return to->many;
+}
+
+/* Copies a string or array behind those that are there, unless it is alone. Answers where it stands. */
+static uint32_t add_text(struct packed *to, const void *text, size_t length, bool is_alone)
+{
+    size_t at = to->length;
+    if (!is_alone && length > 0)
+        memcpy((to->many ? to->many : to->few) + at, text, length);
+    to->length += length;
+    return (uint32_t)at;
+}
+
+static void pack_descriptor(struct packed *to, nb_argument *slot, int descriptor)
+{
+    int copy = fcntl(descriptor, F_DUPFD_CLOEXEC, 0);
+    if (copy < 0) {
+        to->fault = "its descriptor cannot be duplicated";
+        return;
+    }
+    *slot = nb_descriptor(copy);
+    to->descriptors++;
+}
+
+static void pack_one(struct packed *to, char letter, bool is_nullable, const union wl_argument *argument, bool is_alone)
+{
+    nb_argument *slot = &to->arguments[to->count++];
+    const void *text;
+    size_t length;
+    *slot = nb_int(0);
+    if (text_of(letter, argument, &text, &length)) {
+        uint32_t at = add_text(to, text, length, is_alone);
+        *slot = letter == 's' ? nb_string(at, (uint32_t)length) : nb_array(at, (uint32_t)length);
+        return;
+    }
+    switch (letter) {
+    case 's':
+        *slot = nb_null_string();
+        if (!is_nullable)
+            to->fault = "a string is null, and may not be";
+        break;
+    case 'a': to->fault = "an array is null, and may not be"; break;
+    case 'o': *slot = nb_object(nb_null()); break;
+    case 'n': *slot = nb_new_id(nb_null()); break;
+    case 'h': pack_descriptor(to, slot, argument->h); break;
+    case 'u': *slot = nb_uint(argument->u); break;
+    case 'f': *slot = nb_fixed(argument->f); break;
+    default: *slot = nb_int(argument->i);
+    }
+}
+
+bool pack(struct packed *to, const char *signature, const union wl_argument *arguments)
+{
+    char letter;
+    bool is_nullable, is_alone;
+    to->count = to->descriptors = 0;
+    to->length = 0;
+    to->fault = NULL;
+    to->many = NULL;
+    if (!make_room(to, signature, arguments, &is_alone))
+        return false;
+    while (!to->fault && to->count < MOST_ARGUMENTS &&
+           (signature = signature_next(signature, &letter, &is_nullable)))
+        pack_one(to, letter, is_nullable, &arguments[to->count], is_alone);
+    return !to->fault;
+}
+
+void packed_end(struct packed *packed, bool is_taken)
+{
+    if (!is_taken)
+        close_descriptors(packed->arguments, packed->count);
+    free(packed->many);
+}
