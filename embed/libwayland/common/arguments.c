@@ -1,7 +1,9 @@
 /* Arguments in the two forms. It touches the heap, and duplicates or closes the descriptors among arguments. */
 #include "arguments.h"
 #include "signature.h"
+#include <errno.h>
 #include <fcntl.h>
+#include <stdio.h>
 #include <stdlib.h>
 #include <string.h>
 #include <unistd.h>
@@ -106,6 +108,16 @@ static bool text_of(char letter, const union wl_argument *argument, const void *
     return true;
 }
 
+static bool fail(struct packed *packed, const char *format, ...) WL_PRINTF(2, 3);
+static bool fail(struct packed *packed, const char *format, ...)
+{
+    va_list list;
+    va_start(list, format);
+    vsnprintf(packed->fault, sizeof packed->fault, format, list);
+    va_end(list);
+    return false;
+}
+
 /* Where the strings and arrays go. One alone is not copied. False if there are more than a message can have, or there
  * was no memory. */
 static bool make_room(struct packed *to, const char *signature, const union wl_argument *arguments, bool *is_alone)
@@ -117,10 +129,8 @@ static bool make_room(struct packed *to, const char *signature, const union wl_a
     for (uint32_t i = 0; i < MOST_ARGUMENTS && (signature = signature_next(signature, &letter, &is_nullable)); i++)
         if (text_of(letter, &arguments[i], &text, &length)) {
             count++;
-            if (length > NB_MOST_BYTES || (total += length) > NB_MOST_BYTES) {
-                to->fault = "it is longer than a message can be";
-                return false;
-            }
+            if (length > NB_MOST_BYTES || (total += length) > NB_MOST_BYTES)
+                return fail(to, "it is longer than a message can be");
         }
     *is_alone = count == 1;
     to->bytes = *is_alone ? text : to->few;
@@ -128,9 +138,7 @@ static bool make_room(struct packed *to, const char *signature, const union wl_a
         return true;
     to->many = malloc(total);
     to->bytes = to->many;
-    if (!to->many)
-        to->fault = "there is no memory";
-    return to->many;
+    return to->many || fail(to, "there is no memory");
 }
 
 /* Copies a string or array behind those that are there, unless it is alone. Answers where it stands. */
@@ -143,58 +151,62 @@ static uint32_t add_text(struct packed *to, const void *text, size_t length, boo
     return (uint32_t)at;
 }
 
-static void pack_descriptor(struct packed *to, nb_argument *slot, int descriptor)
+static bool pack_descriptor(struct packed *to, nb_argument *slot, int descriptor)
 {
     int copy = fcntl(descriptor, F_DUPFD_CLOEXEC, 0);
-    if (copy < 0) {
-        to->fault = "its descriptor cannot be duplicated";
-        return;
-    }
+    if (copy < 0)
+        return fail(to, "dup failed: %s", strerror(errno));
     *slot = nb_descriptor(copy);
     to->descriptors++;
+    return true;
 }
 
-static void pack_one(struct packed *to, char letter, bool is_nullable, const union wl_argument *argument, bool is_alone)
+/* What may be null, and is: a string, an object, or a new id that is a number. */
+static bool pack_null(nb_argument *slot, char letter)
+{
+    *slot = letter == 's' ? nb_null_string() : letter == 'o' ? nb_object(nb_null()) : nb_new_id(nb_null());
+    return true;
+}
+
+static bool pack_one(struct packed *to, char letter, bool may_be_null, const union wl_argument *argument, bool is_alone)
 {
     nb_argument *slot = &to->arguments[to->count++];
     const void *text;
     size_t length;
     *slot = nb_int(0);
+    if (strchr("sona", letter) && !argument->o)
+        return may_be_null ? pack_null(slot, letter) : fail(to, "null value passed for arg %u", to->count - 1);
     if (text_of(letter, argument, &text, &length)) {
         uint32_t at = add_text(to, text, length, is_alone);
         *slot = letter == 's' ? nb_string(at, (uint32_t)length) : nb_array(at, (uint32_t)length);
-        return;
+        return true;
     }
     switch (letter) {
-    case 's':
-        *slot = nb_null_string();
-        if (!is_nullable)
-            to->fault = "a string is null, and may not be";
-        break;
-    case 'a': to->fault = "an array is null, and may not be"; break;
-    case 'o': *slot = nb_object(nb_null()); break;
-    case 'n': *slot = nb_new_id(nb_null()); break;
-    case 'h': pack_descriptor(to, slot, argument->h); break;
+    case 'o':
+    case 'n': return pack_null(slot, letter);
+    case 'h': return pack_descriptor(to, slot, argument->h);
     case 'u': *slot = nb_uint(argument->u); break;
     case 'f': *slot = nb_fixed(argument->f); break;
     default: *slot = nb_int(argument->i);
     }
+    return true;
 }
 
-bool pack(struct packed *to, const char *signature, const union wl_argument *arguments)
+bool pack(struct packed *to, const char *signature, const union wl_argument *arguments, bool new_ids_are_objects)
 {
     char letter;
-    bool is_nullable, is_alone;
+    bool is_nullable, is_alone = false;
     to->count = to->descriptors = 0;
     to->length = 0;
-    to->fault = NULL;
+    to->fault[0] = 0;
     to->many = NULL;
     if (!make_room(to, signature, arguments, &is_alone))
         return false;
-    while (!to->fault && to->count < MOST_ARGUMENTS &&
-           (signature = signature_next(signature, &letter, &is_nullable)))
-        pack_one(to, letter, is_nullable, &arguments[to->count], is_alone);
-    return !to->fault;
+    while (to->count < MOST_ARGUMENTS && (signature = signature_next(signature, &letter, &is_nullable)))
+        if (!pack_one(to, letter, is_nullable || (letter == 'n' && !new_ids_are_objects), &arguments[to->count],
+                      is_alone))
+            return false;
+    return true;
 }
 
 void packed_end(struct packed *packed, bool is_taken)

@@ -31,19 +31,20 @@ void close_descriptors(const nb_argument *arguments, uint32_t count);
 
 /* ---- from the program to a session */
 
-/* Arguments as a session takes them. `fault` says why they cannot be sent, and is NULL else. */
+/* Arguments as a session takes them. `fault` says in words why they cannot be sent, and is empty else. */
 struct packed {
     nb_argument arguments[MOST_ARGUMENTS];
     uint32_t count, descriptors;
     const uint8_t *bytes;
     size_t length;
-    const char *fault;
+    char fault[128];
     uint8_t *many, few[FEW_BYTES];
 };
 
 /* Packs what the program gave. Descriptors are duplicated, since the program keeps its own. An object and a new id are
- * null, with their kind: the caller puts their ids in. packed_end is due in any case. */
-bool pack(struct packed *to, const char *signature, const union wl_argument *arguments);
+ * null, with their kind: the caller puts their ids in. A new id that the program gives is an object if
+ * `new_ids_are_objects`, and may not be null then. packed_end is due in any case. */
+bool pack(struct packed *to, const char *signature, const union wl_argument *arguments, bool new_ids_are_objects);
 
 /* `is_taken` says that the session has the descriptors: else they are closed. */
 void packed_end(struct packed *packed, bool is_taken);

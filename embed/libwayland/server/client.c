@@ -106,6 +106,8 @@ static int is_ready(int fd, uint32_t mask, void *data)
     }
     if (mask & WL_EVENT_READABLE)
         client_read(client);
+    else if (client->has_error)
+        end_with(client, "error in client communication");
     return 1;
 }
 

@@ -63,7 +63,7 @@ EXPORT uint32_t wl_client_add_resource(struct wl_client *client, struct wl_resou
     if (!lent || !client_enter(client) ||
         !object_find(client, resource->object.interface, 1, id, (uint64_t)(uintptr_t)resource, &lent->core)) {
         free(lent);
-        client_post_error(client, WL_DISPLAY_ERROR_INVALID_OBJECT, "invalid new id %u", id);
+        client_post_error(client, WL_DISPLAY_ERROR_INVALID_OBJECT, "invalid new id %d", (int)id);
         return 0;
     }
     id = lent->core.number;

@@ -7,40 +7,60 @@
 
 enum { MOST_UNSENT = 1024 /* descriptors in events that wait for a client */ };
 
-/* Puts the ids of the objects in. */
-static void name_objects(struct packed *packed, const union wl_argument *arguments)
+/* Puts the ids of the objects in. False if one is another client's. */
+static bool name_objects(struct packed *packed, const union wl_argument *arguments, const struct wl_client *client)
 {
     for (uint32_t i = 0; i < packed->count; i++) {
         nb_argument *argument = &packed->arguments[i];
-        const struct wl_object *object = arguments[i].o;
-        if ((argument->kind == NB_OBJECT || argument->kind == NB_NEW_ID) && object)
-            argument->object = *core_of(CONTAINER(object, struct wl_resource, object));
+        if ((argument->kind != NB_OBJECT && argument->kind != NB_NEW_ID) || !arguments[i].o)
+            continue;
+        const struct wl_resource *resource = CONTAINER(arguments[i].o, struct wl_resource, object);
+        if (resource->client != client)
+            return false;
+        argument->object = *core_of(resource);
     }
+    return true;
+}
+
+static void log_fault(const struct wl_message *message, const char *fault)
+{
+    log_line("error marshalling arguments for %s (signature %s): %s\n", message->name, message->signature, fault);
+}
+
+/* Hands a packed event to the session; whether it has taken it. */
+static bool hand_over(struct wl_resource *resource, uint32_t opcode, const struct packed *packed)
+{
+    struct wl_client *client = resource->client;
+    const struct wl_message *message = &resource->object.interface->events[opcode];
+    if (client->unsent + packed->descriptors > MOST_UNSENT) {
+        log_fault(message, "too many descriptors wait for the client");
+        return false;
+    }
+    nb_status status = nb_server_send_event(&client->display->core, core_of(resource), opcode, packed->arguments,
+                                            packed->count, packed->bytes, packed->length);
+    if (status != NB_OK) {
+        log_fault(message, nb_status_text(status));
+        return false;
+    }
+    client->unsent += packed->descriptors;
+    return true;
 }
 
 static bool send_event(struct wl_resource *resource, uint32_t opcode, union wl_argument *arguments)
 {
-    struct wl_client *client = resource->client;
     const struct wl_message *message = &resource->object.interface->events[opcode];
     struct packed packed;
     bool is_taken = false;
-    pack(&packed, message->signature, arguments);
-    if (!packed.fault && client->unsent + packed.descriptors > MOST_UNSENT)
-        packed.fault = "too many descriptors wait for the client";
-    if (!packed.fault) {
-        name_objects(&packed, arguments);
+    if (!pack(&packed, message->signature, arguments, true))
+        log_fault(message, packed.fault);
+    else if (!name_objects(&packed, arguments, resource->client))
+        log_line("compositor bug: The compositor tried to use an object from one client in a '%s.%s' for a different "
+                 "client.\n",
+                 resource->object.interface->name, message->name);
+    else {
         trace_event(resource, opcode, arguments);
-        nb_status status = nb_server_send_event(&client->display->core, core_of(resource), opcode, packed.arguments,
-                                                packed.count, packed.bytes, packed.length);
-        is_taken = status == NB_OK;
-        if (is_taken)
-            client->unsent += packed.descriptors;
-        else
-            packed.fault = nb_status_text(status);
+        is_taken = hand_over(resource, opcode, &packed);
     }
-    if (packed.fault)
-        log_line("error sending %s@%u.%s: %s\n", resource->object.interface->name, resource->object.id, message->name,
-                 packed.fault);
     packed_end(&packed, is_taken);
     return is_taken;
 }

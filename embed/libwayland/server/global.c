@@ -43,8 +43,13 @@ static bool announce(struct wl_global *global, uint32_t number)
 EXPORT struct wl_global *wl_global_create(struct wl_display *display, const struct wl_interface *interface, int version,
                                           void *data, wl_global_bind_func_t bind)
 {
-    if (version < 1 || version > interface->version) {
-        log_line("wl_global_create: failing to create interface '%s' with version %d: it has 1 to %d\n",
+    if (version < 1) {
+        log_line("wl_global_create: failing to create interface '%s' with version %d because it is less than 1\n",
+                 interface->name, version);
+        return NULL;
+    }
+    if (version > interface->version) {
+        log_line("wl_global_create: implemented version for '%s' higher than interface version (%d > %d)\n",
                  interface->name, version, interface->version);
         return NULL;
     }
@@ -70,7 +75,7 @@ EXPORT struct wl_global *wl_global_create(struct wl_display *display, const stru
 EXPORT void wl_global_remove(struct wl_global *global)
 {
     if (global->is_removed)
-        log_and_abort("wl_global_remove: called twice on the same global '%s@%u'\n", global->interface->name,
+        log_and_abort("wl_global_remove: called twice on the same global '%s@%u'", global->interface->name,
                       global->id.name);
     if (trace_is_on(global->display))
         trace_global(global, true);

@@ -177,7 +177,7 @@ EXPORT struct wl_resource *wl_resource_create(struct wl_client *client, const st
         return NULL;
     if (!join(resource, id)) {
         resource_free(resource);
-        client_post_error(client, WL_DISPLAY_ERROR_INVALID_OBJECT, "invalid new id %u", id);
+        client_post_error(client, WL_DISPLAY_ERROR_INVALID_OBJECT, "invalid new id %d", (int)id);
         return NULL;
     }
     wl_signal_emit_mutable(&client->resource_created_signal, resource);

@@ -175,7 +175,8 @@ static void take_actions(struct wl_client *client)
         client_fail(client);
 }
 
-/* Receives once. 0 if nothing came, or all of it is with the session; else why the client ends. */
+/* Receives once. NULL if nothing came, or all of it is with the session, or the client has an error and it is thrown
+ * away; else why the client ends. */
 static const char *receive(struct wl_client *client)
 {
     struct wl_display *display = client->display;
@@ -189,10 +190,15 @@ static const char *receive(struct wl_client *client)
     if (trace_is_on(display))
         trace_received(client, display->buffer, (size_t)came);
     client->was_read = true;
+    if (client->has_error) {
+        close_all(descriptors, count);
+        return NULL;
+    }
     if (client->unread + count > MOST_HELD || !client_enter(client) ||
         nb_server_received(&display->core, &client->id, display->buffer, (size_t)came, descriptors, count) != NB_OK) {
         close_all(descriptors, count);
-        return "error in client communication";
+        client_fail(client);
+        return NULL;
     }
     client->unread += count;
     return NULL;
@@ -200,15 +206,14 @@ static const char *receive(struct wl_client *client)
 
 void client_read(struct wl_client *client)
 {
-    const char *fault = client->has_error ? "error in client communication" : receive(client);
     client_hold(client);
+    const char *fault = receive(client);
     if (!fault)
         take_actions(client);
     if (!fault && client->has_error)
         fault = "error in client communication";
     if (fault) {
         log_line("%s (pid %u)\n", fault, (unsigned)client->pid);
-        client_fail(client);
         client->is_condemned = true;
     }
     client_let_go(client);

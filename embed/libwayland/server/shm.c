@@ -332,7 +332,11 @@ EXPORT struct wl_shm_buffer *wl_shm_buffer_get(struct wl_resource *resource)
 /* It stays where it is while the program uses the pool, or makes no call of the library. */
 EXPORT void *wl_shm_buffer_get_data(struct wl_shm_buffer *buffer)
 {
-    return buffer->pool->data + buffer->offset;
+    const struct wl_shm_pool *pool = buffer->pool;
+    if (pool->uses > 0 && pool->next_size != pool->size)
+        log_line("Buffer address requested when its parent pool has an external reference and a deferred resize "
+                 "pending.\n");
+    return pool->data + buffer->offset;
 }
 
 EXPORT int32_t wl_shm_buffer_get_stride(struct wl_shm_buffer *buffer)

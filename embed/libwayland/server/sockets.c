@@ -88,8 +88,8 @@ static bool find_path(struct listener *listener, const char *name)
     const bool is_path = name[0] == '/';
     const char *folder = is_path ? "" : getenv("XDG_RUNTIME_DIR");
     const size_t room = sizeof listener->address.sun_path;
-    if (!folder) {
-        log_line("error: XDG_RUNTIME_DIR not set in the environment\n");
+    if (!is_path && (!folder || folder[0] != '/')) {
+        log_line("error: XDG_RUNTIME_DIR is invalid or not set in the environment\n");
         errno = ENOENT;
         return false;
     }
@@ -149,14 +149,16 @@ static bool open_socket(struct listener *listener)
     return true;
 }
 
-/* A listener at this name, or NULL. */
-static struct listener *serve(struct wl_display *display, const char *name)
+/* A listener at this name, or NULL. `*is_hopeless`: another name would be no better. */
+static struct listener *serve(struct wl_display *display, const char *name, bool *is_hopeless)
 {
     struct listener *listener = listener_begin();
+    *is_hopeless = true;
     if (!listener)
         return NULL;
     listener->address.sun_family = AF_UNIX;
-    if (find_path(listener, name) && take_lock(listener) && open_socket(listener) && listen_in(display, listener))
+    *is_hopeless = !find_path(listener, name);
+    if (!*is_hopeless && take_lock(listener) && open_socket(listener) && listen_in(display, listener))
         return listener;
     listener_end(listener);
     return NULL;
@@ -164,19 +166,23 @@ static struct listener *serve(struct wl_display *display, const char *name)
 
 EXPORT int wl_display_add_socket(struct wl_display *display, const char *name)
 {
+    bool is_hopeless;
     if (!name)
         name = getenv("WAYLAND_DISPLAY");
-    return serve(display, name ? name : "wayland-0") ? 0 : -1;
+    return serve(display, name ? name : "wayland-0", &is_hopeless) ? 0 : -1;
 }
 
 EXPORT const char *wl_display_add_socket_auto(struct wl_display *display)
 {
     char name[sizeof "wayland-" + 12];
+    bool is_hopeless;
     for (int i = 0; i <= LAST_NAME; i++) {
         snprintf(name, sizeof name, "wayland-%d", i);
-        struct listener *listener = serve(display, name);
+        struct listener *listener = serve(display, name, &is_hopeless);
         if (listener)
             return strrchr(listener->path, '/') + 1;
+        if (is_hopeless)
+            return NULL;
     }
     errno = EINVAL;
     return NULL;
