@@ -137,7 +137,7 @@ void dispatch(struct wl_client *client, const nb_action *action, nb_argument *ar
         return;
     }
     request.client = client;
-    request.resource = (struct wl_resource *)(uintptr_t)action->data;
+    request.resource = action->kind == NB_BIND ? NULL : resource_of(client, &action->sender, action->data);
     request.opcode = action->opcode;
     request.count = count;
     if (action->kind == NB_BIND)

@@ -254,11 +254,13 @@ static struct wl_resource *adopt(struct wl_client *client, const nb_object_id *o
     return NULL;
 }
 
-/* The resource of an object with these data, for an argument; NULL if the program has none. */
+/* The resource of an object with these data; NULL if the program has none, or is at the end of it: its destructor may
+ * have freed what a handler would look at. */
 struct wl_resource *resource_of(struct wl_client *client, const nb_object_id *core, uint64_t data)
 {
-    if (data != 0)
-        return (struct wl_resource *)(uintptr_t)data;
+    struct wl_resource *resource = (struct wl_resource *)(uintptr_t)data;
+    if (resource)
+        return !lent_core(resource) && resource->is_ending ? NULL : resource;
     if (core->interface == NB_INTERFACE_DISPLAY)
         return client->display_resource;
     return core->interface == NB_INTERFACE_REGISTRY ? adopt(client, core) : NULL;
