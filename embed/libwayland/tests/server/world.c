@@ -260,8 +260,11 @@ struct wl_client *connect_client(int *theirs)
     int pair[2];
     if (socketpair(AF_UNIX, SOCK_STREAM | SOCK_CLOEXEC | SOCK_NONBLOCK, 0, pair) < 0)
         exit(9);
+    struct wl_client *made = wl_client_create(display, pair[0]);
     *theirs = pair[1];
-    return wl_client_create(display, pair[0]);
+    if (!made)
+        close(pair[0]);
+    return made;
 }
 
 void begin(void)
