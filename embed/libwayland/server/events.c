@@ -22,58 +22,63 @@ static bool name_objects(struct packed *packed, const union wl_argument *argumen
     return true;
 }
 
-static void log_fault(const struct wl_message *message, const char *fault)
+/* An event that cannot be sent is the program's fault; but the client lacks it, and ends. */
+static void give_up(struct wl_client *client, const struct wl_message *message, const char *fault)
 {
     log_line("error marshalling arguments for %s (signature %s): %s\n", message->name, message->signature, fault);
+    client_fail(client);
 }
 
-/* Hands a packed event to the session; whether it has taken it. */
+/* Hands a packed event to the session; whether it has its descriptors now. A client that it has no more is told nothing. */
 static bool hand_over(struct wl_resource *resource, uint32_t opcode, const struct packed *packed)
 {
     struct wl_client *client = resource->client;
     const struct wl_message *message = &resource->object.interface->events[opcode];
+    if (!client->is_inside)
+        return false;
     if (client->unsent + packed->descriptors > MOST_UNSENT) {
-        log_fault(message, "too many descriptors wait for the client");
+        give_up(client, message, "too many descriptors wait for the client");
         return false;
     }
     nb_status status = nb_server_send_event(&client->display->core, core_of(resource), opcode, packed->arguments,
                                             packed->count, packed->bytes, packed->length);
     if (status != NB_OK) {
-        log_fault(message, nb_status_text(status));
+        give_up(client, message, nb_status_text(status));
         return false;
     }
     client->unsent += packed->descriptors;
     return true;
 }
 
-static bool send_event(struct wl_resource *resource, uint32_t opcode, union wl_argument *arguments)
+static void send_event(struct wl_resource *resource, uint32_t opcode, union wl_argument *arguments)
 {
+    struct wl_client *client = resource->client;
     const struct wl_message *message = &resource->object.interface->events[opcode];
     struct packed packed;
     bool is_taken = false;
     if (!pack(&packed, message->signature, arguments, true))
-        log_fault(message, packed.fault);
-    else if (!name_objects(&packed, arguments, resource->client))
+        give_up(client, message, packed.fault);
+    else if (!name_objects(&packed, arguments, client)) {
         log_line("compositor bug: The compositor tried to use an object from one client in a '%s.%s' for a different "
                  "client.\n",
                  resource->object.interface->name, message->name);
-    else {
+        client_fail(client);
+    } else {
         trace_event(resource, opcode, arguments);
         is_taken = hand_over(resource, opcode, &packed);
     }
     packed_end(&packed, is_taken);
-    return is_taken;
 }
 
 EXPORT void wl_resource_post_event_array(struct wl_resource *resource, uint32_t opcode, union wl_argument *args)
 {
     struct wl_client *client = resource->client;
-    if (client->has_error || !client_enter(client))
+    client_enter(client);
+    if (client->has_error)
         return;
     if (opcode >= (uint32_t)resource->object.interface->event_count)
         log_and_abort("%s has no event %u\n", resource->object.interface->name, opcode);
-    if (!send_event(resource, opcode, args))
-        client_fail(client);
+    send_event(resource, opcode, args);
 }
 
 static void post(struct wl_resource *resource, uint32_t opcode, va_list list)

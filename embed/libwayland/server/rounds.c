@@ -28,13 +28,12 @@ static void watch_for(struct wl_client *client, bool is_full)
     wl_event_source_fd_update(client->source, WL_EVENT_READABLE | (is_full ? WL_EVENT_WRITABLE : 0u));
 }
 
-/* The socket is of no use any more. */
+/* The socket is of no use any more. That is no error of the client: what its resources say at their end is logged. */
 static void cut(struct wl_client *client)
 {
     nb_server_send_failed(&client->display->core, &client->id);
     client->is_cut = true;
     client->display->has_cut = true;
-    client_fail(client);
 }
 
 /* Sends what is ready, until nothing is or the socket takes no more. */
@@ -129,7 +128,8 @@ static void give_back(struct wl_client *client, const nb_gone *gone, const uint8
     if (gone->waiting.bytes > 0 && !client->is_ending && !client->is_cut)
         socket_send(client->socket, bytes, gone->waiting.bytes, descriptors, gone->waiting.descriptors);
     client->is_inside = false;
-    client_fail(client);
+    if (!client->is_cut)
+        client_fail(client);
     unlist(client);
     client_release(client);
 }
@@ -194,7 +194,7 @@ static const char *receive(struct wl_client *client)
         close_all(descriptors, count);
         return NULL;
     }
-    if (client->unread + count > MOST_HELD || !client_enter(client) ||
+    if (client->is_cut || client->unread + count > MOST_HELD || !client_enter(client) ||
         nb_server_received(&display->core, &client->id, display->buffer, (size_t)came, descriptors, count) != NB_OK) {
         close_all(descriptors, count);
         client_fail(client);

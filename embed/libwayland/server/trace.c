@@ -93,7 +93,7 @@ static void tell_for(struct wl_client *client, const struct wl_interface *interf
 void trace_delete_id(struct wl_client *client, uint32_t id)
 {
     union wl_argument arguments[] = { { .u = id } };
-    if (trace_is_on(client->display) && !client->has_error)
+    if (trace_is_on(client->display) && !client->has_error && !client->is_ending)
         tell_for(client, &wl_display_interface, 1, true, DISPLAY_DELETE_ID, arguments);
 }
 
