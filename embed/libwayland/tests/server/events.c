@@ -208,6 +208,18 @@ static void errors(int which)
     show();
 }
 
+static void long_error(int which)
+{
+    static char words[2000];
+    begin_with_thing();
+    memset(words, 'e', (size_t)which);
+    wl_resource_post_error(thing, 1, "%s", words);
+    dispatch_all();
+    static uint32_t came[1000];
+    ssize_t length = recv(peer, came, sizeof came, MSG_DONTWAIT);
+    printf("  %zd bytes, a text of %u\n", length, came[4]);
+}
+
 static void post_error(struct wl_resource *resource)
 {
     wl_resource_post_error(resource, 7, "in the handler");
@@ -247,5 +259,7 @@ const struct test event_tests[] = { { "event-kinds", kinds, 0 },
                                     { "error", errors, 2 },
                                     { "error", errors, 3 },
                                     { "error", errors, 4 },
+                                    { "long-error", long_error, 100 },
+                                    { "long-error", long_error, 1500 },
                                     { "error-in-a-handler", error_in_a_handler, 0 },
                                     { 0 } };

@@ -103,6 +103,36 @@ static void bad_binds(int which)
     show();
 }
 
+/* The answer to sync has a serial. */
+static void sync_serial(int which)
+{
+    begin();
+    for (int i = 0; i < which; i++)
+        wl_display_next_serial(display);
+    request(1, 0, "w", 2);
+    turn();
+}
+
+/* Another module has another struct of the same name, with more, or other messages. */
+static void two_structs(int which)
+{
+    static const struct wl_message requests[] = {
+        { "destroy", "", NULL }, { "number", "i", NULL }, { "late", "2i", NULL }, { "more", "i", NULL }
+    }, other[] = { { "destroy", "", NULL }, { "number", "s", NULL }, { "late", "2i", NULL } };
+    const struct wl_interface more = { "part", 6, which == 2 ? 3 : 4, which == 2 ? other : requests, 1,
+                                       part_interface.events };
+    begin();
+    wl_global_create(display, &part_interface, 2, "first", bind_part);
+    struct wl_global *second = wl_global_create(display, &more, which == 0 ? 5 : 6, "second", bind_part);
+    printf("  a second struct: %s\n", second ? "taken" : "refused");
+    get_registry(2);
+    bind_global(2, 3, "part", 5, 3);
+    turn();
+    request(3, PART_NUMBER, "w", 4);
+    turn();
+    show();
+}
+
 /* ======== The filter */
 
 static bool is_allowed = true;
@@ -185,6 +215,8 @@ const struct test global_tests[] = {
     { "bad-bind", bad_binds, 10 },      { "bad-bind", bad_binds, 11 },     { "bad-bind", bad_binds, 12 },
     { "bad-bind", bad_binds, 13 },      { "bad-bind", bad_binds, 14 },     { "bad-bind", bad_binds, 15 },
     { "bad-bind", bad_binds, 16 },      { "bad-bind", bad_binds, 17 },     { "bad-bind", bad_binds, 18 },
+    { "sync-serial", sync_serial, 0 },  { "sync-serial", sync_serial, 3 },
+    { "two-structs", two_structs, 0 },  { "two-structs", two_structs, 1 }, { "two-structs", two_structs, 2 },
     { "filter", filtered, 0 },          { "filter", filtered, 1 },         { "filter", filtered, 2 },
     { "filter", filtered, 3 },          { "filter-for-one", filtered_for_one, 0 },
     { "filter-for-one", filtered_for_one, 1 },
