@@ -3,6 +3,7 @@
 #include "table.h"
 #include "log.h"
 #include "signature.h"
+#include <stdio.h>
 #include <stdlib.h>
 #include <string.h>
 
@@ -12,6 +13,7 @@ struct table_row {
     const struct wl_interface *interface;
     char *name;
     struct wl_array shapes;
+    uint8_t *descriptors; /* of each event, how many it has */
     int version, requests, events;
 };
 
@@ -27,6 +29,7 @@ void table_begin(struct table *table, table_extend *extend, void *session)
 static void row_end(struct table_row *row)
 {
     free(row->name);
+    free(row->descriptors);
     free(row->shapes.data);
 }
 
@@ -50,6 +53,12 @@ const struct wl_interface *table_interface(const struct table *table, uint32_t n
 {
     const struct table_row *row = row_of(table, number);
     return row ? row->interface : NULL;
+}
+
+uint32_t table_event_descriptors(const struct table *table, uint32_t number, uint32_t event)
+{
+    const struct table_row *row = row_of(table, number);
+    return row && event < (uint32_t)row->events ? row->descriptors[event] : 0;
 }
 
 static const char *name_of(const struct table *table, uint32_t number)
@@ -117,11 +126,29 @@ static bool fits(const struct table_row *row, const struct wl_interface *interfa
     return fit;
 }
 
+/* Whether the row has each message of the struct. */
+static bool has_all(const struct table_row *row, const struct wl_interface *interface)
+{
+    return interface->method_count <= row->requests && interface->event_count <= row->events && fits(row, interface);
+}
+
+static uint8_t count_descriptors(const struct wl_message *message)
+{
+    const char *rest = message->signature;
+    char letter;
+    bool is_nullable;
+    uint8_t count = 0;
+    while ((rest = signature_next(rest, &letter, &is_nullable)))
+        count = (uint8_t)(count + (letter == 'h'));
+    return count;
+}
+
 static bool row_begin(struct table_row *row, const struct wl_interface *interface)
 {
     bool is_well = true;
     *row = (struct table_row){ .interface = interface,
                                .name = strdup(interface->name),
+                               .descriptors = calloc((size_t)interface->event_count + 1, 1),
                                .version = interface->version,
                                .requests = interface->method_count,
                                .events = interface->event_count };
@@ -129,7 +156,9 @@ static bool row_begin(struct table_row *row, const struct wl_interface *interfac
         is_well = is_well && append_shape(&row->shapes, &interface->methods[i]);
     for (int i = 0; i < interface->event_count; i++)
         is_well = is_well && append_shape(&row->shapes, &interface->events[i]);
-    if (row->name && is_well)
+    for (int i = 0; row->descriptors && i < interface->event_count; i++)
+        row->descriptors[i] = count_descriptors(&interface->events[i]);
+    if (row->name && row->descriptors && is_well)
         return true;
     row_end(row);
     return false;
@@ -201,6 +230,17 @@ static uint32_t remembered(const struct table *table, const struct wl_interface 
                : 0;
 }
 
+/* The first row of a client's table that has each message of the struct; 0 if there is none. */
+static uint32_t number_with_all(const struct table *table, const struct wl_interface *interface)
+{
+    uint32_t number = 1, end = NB_INTERFACE_FIRST + table->count;
+    for (; number < end; number++)
+        if (strcmp(name_of(table, number), interface->name) == 0 &&
+            (number < NB_INTERFACE_FIRST || has_all(row_of(table, number), interface)))
+            return number;
+    return 0;
+}
+
 static uint32_t number_of_name(const struct table *table, const char *name)
 {
     uint32_t number = 1, end = NB_INTERFACE_FIRST + table->count;
@@ -224,7 +264,7 @@ static uint32_t known(struct table *table, const struct wl_interface *interface,
     uint32_t number = remembered(table, interface);
     if (number)
         return number;
-    number = number_of_name(table, interface->name);
+    number = table->is_of_client ? number_with_all(table, interface) : number_of_name(table, interface->name);
     const struct table_row *row = row_of(table, number);
     if (row && !fits(row, interface)) {
         log_line("interface %s is there twice, with other messages\n", interface->name);
@@ -258,11 +298,13 @@ static const struct wl_interface *found_at(const struct addition *addition, uint
     return ((const struct wl_interface *const *)addition->found.data)[index];
 }
 
-/* The index of a name among those that were found; their count if it is not there. */
-static uint32_t index_of(const struct addition *addition, const char *name)
+/* The index of an interface among those that were found, by its name, or of a client by its struct; their count if it is
+ * not there. */
+static uint32_t index_of(const struct addition *addition, const struct wl_interface *interface)
 {
     uint32_t index = 0;
-    while (index < found_count(addition) && strcmp(found_at(addition, index)->name, name) != 0)
+    while (index < found_count(addition) && found_at(addition, index) != interface &&
+           (addition->table->is_of_client || strcmp(found_at(addition, index)->name, interface->name) != 0))
         index++;
     return index;
 }
@@ -270,7 +312,7 @@ static uint32_t index_of(const struct addition *addition, const char *name)
 static void find(struct addition *addition, const struct wl_interface *interface)
 {
     if (addition->is_refused || known(addition->table, interface, &addition->is_refused) || addition->is_refused ||
-        index_of(addition, interface->name) < found_count(addition))
+        index_of(addition, interface) < found_count(addition))
         return;
     if (!append(&addition->found, &interface, sizeof interface))
         addition->is_refused = true;
@@ -311,10 +353,17 @@ static uint32_t kind_of(char letter)
     }
 }
 
-static uint32_t number_after(const struct addition *addition, const struct wl_interface *interface)
+static uint32_t number_after(struct addition *addition, const struct wl_interface *interface)
 {
-    uint32_t number = number_of_name(addition->table, interface->name);
-    return number ? number : NB_INTERFACE_FIRST + addition->table->count + index_of(addition, interface->name);
+    uint32_t number = known(addition->table, interface, &addition->is_refused);
+    return number ? number : NB_INTERFACE_FIRST + addition->table->count + index_of(addition, interface);
+}
+
+/* The number in the row of an object argument. */
+static uint32_t number_of_type(struct addition *addition, char letter, const struct wl_interface *type)
+{
+    return !type || (letter == 'o' && addition->table->is_of_client) ? NB_INTERFACE_ANY
+                                                                     : number_after(addition, type);
 }
 
 static bool add_message(struct addition *addition, const struct wl_message *message)
@@ -331,23 +380,47 @@ static bool add_message(struct addition *addition, const struct wl_message *mess
         return false;
     for (uint32_t i = 0; (rest = signature_next(rest, &letter, &is_nullable)); i++) {
         nb_argument_row argument = { .kind = kind_of(letter), .is_nullable = is_nullable };
-        if (is_object(letter) && message->types && message->types[i])
-            argument.interface = number_after(addition, message->types[i]);
+        if (is_object(letter) && message->types)
+            argument.interface = number_of_type(addition, letter, message->types[i]);
         if (!append(&addition->arguments, &argument, sizeof argument))
             return false;
     }
     return true;
 }
 
-static bool add_interface(struct addition *addition, const struct wl_interface *interface)
+/* How many rows before the one at this index have its name: in a client's table alone there are such. */
+static uint32_t namesakes(const struct addition *addition, uint32_t index)
 {
+    const char *name = found_at(addition, index)->name;
+    uint32_t count = 0;
+    for (uint32_t i = 0; i < addition->table->count; i++)
+        count += strcmp(addition->table->rows[i].name, name) == 0;
+    for (uint32_t i = 0; i < index; i++)
+        count += strcmp(found_at(addition, i)->name, name) == 0;
+    return count;
+}
+
+/* The name of a row; behind it a number, which no interface has, if rows before it have that name. */
+static bool add_name(struct addition *addition, uint32_t index)
+{
+    char number[16] = "";
+    const char *name = found_at(addition, index)->name;
+    uint32_t count = namesakes(addition, index);
+    if (count > 0)
+        snprintf(number, sizeof number, "'%u", count + 1);
+    return append(&addition->text, name, strlen(name)) && append(&addition->text, number, strlen(number));
+}
+
+static bool add_interface(struct addition *addition, uint32_t index)
+{
+    const struct wl_interface *interface = found_at(addition, index);
     nb_interface_row row = { .name_at = (uint32_t)addition->text.size,
-                             .name_length = (uint32_t)strlen(interface->name),
                              .version = (uint32_t)interface->version,
                              .requests = (uint32_t)interface->method_count,
                              .events = (uint32_t)interface->event_count };
-    bool is_well = append(&addition->text, interface->name, row.name_length) &&
-                   append(&addition->interfaces, &row, sizeof row);
+    bool is_well = add_name(addition, index);
+    row.name_length = (uint32_t)addition->text.size - row.name_at;
+    is_well = is_well && append(&addition->interfaces, &row, sizeof row);
     for (int i = 0; i < interface->method_count; i++)
         is_well = is_well && add_message(addition, &interface->methods[i]);
     for (int i = 0; i < interface->event_count; i++)
@@ -387,7 +460,7 @@ static bool add(struct addition *addition)
 {
     nb_table_fault fault = { 0 };
     for (uint32_t i = 0; i < found_count(addition); i++)
-        if (!add_interface(addition, found_at(addition, i))) {
+        if (!add_interface(addition, i)) {
             log_line("interface %s has no place in the table\n", found_at(addition, i)->name);
             return false;
         }
