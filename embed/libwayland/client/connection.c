@@ -234,6 +234,9 @@ static nb_status extend(void *session, const nb_table *rows, nb_table_fault *fau
     return nb_client_extend(session, rows, fault);
 }
 
+/* Its events are handled here. A program that looks sees a listener, and cannot add another one. */
+static const struct wl_display_listener own_listener;
+
 /* Its own proxy is freed with the display, and never alone: so it is named once more than by events. */
 static void begin_queues(struct wl_display *display)
 {
@@ -241,6 +244,8 @@ static void begin_queues(struct wl_display *display)
     queues_add(&display->queues, &display->own_queue.queue);
     queues_add_object(&display->default_queue.queue, &display->proxy.queued);
     display->proxy.queued.named = 1;
+    display->proxy.object.implementation = &own_listener;
+    display->proxy.user_data = display;
     display->proxy.display = display->default_queue.display = display->own_queue.display = display;
 }
 

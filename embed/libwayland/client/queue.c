@@ -4,6 +4,7 @@
  * A queue is freed when the program has destroyed it and nobody dispatches it any more. Its events are ended when it is
  * destroyed, and its proxies have the default queue from then on (queues.h): so no queue that is gone is ever read. */
 #include "queue.h"
+#include "../common/print.h"
 #include "connection.h"
 #include "event.h"
 #include "proxy.h"
@@ -149,10 +150,14 @@ static void dispatch_event_locked(struct wl_display *display, struct event *even
 
 static void dispatch_own_locked(struct wl_display *display, const struct event *event)
 {
-    if (event->kind == EVENT_OF_ERROR)
+    if (event->kind == EVENT_OF_ERROR) {
         take_error_locked(display, event->error.code, event->error.number, event->error.text);
-    else
-        number_deleted_locked(display, event->opcode);
+        return;
+    }
+    const union wl_argument number = { .u = event->opcode };
+    if (is_logging)
+        print_message("", &display->proxy.object, &wl_display_interface.events[1], &number, true);
+    number_deleted_locked(display, number.u);
 }
 
 /* How many events were handed out or dropped, until none waits or the display has an error. */

@@ -8,6 +8,7 @@
 #include "../../socket.h"
 #include "../common/arguments.h"
 #include "../common/log.h"
+#include "../common/print.h"
 #include "connection.h"
 #include "event.h"
 #include "proxy.h"
@@ -229,12 +230,19 @@ static int lacks_descriptor(const struct wl_display *display, const struct head 
     return -1;
 }
 
-/* Adds a message of an object that is there to the run. */
+/* Adds a message of an object that is there to the run, or was and the program has destroyed it. */
 static int add_message(struct wl_display *display, struct run *run, const struct head *head)
 {
     const struct slot *slot = numbers_find(&display->numbers, head->sender);
     struct input *input = &display->input;
     uint32_t needed = table_event_descriptors(&display->table, slot->row, head->opcode);
+    if (is_logging && !slot->proxy)
+        print_thrown_away("[zombie]", head->sender, head->opcode, needed, head->size);
+    if (!slot->proxy && !table_has_event(&display->table, slot->row, head->opcode)) {
+        int answer = feed_run(display, run);
+        pass_over(run, head->size);
+        return answer;
+    }
     if ((run->descriptors + needed > NB_MOST_DESCRIPTORS || run->to - run->from + head->size > MOST_AT_ONCE) &&
         feed_run(display, run) < 0)
         return -1;
@@ -270,6 +278,8 @@ static int take_message(struct wl_display *display, struct run *run, const struc
     slot = numbers_find(&display->numbers, head->sender);
     if (slot && slot->row != 0 && !is_delete)
         return add_message(display, run, head);
+    if (is_logging && !is_delete)
+        print_thrown_away("[unknown]", head->sender, head->opcode, 0, head->size);
     pass_over(run, head->size);
     return 0;
 }

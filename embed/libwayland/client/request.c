@@ -12,25 +12,26 @@
 
 /* ======== Arguments */
 
-/* Puts the ids of the objects in, and finds the place of the new object: `count` if there is none. False if an object is
- * null that may not be. */
-static bool add_ids(struct packed *packed, const struct wl_message *message, const union wl_argument *arguments,
-                    uint32_t *place)
+/* Puts the ids of objects in. A new object is `*made`, or the one by wl_proxy_create that the program passes. False if an
+ * object is null that may not be. */
+static bool add_ids(struct packed *packed, const struct wl_message *message, union wl_argument *arguments,
+                    struct wl_proxy **made)
 {
-    *place = packed->count;
     for (uint32_t i = 0; i < packed->count; i++) {
         nb_argument *slot = &packed->arguments[i];
-        if (slot->kind == NB_NEW_ID)
-            *place = i;
-        if (slot->kind != NB_OBJECT)
+        if (slot->kind == NB_NEW_ID && *made)
+            arguments[i].o = &(*made)->object;
+        if (slot->kind != NB_OBJECT && slot->kind != NB_NEW_ID)
             continue;
-        if (arguments[i].o)
-            slot->object = session_id(CONTAINER(arguments[i].o, struct wl_proxy, object));
-        else if (!signature_is_nullable(message->signature, i)) {
+        if (!arguments[i].o && !signature_is_nullable(message->signature, i)) {
             packed->fault = "an object is null, and may not be";
             errno = EINVAL;
             return false;
         }
+        if (slot->kind == NB_NEW_ID)
+            *made = CONTAINER(arguments[i].o, struct wl_proxy, object);
+        else if (arguments[i].o)
+            slot->object = session_id(CONTAINER(arguments[i].o, struct wl_proxy, object));
     }
     return true;
 }
@@ -102,18 +103,11 @@ static int send_packed(struct wl_proxy *proxy, uint32_t opcode, struct packed *p
     struct wl_display *display = proxy->display;
     const struct wl_message *message = &proxy->object.interface->methods[opcode];
     size_t length = length_on_wire(packed);
-    uint32_t place;
-    if (!add_ids(packed, message, arguments, &place))
+    if (!add_ids(packed, message, arguments, &made))
         return -1;
     if (length > UINT16_MAX) {
         errno = E2BIG;
         return -1;
-    }
-    if (place < packed->count) {
-        if (made)
-            arguments[place].o = &made->object;
-        else if (arguments[place].o) /* of wl_proxy_create */
-            made = CONTAINER(arguments[place].o, struct wl_proxy, object);
     }
     if (make_room_locked(display, length, packed->descriptors) < 0 || hand_over(proxy, opcode, packed, made) < 0)
         return -1;
@@ -141,7 +135,7 @@ static void send_locked(struct wl_proxy *proxy, uint32_t opcode, union wl_argume
     if (packed.fault)
         log_line("error marshalling arguments for %s (signature %s): %s\n", message->name, message->signature,
                  packed.fault);
-    log_line("Error marshalling request: %s\n", strerror(error));
+    log_line("Error %s request: %s\n", packed.fault ? "marshalling" : "sending", strerror(error));
     fail_locked(proxy->display, error);
 }
 

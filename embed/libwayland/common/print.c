@@ -63,21 +63,36 @@ static void print_argument(char letter, const union wl_argument *argument, const
     }
 }
 
+static void print_time(void)
+{
+    struct timespec time;
+    clock_gettime(CLOCK_REALTIME, &time);
+    uint32_t microseconds = (uint32_t)((uint64_t)time.tv_sec * 1000000 + (uint64_t)time.tv_nsec / 1000);
+    fprintf(stderr, "[%7u.%03u] ", microseconds / 1000, microseconds % 1000);
+}
+
+void print_thrown_away(const char *what, uint32_t sender, uint32_t opcode, uint32_t descriptors, size_t bytes)
+{
+    flockfile(stderr);
+    print_time();
+    fprintf(stderr, "discarded %s@%u.[event %u](%u fd, %zu byte)\n", what, sender, opcode, descriptors, bytes);
+    funlockfile(stderr);
+}
+
 void print_message(const char *before, const struct wl_object *sender, const struct wl_message *message,
                    const union wl_argument *arguments, bool new_ids_are_objects)
 {
-    struct timespec time;
     const char *rest = message->signature;
     char letter;
     bool is_nullable;
-    clock_gettime(CLOCK_REALTIME, &time);
-    uint32_t microseconds = (uint32_t)((uint64_t)time.tv_sec * 1000000 + (uint64_t)time.tv_nsec / 1000);
-    fprintf(stderr, "[%7u.%03u] %s%s@%u.%s(", microseconds / 1000, microseconds % 1000, before,
-            sender->interface->name, sender->id, message->name);
+    flockfile(stderr); /* lines of several threads do not mix */
+    print_time();
+    fprintf(stderr, "%s%s@%u.%s(", before, sender->interface->name, sender->id, message->name);
     for (uint32_t i = 0; (rest = signature_next(rest, &letter, &is_nullable)); i++) {
         if (i > 0)
             fputs(", ", stderr);
         print_argument(letter, &arguments[i], message->types ? message->types[i] : NULL, new_ids_are_objects);
     }
     fputs(")\n", stderr);
+    funlockfile(stderr);
 }

@@ -12,4 +12,7 @@ bool print_is_asked(const char *side);
 void print_message(const char *before, const struct wl_object *sender, const struct wl_message *message,
                    const union wl_argument *arguments, bool new_ids_are_objects);
 
+/* Prints that a message of a number that has no object is thrown away. `what` stands for its interface. */
+void print_thrown_away(const char *what, uint32_t sender, uint32_t opcode, uint32_t descriptors, size_t bytes);
+
 #endif

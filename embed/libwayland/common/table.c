@@ -55,6 +55,13 @@ const struct wl_interface *table_interface(const struct table *table, uint32_t n
     return row ? row->interface : NULL;
 }
 
+bool table_has_event(const struct table *table, uint32_t number, uint32_t event)
+{
+    static const uint32_t events_beforehand[NB_INTERFACE_FIRST] = { 0, 2, 2, 1 };
+    const struct table_row *row = row_of(table, number);
+    return event < (row ? (uint32_t)row->events : number < NB_INTERFACE_FIRST ? events_beforehand[number] : 0);
+}
+
 uint32_t table_event_descriptors(const struct table *table, uint32_t number, uint32_t event)
 {
     const struct table_row *row = row_of(table, number);
