@@ -99,12 +99,15 @@ static inline struct wl_proxy *sender_of(const struct event *event)
 
 /* ======== Displays */
 
-/* Bytes that came and are no whole message yet, and descriptors that no message has taken yet. */
+/* Bytes that came and are no whole message yet, and descriptors that no message has taken yet. `lent` are those that the
+ * session has, and will give back with their events: if it cannot, for want of memory, they are closed with the display. */
 struct input {
     uint8_t *bytes;
     size_t count, room;
     int32_t *descriptors;
     size_t descriptor_count, descriptor_room;
+    int32_t lent[NB_MOST_DESCRIPTORS];
+    uint32_t lent_count;
 };
 
 struct wl_display {

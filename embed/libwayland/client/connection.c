@@ -312,6 +312,7 @@ EXPORT void wl_display_disconnect(struct wl_display *display)
     nb_client_end(&display->session);
     table_end(&display->table);
     numbers_end(&display->numbers);
+    close_all(display->input.lent, display->input.lent_count);
     close_all(display->input.descriptors, display->input.descriptor_count);
     free(display->input.descriptors);
     free(display->input.bytes);

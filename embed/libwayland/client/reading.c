@@ -104,11 +104,23 @@ static int take_failure(struct wl_display *display)
     return -1;
 }
 
+/* The session has given a descriptor back. */
+static void take_back(struct input *input, int32_t descriptor)
+{
+    uint32_t i = 0;
+    while (i < input->lent_count && input->lent[i] != descriptor)
+        i++;
+    if (i < input->lent_count)
+        input->lent[i] = input->lent[--input->lent_count];
+}
+
 static void close_dropped(struct wl_display *display)
 {
     int32_t descriptor;
-    while (nb_client_next_dropped(&display->session, &descriptor) == NB_OK)
+    while (nb_client_next_dropped(&display->session, &descriptor) == NB_OK) {
+        take_back(&display->input, descriptor);
         close(descriptor);
+    }
 }
 
 /* The next event of the session. The display's text grows as it needs. */
@@ -119,6 +131,9 @@ static nb_status next_event(struct wl_display *display, nb_event *event, nb_argu
                                           display->text_room)) == NB_TOO_SMALL)
         if (event->arguments > MOST_ARGUMENTS || !grow_text(display, event->bytes))
             return NB_OUT_OF_MEMORY;
+    for (uint32_t i = 0; status == NB_OK && display->input.lent_count > 0 && i < event->arguments; i++)
+        if (arguments[i].kind == NB_DESCRIPTOR)
+            take_back(&display->input, arguments[i].value);
     return status;
 }
 
@@ -174,8 +189,11 @@ int feed_locked(struct wl_display *display, const uint8_t *bytes, size_t length,
         errno = ENOMEM;
         return -1;
     }
-    if (descriptors > 0)
+    if (descriptors > 0) {
+        memcpy(display->input.lent, display->input.descriptors, descriptors * sizeof(int32_t));
+        display->input.lent_count = descriptors;
         take_away(&display->input, descriptors);
+    }
     return take_events(display);
 }
 
