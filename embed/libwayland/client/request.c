@@ -12,28 +12,29 @@
 
 /* ======== Arguments */
 
-/* Puts the ids of objects in. A new object is `*made`, or the one by wl_proxy_create that the program passes. False if an
- * object is null that may not be. */
-static bool add_ids(struct packed *packed, const struct wl_message *message, union wl_argument *arguments,
-                    struct wl_proxy **made)
+/* Puts the ids of objects in. A new object is `*made`, or the one by wl_proxy_create that the program passes. */
+static void add_ids(struct packed *packed, const union wl_argument *arguments, struct wl_proxy **made)
 {
     for (uint32_t i = 0; i < packed->count; i++) {
         nb_argument *slot = &packed->arguments[i];
-        if (slot->kind == NB_NEW_ID && *made)
-            arguments[i].o = &(*made)->object;
-        if (slot->kind != NB_OBJECT && slot->kind != NB_NEW_ID)
+        if ((slot->kind != NB_OBJECT && slot->kind != NB_NEW_ID) || !arguments[i].o)
             continue;
-        if (!arguments[i].o && !signature_is_nullable(message->signature, i)) {
-            packed->fault = "an object is null, and may not be";
-            errno = EINVAL;
-            return false;
-        }
+        struct wl_proxy *proxy = CONTAINER(arguments[i].o, struct wl_proxy, object);
         if (slot->kind == NB_NEW_ID)
-            *made = CONTAINER(arguments[i].o, struct wl_proxy, object);
-        else if (arguments[i].o)
-            slot->object = session_id(CONTAINER(arguments[i].o, struct wl_proxy, object));
+            *made = proxy;
+        else
+            slot->object = session_id(proxy);
     }
-    return true;
+}
+
+/* Puts the proxy where the signature has a new id. */
+static void put_made(const char *signature, union wl_argument *arguments, struct wl_proxy *made)
+{
+    char letter;
+    bool is_nullable;
+    for (uint32_t i = 0; made && (signature = signature_next(signature, &letter, &is_nullable)); i++)
+        if (letter == 'n')
+            arguments[i].o = &made->object;
 }
 
 static size_t length_on_wire(const struct packed *packed)
@@ -103,8 +104,7 @@ static int send_packed(struct wl_proxy *proxy, uint32_t opcode, struct packed *p
     struct wl_display *display = proxy->display;
     const struct wl_message *message = &proxy->object.interface->methods[opcode];
     size_t length = length_on_wire(packed);
-    if (!add_ids(packed, message, arguments, &made))
-        return -1;
+    add_ids(packed, arguments, &made);
     if (length > UINT16_MAX) {
         errno = E2BIG;
         return -1;
@@ -125,17 +125,18 @@ static void send_locked(struct wl_proxy *proxy, uint32_t opcode, union wl_argume
     const struct wl_message *message = &proxy->object.interface->methods[opcode];
     struct packed packed;
     bool is_taken = false;
-    int answer = pack(&packed, message->signature, arguments) ? 0 : -1;
+    put_made(message->signature, arguments, made);
+    int answer = pack(&packed, message->signature, arguments, true) ? 0 : -1;
     if (answer == 0)
         answer = send_packed(proxy, opcode, &packed, arguments, made, &is_taken);
     int error = errno;
     packed_end(&packed, is_taken);
     if (answer == 0 || proxy->display->last_error != 0)
         return;
-    if (packed.fault)
+    if (packed.fault[0])
         log_line("error marshalling arguments for %s (signature %s): %s\n", message->name, message->signature,
                  packed.fault);
-    log_line("Error %s request: %s\n", packed.fault ? "marshalling" : "sending", strerror(error));
+    log_line("Error %s request: %s\n", packed.fault[0] ? "marshalling" : "sending", strerror(error));
     fail_locked(proxy->display, error);
 }
 

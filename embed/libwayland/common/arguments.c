@@ -108,13 +108,14 @@ static bool text_of(char letter, const union wl_argument *argument, const void *
     return true;
 }
 
-static bool fail(struct packed *packed, const char *format, ...) WL_PRINTF(2, 3);
-static bool fail(struct packed *packed, const char *format, ...)
+static bool fail(struct packed *packed, int error, const char *format, ...) WL_PRINTF(3, 4);
+static bool fail(struct packed *packed, int error, const char *format, ...)
 {
     va_list list;
     va_start(list, format);
     vsnprintf(packed->fault, sizeof packed->fault, format, list);
     va_end(list);
+    errno = error;
     return false;
 }
 
@@ -130,7 +131,7 @@ static bool make_room(struct packed *to, const char *signature, const union wl_a
         if (text_of(letter, &arguments[i], &text, &length)) {
             count++;
             if (length > NB_MOST_BYTES || (total += length) > NB_MOST_BYTES)
-                return fail(to, "it is longer than a message can be");
+                return fail(to, E2BIG, "it is longer than a message can be");
         }
     *is_alone = count == 1;
     to->bytes = *is_alone ? text : to->few;
@@ -138,7 +139,7 @@ static bool make_room(struct packed *to, const char *signature, const union wl_a
         return true;
     to->many = malloc(total);
     to->bytes = to->many;
-    return to->many || fail(to, "there is no memory");
+    return to->many || fail(to, ENOMEM, "there is no memory");
 }
 
 /* Copies a string or array behind those that are there, unless it is alone. Answers where it stands. */
@@ -155,16 +156,21 @@ static bool pack_descriptor(struct packed *to, nb_argument *slot, int descriptor
 {
     int copy = fcntl(descriptor, F_DUPFD_CLOEXEC, 0);
     if (copy < 0)
-        return fail(to, "dup failed: %s", strerror(errno));
+        return fail(to, errno, "dup failed: %s", strerror(errno));
     *slot = nb_descriptor(copy);
     to->descriptors++;
     return true;
 }
 
-/* What may be null, and is: a string, an object, or a new id that is a number. */
+/* What may be null, and is: a string, an object, an array, which is empty then, or a new id that is a number. */
 static bool pack_null(nb_argument *slot, char letter)
 {
-    *slot = letter == 's' ? nb_null_string() : letter == 'o' ? nb_object(nb_null()) : nb_new_id(nb_null());
+    switch (letter) {
+    case 's': *slot = nb_null_string(); break;
+    case 'o': *slot = nb_object(nb_null()); break;
+    case 'a': *slot = nb_array(0, 0); break;
+    default: *slot = nb_new_id(nb_null());
+    }
     return true;
 }
 
@@ -175,7 +181,8 @@ static bool pack_one(struct packed *to, char letter, bool may_be_null, const uni
     size_t length;
     *slot = nb_int(0);
     if (strchr("sona", letter) && !argument->o)
-        return may_be_null ? pack_null(slot, letter) : fail(to, "null value passed for arg %u", to->count - 1);
+        return may_be_null ? pack_null(slot, letter)
+                           : fail(to, EINVAL, "null value passed for arg %u", to->count - 1);
     if (text_of(letter, argument, &text, &length)) {
         uint32_t at = add_text(to, text, length, is_alone);
         *slot = letter == 's' ? nb_string(at, (uint32_t)length) : nb_array(at, (uint32_t)length);

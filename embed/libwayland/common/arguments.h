@@ -31,7 +31,8 @@ void close_descriptors(const nb_argument *arguments, uint32_t count);
 
 /* ---- from the program to a session */
 
-/* Arguments as a session takes them. `fault` says in words why they cannot be sent, and is empty else. */
+/* Arguments as a session takes them. `fault` says in words why they cannot be sent, and is empty else; so does
+ * errno. */
 struct packed {
     nb_argument arguments[MOST_ARGUMENTS];
     uint32_t count, descriptors;
