@@ -1,8 +1,8 @@
 /* Six threads over one connection, to be built with ThreadSanitizer: two by round trips over queues of their own, two that
  * prepare, wait and read, and two that make, move and destroy objects. Another thread is the server.
  *
- *   client-threads ROUNDS    the last line is `N rounds, M answers` */
-#include "client.h"
+ *   threads ROUNDS    the last line is `N rounds, M answers` */
+#include "kinds.h"
 #include <pthread.h>
 #include <stdatomic.h>
 

@@ -1,8 +1,8 @@
 /* Each allocation of a scenario is refused in turn, alone and with all after it. The program may hear of errors, but no
  * call crashes, and no descriptor is lost.
  *
- *   client-memory    the last line is `N refusals, 0 descriptors lost` */
-#include "client.h"
+ *   memory    the last line is `N refusals, 0 descriptors lost` */
+#include "kinds.h"
 
 extern void *__libc_malloc(size_t size);
 extern void *__libc_calloc(size_t count, size_t size);
