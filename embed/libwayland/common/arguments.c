@@ -174,13 +174,18 @@ static bool pack_null(nb_argument *slot, char letter)
     return true;
 }
 
+static bool is_pointer(char letter)
+{
+    return letter == 's' || letter == 'o' || letter == 'n' || letter == 'a';
+}
+
 static bool pack_one(struct packed *to, char letter, bool may_be_null, const union wl_argument *argument, bool is_alone)
 {
     nb_argument *slot = &to->arguments[to->count++];
     const void *text;
     size_t length;
     *slot = nb_int(0);
-    if (strchr("sona", letter) && !argument->o)
+    if (is_pointer(letter) && !argument->o)
         return may_be_null ? pack_null(slot, letter)
                            : fail(to, EINVAL, "null value passed for arg %u", to->count - 1);
     if (text_of(letter, argument, &text, &length)) {

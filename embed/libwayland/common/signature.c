@@ -1,19 +1,22 @@
 /* Signatures of messages. It touches nothing but the text that it is given. */
 #include "signature.h"
 #include <stdlib.h>
-#include <string.h>
 
 const char *signature_next(const char *signature, char *letter, bool *is_nullable)
 {
     *is_nullable = false;
-    for (; *signature; signature++) {
-        if (*signature == '?')
-            *is_nullable = true;
-        else if (strchr("iufsonah", *signature)) {
-            *letter = *signature;
-            return signature + 1;
+    for (; *signature; signature++)
+        switch (*signature) {
+        case '?': *is_nullable = true; break;
+        case 'i':
+        case 'u':
+        case 'f':
+        case 's':
+        case 'o':
+        case 'n':
+        case 'a':
+        case 'h': *letter = *signature; return signature + 1;
         }
-    }
     return NULL;
 }
 

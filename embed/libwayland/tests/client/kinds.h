@@ -27,6 +27,9 @@ enum {
     ASK_DESTROY,
     ASK_ARRAY,
     ASK_MAKE_OTHER,
+    ASK_NOTHING,
+    ASK_NUMBERS,
+    ASK_TEXT,
 };
 
 enum {
@@ -57,7 +60,8 @@ static const struct wl_message kinds_requests[] = {
     { "all", "iufsoah", TYPES(kinds_types) },  { "nullable", "?s?o?a", TYPES(nullable_types) },
     { "make", "n", TYPES(two_types) },         { "descriptors", "hh", TYPES(twenty_types) },
     { "destroy", "", TYPES(twenty_types) },    { "array", "2a", TYPES(twenty_types) },
-    { "make_other", "un", TYPES(two_types) },
+    { "make_other", "un", TYPES(two_types) },  { "nothing", "", TYPES(twenty_types) },
+    { "four", "iiii", TYPES(twenty_types) },   { "text", "s", TYPES(twenty_types) },
 };
 
 static const struct wl_message kinds_events[] = {
@@ -73,7 +77,7 @@ static const struct wl_message kinds_events[] = {
     { "surface", "3?o", TYPES(surface_types) },
 };
 
-const struct wl_interface kinds_interface = { "kinds", 3, 7, kinds_requests, 10, kinds_events };
+const struct wl_interface kinds_interface = { "kinds", 3, 10, kinds_requests, 10, kinds_events };
 
 /* ======== The other end */
 
