@@ -266,7 +266,8 @@ static bool begin_session(struct wl_display *display)
 
 EXPORT struct wl_display *wl_display_connect_to_fd(int fd)
 {
-    is_logging = print_is_asked("client");
+    if (print_is_asked("client"))
+        is_logging = true;
     struct wl_display *display = calloc(1, sizeof *display);
     if (!display) {
         close(fd);

@@ -16,12 +16,13 @@ static struct queue *queue_of(const struct wl_proxy *proxy)
 struct wl_proxy *proxy_new_locked(struct wl_proxy *factory, const struct wl_interface *interface, uint32_t version)
 {
     struct wl_display *display = factory->display;
+    int before = errno;
+    errno = EINVAL; /* of an interface that has no place; what finds no memory sets another one */
     uint32_t row = table_number(&display->table, interface);
     struct wl_proxy *proxy = row != 0 ? calloc(1, sizeof *proxy) : NULL;
-    if (!proxy) {
-        errno = ENOMEM;
+    if (!proxy)
         return NULL;
-    }
+    errno = before;
     proxy->object.interface = interface;
     proxy->display = display;
     proxy->version = version;

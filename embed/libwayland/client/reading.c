@@ -114,7 +114,7 @@ static void take_back(struct input *input, int32_t descriptor)
         input->lent[i] = input->lent[--input->lent_count];
 }
 
-static void close_dropped(struct wl_display *display)
+void close_dropped_locked(struct wl_display *display)
 {
     int32_t descriptor;
     while (nb_client_next_dropped(&display->session, &descriptor) == NB_OK) {
@@ -153,7 +153,7 @@ static int take_events(struct wl_display *display)
         answer = -1;
     }
     int error = errno;
-    close_dropped(display);
+    close_dropped_locked(display);
     drop_notes_locked(display);
     errno = error;
     return answer;
@@ -169,7 +169,7 @@ void end_session_locked(struct wl_display *display)
         close_descriptors(arguments, event.arguments);
         finish(display, &event);
     }
-    close_dropped(display);
+    close_dropped_locked(display);
     drop_notes_locked(display);
 }
 

@@ -12,6 +12,9 @@ int receive_locked(struct wl_display *display);
  * -1 with errno. */
 int feed_locked(struct wl_display *display, const uint8_t *bytes, size_t length, uint32_t descriptors);
 
+/* Closes the descriptors that the session had and will not hand out. */
+void close_dropped_locked(struct wl_display *display);
+
 /* Ends the session, so that it keeps nothing any more of what is sent. What came before is thrown away. */
 void end_session_locked(struct wl_display *display);
 

@@ -6,6 +6,7 @@
 #include "../common/signature.h"
 #include "connection.h"
 #include "proxy.h"
+#include "reading.h"
 #include <errno.h>
 #include <stdarg.h>
 #include <string.h>
@@ -112,6 +113,8 @@ static int send_packed(struct wl_proxy *proxy, uint32_t opcode, struct packed *p
     if (make_room_locked(display, length, packed->descriptors) < 0 || hand_over(proxy, opcode, packed, made) < 0)
         return -1;
     *is_taken = true;
+    if (display->has_failed)
+        close_dropped_locked(display);
     display->unsent += length;
     display->unsent_descriptors += packed->descriptors;
     if (is_logging)
