@@ -2,8 +2,8 @@
  *
  *   client OPERATION ROUNDS
  *
- * The other end of the connection is in this process: what the client sends is thrown away, and what it is to receive was
- * written before. So the kernel and a server are not counted. */
+ * The other end of the connection is in this process: what the client sends is thrown away, and what it is to receive
+ * was written before. So the kernel and a server are not counted. */
 #include "../tests/client/kinds.h"
 
 static struct wl_proxy *kinds;
@@ -149,9 +149,9 @@ static const struct {
     const char *name;
     void (*run)(unsigned long rounds);
 } operations[] = {
-    { "nothing", ask_nothing },       { "numbers", ask_numbers },   { "text", ask_text },
-    { "life", make_and_destroy },     { "roundtrip", go_around },   { "event-numbers", hear_numbers },
-    { "event-object", hear_object },  { "event-text", hear_text },
+    { "nothing", ask_nothing },      { "numbers", ask_numbers },  { "text", ask_text },
+    { "life", make_and_destroy },    { "roundtrip", go_around },  { "event-numbers", hear_numbers },
+    { "event-object", hear_object }, { "event-text", hear_text },
 };
 
 int main(int count, char **arguments)

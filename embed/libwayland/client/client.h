@@ -6,9 +6,9 @@
  *
  * Who may free what:
  *
- *   - a proxy, wrappers too: free_unused in proxy.c, once queues.h says that it is unused;
- *   - an event: event_end in event.c, which finishes it in its queue first;
- *   - a queue: release_queue in queue.c, once it is dropped, empty and not dispatched;
+ *   - a proxy, wrappers too: free_unused_locked in proxy.c, once queues.h says that it is unused;
+ *   - an event: event_end_locked in event.c, after it was in hand; and put_event_locked, if it never came into a queue;
+ *   - a queue: release_queue in queue.c, once it is dropped and nobody dispatches it;
  *   - a display: wl_display_disconnect in connection.c. What outlives it belongs to `nowhere` from then on. */
 #ifndef CLIENT_H
 #define CLIENT_H
@@ -99,8 +99,9 @@ static inline struct wl_proxy *sender_of(const struct event *event)
 
 /* ======== Displays */
 
-/* Bytes that came and are no whole message yet, and descriptors that no message has taken yet. `lent` are those that the
- * session has, and will give back with their events: if it cannot, for want of memory, they are closed with the display. */
+/* Bytes that came and are no whole message yet, and descriptors that no message has taken yet. `lent` are those that
+ * the session has, and will give back with their events: if it cannot, for want of memory, they are closed with the
+ * display. */
 struct input {
     uint8_t *bytes;
     size_t count, room;

@@ -37,8 +37,7 @@ int send_waiting_locked(struct wl_display *display)
                                              NB_MOST_DESCRIPTORS, &counts);
         if (status != NB_OK || counts.bytes == 0)
             return sent;
-        ssize_t taken =
-            socket_send(display->socket, display->text, counts.bytes, descriptors, counts.descriptors);
+        ssize_t taken = socket_send(display->socket, display->text, counts.bytes, descriptors, counts.descriptors);
         if (taken < 0) {
             errno = (int)-taken;
             return -1;

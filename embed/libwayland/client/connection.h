@@ -8,8 +8,8 @@
  * waits. */
 int send_waiting_locked(struct wl_display *display);
 
-/* Sends what waits before this much is added, if it would be more than libwayland keeps. -1 with errno if the connection
- * cannot go on. */
+/* Sends what waits before this much is added, if it would be more than libwayland keeps. -1 with errno if the
+ * connection cannot go on. */
 int make_room_locked(struct wl_display *display, size_t bytes, uint32_t descriptors);
 
 /* The display has this error from now on, if it has none. Nothing more is read or sent, and who waits is woken. */

@@ -57,8 +57,7 @@ bool put_deleted_locked(struct wl_display *display, uint32_t number)
 bool put_error_locked(struct wl_display *display, const nb_error *error)
 {
     uint8_t *text;
-    struct event *event =
-        event_new(EVENT_OF_ERROR, &display->proxy, 0, 0, (size_t)error->message_length + 1, &text);
+    struct event *event = event_new(EVENT_OF_ERROR, &display->proxy, 0, 0, (size_t)error->message_length + 1, &text);
     if (!event)
         return false;
     memcpy(text, display->text, error->message_length);
@@ -187,7 +186,8 @@ static bool is_pointer(uint8_t kind)
     return kind == NB_STRING || kind == NB_NULL_STRING || kind == NB_ARRAY || kind == NB_OBJECT || kind == NB_NEW_ID;
 }
 
-/* The program never heard of what the event has: its descriptors are closed, and the object that it made is destroyed. */
+/* The program never heard of what the event has: its descriptors are closed, and the object that it made is destroyed.
+ */
 static void give_back_locked(struct event *event)
 {
     uint32_t place = 1;
@@ -200,8 +200,8 @@ static void give_back_locked(struct event *event)
     }
 }
 
-/* The message of the sender's own struct; NULL if it has none of this form. The session knows the form of another struct
- * of the same name. */
+/* The message of the sender's own struct; NULL if it has none of this form. The session knows the form of another
+ * struct of the same name. */
 static const struct wl_message *message_of(const struct wl_proxy *sender, const nb_event *from)
 {
     const struct wl_interface *interface = sender->object.interface;

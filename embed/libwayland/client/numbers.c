@@ -7,8 +7,8 @@
  * never used again. But programs of libwayland see events later than they are read, and interfaces do not say which
  * events end an object: so mostly the server's delete_id is read while the program still has the object (a frame's
  * wp_presentation_feedback, ..), and at sixty in a second the session would grow for ever. So delete_id does not go to
- * the session when it comes. It waits in the queue of the display's own events, as libwayland lets it do, and the session
- * is told when both have happened. */
+ * the session when it comes. It waits in the queue of the display's own events, as libwayland lets it do, and the
+ * session is told when both have happened. */
 #include "client.h"
 #include "../common/log.h"
 #include "reading.h"

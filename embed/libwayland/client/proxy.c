@@ -1,5 +1,5 @@
-/* Proxies: making, destroying, what a program sets and asks of them. It touches proxies, tells the session which objects
- * are destroyed, and is the one file that frees a proxy. */
+/* Proxies: making, destroying, what a program sets and asks of them. It touches proxies, tells the session which
+ * objects are destroyed, and is the one file that frees a proxy. */
 #include "proxy.h"
 #include "../common/log.h"
 #include <errno.h>
@@ -78,8 +78,8 @@ EXPORT void wl_proxy_destroy(struct wl_proxy *proxy)
     pthread_mutex_unlock(&display->lock);
 }
 
-/* A wrapper is a proxy of the same object that gets no events: what it makes has its queue. It keeps the number, and not
- * the object. */
+/* A wrapper is a proxy of the same object that gets no events: what it makes has its queue. It keeps the number, and
+ * not the object. */
 EXPORT void *wl_proxy_create_wrapper(void *wrapped)
 {
     struct wl_proxy *of = wrapped, *wrapper = calloc(1, sizeof *wrapper);
@@ -112,8 +112,7 @@ EXPORT void wl_proxy_wrapper_destroy(void *proxy_wrapper)
 
 /* ======== What a program sets */
 
-static int set_listener(struct wl_proxy *proxy, wl_dispatcher_func_t dispatcher, const void *implementation,
-                        void *data)
+static int set_listener(struct wl_proxy *proxy, wl_dispatcher_func_t dispatcher, const void *implementation, void *data)
 {
     int answer = 0;
     if (proxy->is_wrapper)

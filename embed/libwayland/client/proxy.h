@@ -4,8 +4,8 @@
 
 #include "client.h"
 
-/* A proxy without a number, in the queue of its factory. NULL, with errno, if there is no memory or the interface has no
- * place in the session's table. */
+/* A proxy without a number, in the queue of its factory. NULL, with errno, if there is no memory or the interface has
+ * no place in the session's table. */
 struct wl_proxy *proxy_new_locked(struct wl_proxy *factory, const struct wl_interface *interface, uint32_t version);
 
 /* The program has destroyed it. Its memory goes with the next free_unused_locked that finds it unused. */

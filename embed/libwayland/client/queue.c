@@ -76,11 +76,10 @@ EXPORT void wl_event_queue_destroy(struct wl_event_queue *queue)
     pthread_mutex_unlock(&display->lock);
 }
 
-/* ======== What outlives its display
+/* ======== What outlives its display */
 
- * Programs destroy proxies and queues after they have disconnected. So a display that ends hands those over to this one,
- * which is never freed: they can be destroyed then, and nothing else has an effect. */
-
+/* Programs destroy proxies and queues after they have disconnected. So a display that ends hands those over to this
+ * one, which is never freed: they can be destroyed then, and nothing else has an effect. */
 struct wl_display nowhere = {
     .lock = PTHREAD_MUTEX_INITIALIZER,
     .was_read = PTHREAD_COND_INITIALIZER,

@@ -33,7 +33,8 @@ struct queued_object {
     bool is_destroyed;
 };
 
-/* `objects` are those that the event names, the sender first. Others may be NULL. They are named once for each place. */
+/* `objects` are those that the event names, the sender first. Others may be NULL. They are named once for each place.
+ */
 struct queued_event {
     struct queue_link link;
     struct queued_object **objects;

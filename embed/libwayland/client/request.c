@@ -1,5 +1,5 @@
-/* Requests: from the program's arguments to the session. It touches the arguments, and makes the proxy of what a request
- * makes. */
+/* Requests: from the program's arguments to the session. It touches the arguments, and makes the proxy of what a
+ * request makes. */
 #include "../common/arguments.h"
 #include "../common/log.h"
 #include "../common/print.h"
@@ -174,8 +174,8 @@ EXPORT struct wl_proxy *wl_proxy_marshal_array_flags(struct wl_proxy *proxy, uin
     va_end(list)
 
 EXPORT struct wl_proxy *wl_proxy_marshal_flags(struct wl_proxy *proxy, uint32_t opcode,
-                                               const struct wl_interface *interface, uint32_t version,
-                                               uint32_t flags, ...)
+                                               const struct wl_interface *interface, uint32_t version, uint32_t flags,
+                                               ...)
 {
     TAKE_LIST(flags);
     return wl_proxy_marshal_array_flags(proxy, opcode, interface, version, flags, arguments);
@@ -195,8 +195,8 @@ EXPORT struct wl_proxy *wl_proxy_marshal_constructor(struct wl_proxy *proxy, uin
 }
 
 EXPORT struct wl_proxy *wl_proxy_marshal_constructor_versioned(struct wl_proxy *proxy, uint32_t opcode,
-                                                               const struct wl_interface *interface,
-                                                               uint32_t version, ...)
+                                                               const struct wl_interface *interface, uint32_t version,
+                                                               ...)
 {
     TAKE_LIST(version);
     return wl_proxy_marshal_array_flags(proxy, opcode, interface, version, 0, arguments);

@@ -57,11 +57,11 @@ static const struct wl_interface *const surface_types[] = { &wl_surface_interfac
 #define TYPES(types) ((const struct wl_interface **)(uintptr_t)(types))
 
 static const struct wl_message kinds_requests[] = {
-    { "all", "iufsoah", TYPES(kinds_types) },  { "nullable", "?s?o?a", TYPES(nullable_types) },
-    { "make", "n", TYPES(two_types) },         { "descriptors", "hh", TYPES(twenty_types) },
-    { "destroy", "", TYPES(twenty_types) },    { "array", "2a", TYPES(twenty_types) },
-    { "make_other", "un", TYPES(two_types) },  { "nothing", "", TYPES(twenty_types) },
-    { "four", "iiii", TYPES(twenty_types) },   { "text", "s", TYPES(twenty_types) },
+    { "all", "iufsoah", TYPES(kinds_types) }, { "nullable", "?s?o?a", TYPES(nullable_types) },
+    { "make", "n", TYPES(two_types) },        { "descriptors", "hh", TYPES(twenty_types) },
+    { "destroy", "", TYPES(twenty_types) },   { "array", "2a", TYPES(twenty_types) },
+    { "make_other", "un", TYPES(two_types) }, { "nothing", "", TYPES(twenty_types) },
+    { "four", "iiii", TYPES(twenty_types) },  { "text", "s", TYPES(twenty_types) },
 };
 
 static const struct wl_message kinds_events[] = {

@@ -1,12 +1,13 @@
-/* Six threads over one connection, to be built with ThreadSanitizer: two by round trips over queues of their own, two that
- * prepare, wait and read, and two that make, move and destroy objects. Another thread is the server.
+/* Eight threads over one connection, to be built with ThreadSanitizer: two by round trips over queues of their own, two
+ * that prepare, wait and read, two that make, move and destroy objects, one that asks over the default queue, and one
+ * that dispatches that. Another thread is the server.
  *
  *   threads ROUNDS    the last line is `N rounds, M answers` */
 #include "kinds.h"
 #include <pthread.h>
 #include <stdatomic.h>
 
-enum { THREADS = 6 };
+enum { THREADS = 8 };
 
 static int rounds;
 static atomic_int answers;
@@ -104,6 +105,34 @@ static void *make_and_destroy(void *registry)
     return NULL;
 }
 
+static void take_any(void *data, struct wl_callback *callback, uint32_t serial)
+{
+    (void)data;
+    (void)serial;
+    wl_callback_destroy(callback);
+}
+
+/* The other thread may dispatch the answer before there is a listener: then nobody hears of it. */
+static void *ask_for_another_thread(void *unused)
+{
+    static const struct wl_callback_listener any = { take_any };
+    (void)unused;
+    for (int i = 0; i < rounds; i++) {
+        wl_callback_add_listener(wl_display_sync(display), &any, NULL);
+        wl_display_flush(display);
+    }
+    return NULL;
+}
+
+static void *dispatch_default(void *unused)
+{
+    (void)unused;
+    for (int i = 0; i < rounds; i++)
+        if (wl_display_roundtrip(display) < 0)
+            abort();
+    return NULL;
+}
+
 int main(int count, char **arguments)
 {
     pthread_t threads[THREADS], other;
@@ -111,8 +140,11 @@ int main(int count, char **arguments)
     begin();
     struct wl_registry *registry = wl_display_get_registry(display);
     pthread_create(&other, NULL, serve, NULL);
+    void *(*const work[THREADS])(
+        void *) = { go_around,        go_around,        read_by_hand,           read_by_hand,
+                    make_and_destroy, make_and_destroy, ask_for_another_thread, dispatch_default };
     for (int i = 0; i < THREADS; i++)
-        pthread_create(&threads[i], NULL, i < 2 ? go_around : i < 4 ? read_by_hand : make_and_destroy, registry);
+        pthread_create(&threads[i], NULL, work[i], registry);
     for (int i = 0; i < THREADS; i++)
         pthread_join(threads[i], NULL);
     if (wl_display_get_error(display) != 0)
