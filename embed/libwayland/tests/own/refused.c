@@ -124,6 +124,46 @@ static void client_life(void)
     dispatch_all();
 }
 
+/* So many clients and objects at once that what the session keeps of them grows, also when they end. */
+static void many(void)
+{
+    enum { CLIENTS = 6, OBJECTS = 80 };
+    static struct wl_resource *made[CLIENTS][OBJECTS];
+    struct wl_client *clients[CLIENTS];
+    int sockets[CLIENTS];
+    for (int i = 0; i < CLIENTS; i++) {
+        clients[i] = connect_client(&sockets[i]);
+        for (int j = 0; j < OBJECTS; j++)
+            made[i][j] = clients[i] ? wl_resource_create(clients[i], &part_interface, 1, 0) : NULL;
+    }
+    for (int i = 0; i < CLIENTS; i++)
+        for (int j = 0; j < OBJECTS; j++)
+            if (made[i][j] && (j + i) % 3)
+                wl_resource_destroy(made[i][j]);
+    for (int i = 0; i < CLIENTS; i++) {
+        if (clients[i])
+            wl_client_destroy(clients[i]);
+        close(sockets[i]);
+    }
+    wl_display_flush_clients(display);
+}
+
+/* A client asks an object that the server has just destroyed, perhaps without memory for it. */
+static void ask_what_is_gone(void)
+{
+    client = connect_client(&peer);
+    struct wl_resource *made = client ? wl_resource_create(client, &part_interface, 1, 0) : NULL;
+    if (made) {
+        wl_resource_set_implementation(made, part_handlers, NULL, NULL);
+        wl_resource_destroy(made);
+        request(0xff000000u, PART_NUMBER, "w", 1);
+        request(0xff000000u, PART_NUMBER, "w", 2);
+    }
+    dispatch_all();
+    close(peer);
+    dispatch_all();
+}
+
 static int on_timer(void *data)
 {
     (void)data;
@@ -156,6 +196,9 @@ static void live(void)
         wl_global_destroy(hidden);
     if (logger)
         wl_protocol_logger_destroy(logger);
+    client_life();
+    ask_what_is_gone();
+    many();
     client_life();
     wl_display_destroy_clients(display);
     if (timer)
@@ -194,7 +237,7 @@ static int try_one(long which)
         return 4;
     descriptor_count = 0;
     live();
-    return descriptor_count == 2 && open_count() == before ? 0 : 5;
+    return descriptor_count == 3 && open_count() == before ? 0 : 5;
 }
 
 static long count_all(void)

@@ -208,6 +208,21 @@ static void errors(int which)
     show();
 }
 
+/* Another client ends between an error and the next flush. */
+static void error_before_another_end(int which)
+{
+    int theirs;
+    begin_with_thing();
+    struct wl_client *other = connect_client(&theirs);
+    wl_resource_post_event(thing, THING_NOTHING);
+    wl_resource_post_error(thing, 1, "an error");
+    if (which == 0)
+        wl_client_destroy(other);
+    else
+        wl_client_flush(other);
+    turn();
+}
+
 static void long_error(int which)
 {
     static char words[2000];
@@ -259,6 +274,8 @@ const struct test event_tests[] = { { "event-kinds", kinds, 0 },
                                     { "error", errors, 2 },
                                     { "error", errors, 3 },
                                     { "error", errors, 4 },
+                                    { "error-before-another-end", error_before_another_end, 0 },
+                                    { "error-before-another-end", error_before_another_end, 1 },
                                     { "long-error", long_error, 100 },
                                     { "long-error", long_error, 1500 },
                                     { "error-in-a-handler", error_in_a_handler, 0 },

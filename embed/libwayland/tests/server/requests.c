@@ -166,6 +166,18 @@ static void made_version(int which)
     show();
 }
 
+/* A lower one: the version that the client bound has the request, and the resource's has not. */
+static void made_lower(int which)
+{
+    behaviour.thing_version = which;
+    begin();
+    get_registry(2);
+    bind_global(2, 1, "thing", 5, 3);
+    request(3, THING_NEWER, "w", 9);
+    turn();
+    show();
+}
+
 static void child_version(int which)
 {
     behaviour.part_version = which;
@@ -367,6 +379,8 @@ const struct test request_tests[] = { { "numbers", numbers, 0 },
                                       { "since", since, 3 },
                                       { "made-version", made_version, 1 },
                                       { "made-version", made_version, 4 },
+                                      { "made-lower", made_lower, 2 },
+                                      { "made-lower", made_lower, 3 },
                                       { "child-version", child_version, 1 },
                                       { "child-version", child_version, 3 },
                                       { "made-later", made_later, 0 },
