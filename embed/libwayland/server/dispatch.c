@@ -129,7 +129,6 @@ void dispatch(struct wl_client *client, const nb_action *action, nb_argument *ar
     for (uint32_t i = 0; i < count; i++)
         client->unread -= arguments[i].kind == NB_DESCRIPTOR;
     client->created = action->created;
-    client->created_version = action->version;
     if (!unpack(&request.arguments, arguments, count, client->display->buffer) || !finish(client, action)) {
         close_descriptors(arguments, count);
         wl_client_post_no_memory(client);

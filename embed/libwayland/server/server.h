@@ -75,8 +75,7 @@ struct wl_client {
     struct wl_resource *display_resource; /* NULL once the resources are destroyed */
     struct numbered own, served;          /* of the client's range, and of the server's */
     struct wl_list displaced, lent;       /* resources; the program's own structs */
-    nb_object_id created;                 /* the object that the last request has made, and its version */
-    uint32_t created_version;
+    nb_object_id created;                 /* the object that the last request has made */
 
     unsigned depth;    /* how many calls look at it */
     bool has_error;    /* it is told nothing more, and is destroyed when its socket can be read */

@@ -148,6 +148,49 @@ static void end_of_the_sender(int which)
     show();
 }
 
+/* A program goes on with a client after an error: what it makes is there until the client's end. */
+static void go_on(struct wl_resource *resource)
+{
+    wl_resource_post_error(resource, 1, "an error");
+    struct wl_resource *made = make_part(client, 1, 0), *second = make_part(client, 1, 0);
+    printf("  made: %d %d\n", made != NULL, second != NULL);
+    if (made)
+        wl_resource_post_event(resource, THING_MADE, made);
+    if (second)
+        wl_resource_destroy(second);
+}
+
+static void make_after_error(struct wl_resource *resource)
+{
+    wl_resource_post_error(resource, 1, "an error");
+    behaviour.in_numbers = NULL;
+}
+
+static void made_after_an_error(int which)
+{
+    begin_with_thing();
+    if (which == 0) {
+        behaviour.in_numbers = go_on;
+        request(3, THING_NUMBERS, "www", 1, 2, 3);
+        turn();
+    } else if (which == 1) {
+        go_on(thing);
+        turn();
+        go_on(thing);
+    } else {
+        behaviour.makes_nothing = true;
+        request(3, THING_MAKE, "w", 4);
+        turn();
+        make_after_error(thing);
+        if (which == 3)
+            dispatch_all();
+        printf("  made: %d\n", make_part(client, 1, 4) != NULL);
+        dispatch_all();
+    }
+    close(peer);
+    dispatch_all();
+}
+
 /* wl_callback: the usual life of a frame. */
 static void frame(int which)
 {
@@ -179,6 +222,8 @@ const struct test end_tests[] = {
     { "calls-at-the-end", calls_at_the_end, 0 },   { "calls-at-the-end", calls_at_the_end, 1 },
     { "listeners-see", listeners_see, 0 },         { "listeners-see", listeners_see, 1 },
     { "end-of-another", end_of_another, 0 },       { "end-of-the-sender", end_of_the_sender, 0 },
+    { "made-after-an-error", made_after_an_error, 0 }, { "made-after-an-error", made_after_an_error, 1 },
+    { "made-after-an-error", made_after_an_error, 2 }, { "made-after-an-error", made_after_an_error, 3 },
     { "frame", frame, 0 },                         { "numbers-again", numbers_again, 3 },
     { 0 }
 };
