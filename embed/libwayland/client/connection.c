@@ -1,0 +1,334 @@
+/* The connection of a display: how it begins and ends, what is sent, and its error. It touches the socket, the
+ * environment, and all that a display has. */
+#include "connection.h"
+#include "../../socket.h"
+#include "../common/log.h"
+#include "../common/print.h"
+#include "event.h"
+#include "proxy.h"
+#include "queue.h"
+#include "reading.h"
+#include <errno.h>
+#include <fcntl.h>
+#include <stdlib.h>
+#include <string.h>
+#include <wayland-client-protocol.h>
+
+enum {
+    LIBWAYLAND_ROOM = 4096, /* what libwayland keeps before it sends by itself */
+    FIRST_TEXT = 4096
+};
+
+bool is_logging;
+
+/* ======== Sending */
+
+int send_waiting_locked(struct wl_display *display)
+{
+    int32_t descriptors[NB_MOST_DESCRIPTORS];
+    nb_counts counts;
+    int sent = 0;
+    for (;;) {
+        if (nb_client_flush(&display->session) == NB_OUT_OF_MEMORY) {
+            errno = ENOMEM;
+            return -1;
+        }
+        nb_status status = nb_client_to_send(&display->session, display->text, display->text_room, descriptors,
+                                             NB_MOST_DESCRIPTORS, &counts);
+        if (status != NB_OK || counts.bytes == 0)
+            return sent;
+        ssize_t taken = socket_send(display->socket, display->text, counts.bytes, descriptors, counts.descriptors);
+        if (taken < 0) {
+            errno = (int)-taken;
+            return -1;
+        }
+        nb_client_sent(&display->session, (uint32_t)taken);
+        close_all(descriptors, counts.descriptors);
+        sent += (int)taken;
+        display->unsent -= (size_t)taken;
+        display->unsent_descriptors -= counts.descriptors;
+    }
+}
+
+/* A server that does not read is no error: what it does not take waits, up to the limit that the program has set. */
+int make_room_locked(struct wl_display *display, size_t bytes, uint32_t descriptors)
+{
+    if (display->has_failed || (display->unsent + bytes <= LIBWAYLAND_ROOM &&
+                                display->unsent_descriptors + descriptors <= NB_MOST_DESCRIPTORS))
+        return 0;
+    if (display->unsent > 0 && send_waiting_locked(display) < 0 && errno != EAGAIN)
+        return -1;
+    if (display->most_unsent == 0 || display->unsent == 0 || display->unsent + bytes <= display->most_unsent)
+        return 0;
+    errno = E2BIG;
+    return -1;
+}
+
+EXPORT int wl_display_flush(struct wl_display *display)
+{
+    pthread_mutex_lock(&display->lock);
+    int answer = -1, error = display->last_error;
+    if (error == 0) {
+        answer = send_waiting_locked(display);
+        error = errno;
+        /* A server that has gone may have said why: that is still to be read. */
+        if (answer < 0 && error != EAGAIN && error != EPIPE)
+            fail_locked(display, error);
+    }
+    pthread_mutex_unlock(&display->lock);
+    if (answer < 0)
+        errno = error;
+    return answer;
+}
+
+/* Newer than the headers of 1.21. */
+void wl_display_set_max_buffer_size(struct wl_display *display, size_t max_buffer_size);
+
+EXPORT void wl_display_set_max_buffer_size(struct wl_display *display, size_t max_buffer_size)
+{
+    pthread_mutex_lock(&display->lock);
+    display->most_unsent = max_buffer_size;
+    pthread_mutex_unlock(&display->lock);
+}
+
+/* ======== Errors */
+
+void end_reading_locked(struct wl_display *display)
+{
+    readers_end(&display->readers);
+    pthread_cond_broadcast(&display->was_read);
+}
+
+void fail_locked(struct wl_display *display, int error)
+{
+    if (display->last_error != 0)
+        return;
+    display->last_error = error != 0 ? error : EFAULT;
+    end_session_locked(display);
+    end_reading_locked(display);
+}
+
+static int errno_of_code(uint32_t code)
+{
+    switch (code) {
+    case WL_DISPLAY_ERROR_INVALID_OBJECT:
+    case WL_DISPLAY_ERROR_INVALID_METHOD: return EINVAL;
+    case WL_DISPLAY_ERROR_NO_MEMORY: return ENOMEM;
+    case WL_DISPLAY_ERROR_IMPLEMENTATION: return EPROTO;
+    default: return EFAULT;
+    }
+}
+
+void take_error_locked(struct wl_display *display, uint32_t code, uint32_t number, const char *text)
+{
+    struct wl_proxy *proxy = numbers_proxy(&display->numbers, number);
+    if (is_logging) {
+        const union wl_argument arguments[] = { { .o = proxy ? &proxy->object : NULL }, { .u = code }, { .s = text } };
+        print_message("", &display->proxy.object, &wl_display_interface.events[0], arguments, true);
+    }
+    if (proxy)
+        log_line("%s@%u: error %u: %s\n", proxy->object.interface->name, number, code, text);
+    else
+        log_line("[destroyed object]: error %u: %s\n", code, text);
+    if (display->last_error != 0)
+        return;
+    display->protocol_error.code = code;
+    display->protocol_error.id = proxy ? number : 0;
+    display->protocol_error.interface = proxy ? proxy->object.interface : NULL;
+    fail_locked(display, proxy == &display->proxy ? errno_of_code(code) : EPROTO);
+}
+
+EXPORT int wl_display_get_error(struct wl_display *display)
+{
+    pthread_mutex_lock(&display->lock);
+    int error = display->last_error;
+    pthread_mutex_unlock(&display->lock);
+    return error;
+}
+
+EXPORT uint32_t wl_display_get_protocol_error(struct wl_display *display, const struct wl_interface **interface,
+                                              uint32_t *id)
+{
+    pthread_mutex_lock(&display->lock);
+    uint32_t code = display->protocol_error.code;
+    if (interface)
+        *interface = display->protocol_error.interface;
+    if (id)
+        *id = display->protocol_error.id;
+    pthread_mutex_unlock(&display->lock);
+    return code;
+}
+
+/* ======== Connecting */
+
+/* The address of a name in $XDG_RUNTIME_DIR, or of a path. -1 with errno. */
+static int find_socket(const char *name, struct sockaddr_un *address, socklen_t *length)
+{
+    const char *folder = getenv("XDG_RUNTIME_DIR");
+    if (!name)
+        name = getenv("WAYLAND_DISPLAY");
+    if (!name)
+        name = "wayland-0";
+    bool is_path = name[0] == '/';
+    if (!is_path && (!folder || folder[0] != '/')) {
+        log_line("error: XDG_RUNTIME_DIR is invalid or not set in the environment.\n");
+        errno = ENOENT;
+        return -1;
+    }
+    memset(address, 0, sizeof *address);
+    address->sun_family = AF_UNIX;
+    int size = snprintf(address->sun_path, sizeof address->sun_path, "%s%s%s", is_path ? "" : folder,
+                        is_path ? "" : "/", name);
+    if (size < 0 || (size_t)size >= sizeof address->sun_path) {
+        log_line("error: socket path \"%s%s%s\" plus null terminator exceeds %zu bytes\n", is_path ? "" : folder,
+                 is_path ? "" : "/", name, sizeof address->sun_path);
+        errno = ENAMETOOLONG;
+        return -1;
+    }
+    *length = (socklen_t)(offsetof(struct sockaddr_un, sun_path) + (size_t)size + 1);
+    return 0;
+}
+
+static int connect_to(const char *name)
+{
+    struct sockaddr_un address;
+    socklen_t length;
+    if (find_socket(name, &address, &length) < 0)
+        return -1;
+    int connection = socket(AF_UNIX, SOCK_STREAM | SOCK_CLOEXEC, 0);
+    if (connection >= 0 && connect(connection, (struct sockaddr *)&address, length) < 0) {
+        int error = errno;
+        close(connection);
+        errno = error;
+        return -1;
+    }
+    return connection;
+}
+
+/* The descriptor that WAYLAND_SOCKET names. No program that this one starts may take it, too. */
+static int take_inherited(const char *text)
+{
+    char *end;
+    errno = 0;
+    long number = strtol(text, &end, 10);
+    if (errno != 0 || end == text || *end != 0 || number < 0 || number > INT32_MAX)
+        return -1;
+    int flags = fcntl((int)number, F_GETFD);
+    if (flags < 0)
+        return -1;
+    fcntl((int)number, F_SETFD, flags | FD_CLOEXEC);
+    unsetenv("WAYLAND_SOCKET");
+    return (int)number;
+}
+
+EXPORT struct wl_display *wl_display_connect(const char *name)
+{
+    const char *inherited = getenv("WAYLAND_SOCKET");
+    int connection = inherited ? take_inherited(inherited) : connect_to(name);
+    return connection >= 0 ? wl_display_connect_to_fd(connection) : NULL;
+}
+
+static nb_status extend(void *session, const nb_table *rows, nb_table_fault *fault)
+{
+    return nb_client_extend(session, rows, fault);
+}
+
+/* Its events are handled here. A program that looks sees a listener, and cannot add another one. */
+static const struct wl_display_listener own_listener;
+
+/* Its own proxy is freed with the display, and never alone: so it is named once more than by events. */
+static void begin_queues(struct wl_display *display)
+{
+    queues_begin(&display->queues, &display->default_queue.queue);
+    queues_add(&display->queues, &display->own_queue.queue);
+    queues_add_object(&display->default_queue.queue, &display->proxy.queued);
+    display->proxy.queued.named = 1;
+    display->proxy.object.implementation = &own_listener;
+    display->proxy.user_data = display;
+    display->proxy.display = display->default_queue.display = display->own_queue.display = display;
+}
+
+/* Object 1 is there from the start. */
+static bool begin_session(struct wl_display *display)
+{
+    const nb_table nothing = { 0 };
+    nb_table_fault fault;
+    nb_object_id id;
+    if (!grow_text(display, FIRST_TEXT) || nb_client_start(&display->session, &nothing, &fault) != NB_OK)
+        return false;
+    nb_client_set_room(&display->session, LIBWAYLAND_ROOM);
+    nb_client_display(&display->session, &id);
+    set_session_id(&display->proxy, &id);
+    display->proxy.object.interface = &wl_display_interface;
+    return numbers_put(&display->numbers, &display->proxy);
+}
+
+EXPORT struct wl_display *wl_display_connect_to_fd(int fd)
+{
+    if (print_is_asked("client"))
+        is_logging = true;
+    struct wl_display *display = calloc(1, sizeof *display);
+    if (!display) {
+        close(fd);
+        errno = ENOMEM;
+        return NULL;
+    }
+    display->socket = fd;
+    pthread_mutex_init(&display->lock, NULL);
+    pthread_cond_init(&display->was_read, NULL);
+    table_begin(&display->table, extend, &display->session);
+    display->table.is_of_client = true;
+    begin_queues(display);
+    if (begin_session(display))
+        return display;
+    wl_display_disconnect(display);
+    errno = ENOMEM;
+    return NULL;
+}
+
+/* ======== Disconnecting */
+
+/* Closes the descriptors that were not sent. */
+static void drop_unsent(struct wl_display *display)
+{
+    nb_counts counts;
+    int32_t descriptors[NB_MOST_DESCRIPTORS];
+    while (nb_client_flush(&display->session) != NB_OUT_OF_MEMORY &&
+           nb_client_to_send(&display->session, display->text, display->text_room, descriptors, NB_MOST_DESCRIPTORS,
+                             &counts) == NB_OK &&
+           counts.bytes > 0) {
+        close_all(descriptors, counts.descriptors);
+        nb_client_sent(&display->session, counts.bytes);
+    }
+}
+
+EXPORT void wl_display_disconnect(struct wl_display *display)
+{
+    pthread_mutex_lock(&display->lock);
+    drop_unsent(display);
+    end_session_locked(display);
+    leave_to_nowhere_locked(display);
+    pthread_mutex_unlock(&display->lock);
+    nb_client_end(&display->session);
+    table_end(&display->table);
+    numbers_end(&display->numbers);
+    close_all(display->input.lent, display->input.lent_count);
+    close_all(display->input.descriptors, display->input.descriptor_count);
+    free(display->input.descriptors);
+    free(display->input.bytes);
+    free(display->text);
+    pthread_mutex_destroy(&display->lock);
+    pthread_cond_destroy(&display->was_read);
+    close(display->socket);
+    free(display);
+}
+
+EXPORT int wl_display_get_fd(struct wl_display *display)
+{
+    return display->socket;
+}
+
+EXPORT void wl_log_set_handler_client(wl_log_func_t handler)
+{
+    log_handler = handler;
+}

@@ -1,0 +1,27 @@
+/* Events between their reading and the listener. */
+#ifndef EVENT_H
+#define EVENT_H
+
+#include "client.h"
+
+/* Puts the event that the session handed out into the queue of its sender. What it makes gets its proxy here. False,
+ * with errno, if it is malformed or there is no memory; its descriptors are closed then. */
+bool put_event_locked(struct wl_proxy *sender, const nb_event *from, const nb_argument *arguments);
+
+/* Events of the display itself, in its queue. False, with errno, if there is no memory. */
+bool put_deleted_locked(struct wl_display *display, uint32_t number);
+bool put_error_locked(struct wl_display *display, const nb_error *error);
+
+/* Takes the first event out of the queue: it is in hand then. NULL if none waits. `*is_dropped`: its sender was
+ * destroyed, so that the program must not see it. */
+struct event *event_take_locked(struct wl_display *display, struct queue *queue, bool *is_dropped);
+
+/* Ends an event that is in hand. What the program was not told of is closed and destroyed. */
+void event_end_locked(struct wl_display *display, struct event *event);
+
+/* Calls the listener or dispatcher, if there is one. */
+void hand_out(struct event *event, wl_dispatcher_func_t dispatcher, const void *implementation);
+
+void print_event(const char *before, const struct event *event);
+
+#endif

@@ -1,0 +1,42 @@
+/* A connection's objects by their numbers. */
+#ifndef NUMBERS_H
+#define NUMBERS_H
+
+#include <stdbool.h>
+#include <stddef.h>
+#include <stdint.h>
+
+struct wl_display;
+struct wl_proxy;
+
+/* A number. Its row is 0 if it is free. Else it is the row of an object in the session's table: if `proxy` is NULL, the
+ * program has destroyed that object, and the server may still send events to it. */
+struct slot {
+    struct wl_proxy *proxy;
+    uint32_t row;
+};
+
+/* Of the client's numbers, and of the server's. */
+struct numbers {
+    struct slot *slots[2];
+    size_t counts[2];
+};
+
+/* The slot of a number; NULL if there is none, and then the number is free. */
+struct slot *numbers_find(const struct numbers *numbers, uint32_t number);
+
+/* The proxy of a number, or NULL. */
+struct wl_proxy *numbers_proxy(const struct numbers *numbers, uint32_t number);
+
+/* The proxy has its number from now on. False if there is no memory. */
+bool numbers_put(struct numbers *numbers, struct wl_proxy *proxy);
+
+void numbers_end(struct numbers *numbers);
+
+/* The program has destroyed the object. */
+void number_destroyed_locked(struct wl_proxy *proxy);
+
+/* The server has said that the number of an object may be used again. */
+void number_deleted_locked(struct wl_display *display, uint32_t number);
+
+#endif

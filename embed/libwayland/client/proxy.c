@@ -1,0 +1,212 @@
+/* Proxies: making, destroying, what a program sets and asks of them. It touches proxies, tells the session which
+ * objects are destroyed, and is the one file that frees a proxy. */
+#include "proxy.h"
+#include "../common/log.h"
+#include <errno.h>
+#include <stdlib.h>
+
+/* ======== Making and destroying */
+
+/* A listener may use its object once more after it has destroyed it. */
+static struct queue *queue_of(const struct wl_proxy *proxy)
+{
+    return proxy->queued.queue ? proxy->queued.queue : proxy->display->queues.first;
+}
+
+struct wl_proxy *proxy_new_locked(struct wl_proxy *factory, const struct wl_interface *interface, uint32_t version)
+{
+    struct wl_display *display = factory->display;
+    int before = errno;
+    errno = EINVAL; /* of an interface that has no place; what finds no memory sets another one */
+    uint32_t row = table_number(&display->table, interface);
+    struct wl_proxy *proxy = row != 0 ? calloc(1, sizeof *proxy) : NULL;
+    if (!proxy)
+        return NULL;
+    errno = before;
+    proxy->object.interface = interface;
+    proxy->display = display;
+    proxy->version = version;
+    proxy->row = row;
+    queues_add_object(queue_of(factory), &proxy->queued);
+    return proxy;
+}
+
+void drop_notes_locked(struct wl_display *display)
+{
+    nb_object_id gone;
+    uint64_t data;
+    while (nb_client_next_note(&display->session, &gone, &data) == NB_OK) {
+    }
+}
+
+void proxy_destroy_locked(struct wl_proxy *proxy)
+{
+    struct wl_display *display = proxy->display;
+    if (proxy->object.id != 0) {
+        const nb_object_id id = session_id(proxy);
+        nb_client_destroy_object(&display->session, &id);
+        drop_notes_locked(display);
+        number_destroyed_locked(proxy);
+    }
+    queues_destroy(&display->queues, &proxy->queued);
+}
+
+void free_unused_locked(struct wl_display *display)
+{
+    struct queued_object *unused;
+    while ((unused = queues_next_unused(&display->queues)))
+        free(proxy_of(unused));
+}
+
+EXPORT struct wl_proxy *wl_proxy_create(struct wl_proxy *factory, const struct wl_interface *interface)
+{
+    struct wl_display *display = factory->display;
+    pthread_mutex_lock(&display->lock);
+    struct wl_proxy *proxy = proxy_new_locked(factory, interface, factory->version);
+    pthread_mutex_unlock(&display->lock);
+    return proxy;
+}
+
+EXPORT void wl_proxy_destroy(struct wl_proxy *proxy)
+{
+    struct wl_display *display = proxy->display;
+    if (proxy->is_wrapper)
+        log_and_abort("Tried to destroy wrapper with wl_proxy_destroy()\n");
+    pthread_mutex_lock(&display->lock);
+    proxy_destroy_locked(proxy);
+    free_unused_locked(display);
+    pthread_mutex_unlock(&display->lock);
+}
+
+/* A wrapper is a proxy of the same object that gets no events: what it makes has its queue. It keeps the number, and
+ * not the object. */
+EXPORT void *wl_proxy_create_wrapper(void *wrapped)
+{
+    struct wl_proxy *of = wrapped, *wrapper = calloc(1, sizeof *wrapper);
+    if (!wrapper)
+        return NULL;
+    pthread_mutex_lock(&of->display->lock);
+    wrapper->object.interface = of->object.interface;
+    wrapper->object.id = of->object.id;
+    wrapper->version = of->version;
+    wrapper->display = of->display;
+    wrapper->serial = of->serial;
+    wrapper->row = of->row;
+    wrapper->is_wrapper = true;
+    queues_add_object(queue_of(of), &wrapper->queued);
+    pthread_mutex_unlock(&of->display->lock);
+    return wrapper;
+}
+
+EXPORT void wl_proxy_wrapper_destroy(void *proxy_wrapper)
+{
+    struct wl_proxy *wrapper = proxy_wrapper;
+    struct wl_display *display = wrapper->display;
+    if (!wrapper->is_wrapper)
+        log_and_abort("Tried to destroy non-wrapper proxy with wl_proxy_wrapper_destroy\n");
+    pthread_mutex_lock(&display->lock);
+    queues_destroy(&display->queues, &wrapper->queued);
+    free_unused_locked(display);
+    pthread_mutex_unlock(&display->lock);
+}
+
+/* ======== What a program sets */
+
+static int set_listener(struct wl_proxy *proxy, wl_dispatcher_func_t dispatcher, const void *implementation, void *data)
+{
+    int answer = 0;
+    if (proxy->is_wrapper)
+        log_and_abort("Proxy %p is a wrapper\n", (void *)proxy);
+    pthread_mutex_lock(&proxy->display->lock);
+    if (proxy->object.implementation || proxy->dispatcher) {
+        log_line("proxy %p already has listener\n", (void *)proxy);
+        answer = -1;
+    } else {
+        proxy->object.implementation = implementation;
+        proxy->dispatcher = dispatcher;
+        proxy->user_data = data;
+    }
+    pthread_mutex_unlock(&proxy->display->lock);
+    return answer;
+}
+
+EXPORT int wl_proxy_add_listener(struct wl_proxy *proxy, void (**implementation)(void), void *data)
+{
+    return set_listener(proxy, NULL, implementation, data);
+}
+
+EXPORT int wl_proxy_add_dispatcher(struct wl_proxy *proxy, wl_dispatcher_func_t dispatcher_func,
+                                   const void *dispatcher_data, void *data)
+{
+    return set_listener(proxy, dispatcher_func, dispatcher_data, data);
+}
+
+EXPORT const void *wl_proxy_get_listener(struct wl_proxy *proxy)
+{
+    return proxy->object.implementation;
+}
+
+EXPORT void wl_proxy_set_user_data(struct wl_proxy *proxy, void *user_data)
+{
+    proxy->user_data = user_data;
+}
+
+EXPORT void *wl_proxy_get_user_data(struct wl_proxy *proxy)
+{
+    return proxy->user_data;
+}
+
+EXPORT void wl_proxy_set_tag(struct wl_proxy *proxy, const char *const *tag)
+{
+    proxy->tag = tag;
+}
+
+EXPORT const char *const *wl_proxy_get_tag(struct wl_proxy *proxy)
+{
+    return proxy->tag;
+}
+
+EXPORT void wl_proxy_set_queue(struct wl_proxy *proxy, struct wl_event_queue *queue)
+{
+    struct wl_display *display = proxy->display;
+    pthread_mutex_lock(&display->lock);
+    queues_move(&proxy->queued, queue ? &queue->queue : display->queues.first);
+    pthread_mutex_unlock(&display->lock);
+}
+
+/* ======== What it asks */
+
+EXPORT uint32_t wl_proxy_get_version(struct wl_proxy *proxy)
+{
+    return proxy->version;
+}
+
+EXPORT uint32_t wl_proxy_get_id(struct wl_proxy *proxy)
+{
+    return proxy->object.id;
+}
+
+EXPORT const char *wl_proxy_get_class(struct wl_proxy *proxy)
+{
+    return proxy->object.interface->name;
+}
+
+/* Newer than the headers of 1.21. */
+struct wl_display *wl_proxy_get_display(struct wl_proxy *proxy);
+struct wl_event_queue *wl_proxy_get_queue(const struct wl_proxy *proxy);
+const struct wl_interface *wl_proxy_get_interface(struct wl_proxy *proxy);
+
+EXPORT struct wl_display *wl_proxy_get_display(struct wl_proxy *proxy)
+{
+    return proxy->display;
+}
+
+EXPORT struct wl_event_queue *wl_proxy_get_queue(const struct wl_proxy *proxy)
+{
+    return (struct wl_event_queue *)proxy->queued.queue;
+}
+
+EXPORT const struct wl_interface *wl_proxy_get_interface(struct wl_proxy *proxy)
+{
+    return proxy->object.interface;
+}

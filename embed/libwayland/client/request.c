@@ -1,0 +1,223 @@
+/* Requests: from the program's arguments to the session. It touches the arguments, and makes the proxy of what a
+ * request makes. */
+#include "../common/arguments.h"
+#include "../common/log.h"
+#include "../common/print.h"
+#include "../common/signature.h"
+#include "connection.h"
+#include "proxy.h"
+#include "reading.h"
+#include <errno.h>
+#include <stdarg.h>
+#include <string.h>
+
+/* ======== Arguments */
+
+/* Puts the ids of objects in. A new object is `*made`, or the one by wl_proxy_create that the program passes. */
+static void add_ids(struct packed *packed, const union wl_argument *arguments, struct wl_proxy **made)
+{
+    for (uint32_t i = 0; i < packed->count; i++) {
+        nb_argument *slot = &packed->arguments[i];
+        if ((slot->kind != NB_OBJECT && slot->kind != NB_NEW_ID) || !arguments[i].o)
+            continue;
+        struct wl_proxy *proxy = CONTAINER(arguments[i].o, struct wl_proxy, object);
+        if (slot->kind == NB_NEW_ID)
+            *made = proxy;
+        else
+            slot->object = session_id(proxy);
+    }
+}
+
+/* Puts the proxy where the signature has a new id. */
+static void put_made(const char *signature, union wl_argument *arguments, struct wl_proxy *made)
+{
+    char letter;
+    bool is_nullable;
+    for (uint32_t i = 0; made && (signature = signature_next(signature, &letter, &is_nullable)); i++)
+        if (letter == 'n')
+            arguments[i].o = &made->object;
+}
+
+static size_t length_on_wire(const struct packed *packed)
+{
+    size_t length = 8;
+    for (uint32_t i = 0; i < packed->count; i++)
+        switch (packed->arguments[i].kind) {
+        case NB_DESCRIPTOR: break;
+        case NB_STRING: length += 4 + (((size_t)packed->arguments[i].length + 4) & ~(size_t)3); break;
+        case NB_ARRAY: length += 4 + (((size_t)packed->arguments[i].length + 3) & ~(size_t)3); break;
+        default: length += 4;
+        }
+    return length;
+}
+
+/* The line of WAYLAND_DEBUG. It shows the descriptors that are sent. */
+static void print_request(const struct wl_proxy *proxy, const struct wl_message *message,
+                          const union wl_argument *arguments, const struct packed *packed)
+{
+    union wl_argument shown[MOST_ARGUMENTS];
+    for (uint32_t i = 0; i < packed->count; i++) {
+        shown[i] = arguments[i];
+        if (packed->arguments[i].kind == NB_DESCRIPTOR)
+            shown[i].h = packed->arguments[i].value;
+    }
+    print_message(" -> ", &proxy->object, message, shown, true);
+}
+
+/* ======== Sending */
+
+static int errno_of(nb_status status)
+{
+    return status == NB_OUT_OF_MEMORY ? ENOMEM : EINVAL;
+}
+
+/* Hands the request to the session. `made` gets the number of what it makes, if it makes something. */
+static int hand_over(struct wl_proxy *proxy, uint32_t opcode, const struct packed *packed, struct wl_proxy *made)
+{
+    struct wl_display *display = proxy->display;
+    nb_object_id created;
+    const bool is_bind = made && proxy->row == NB_INTERFACE_REGISTRY;
+    const nb_request request = { .sender = session_id(proxy),
+                                 .opcode = opcode,
+                                 .has_data = 1,
+                                 .has_child = is_bind,
+                                 .child_interface = is_bind ? made->row : 0,
+                                 .child_version = is_bind ? made->version : 0 };
+    nb_status status = nb_client_send_request(&display->session, &request, packed->arguments, packed->count,
+                                              packed->bytes, packed->length, &created);
+    if (status != NB_OK) {
+        errno = errno_of(status);
+        return -1;
+    }
+    if (made && !nb_is_null(&created)) {
+        set_session_id(made, &created);
+        if (!numbers_put(&display->numbers, made)) {
+            errno = ENOMEM;
+            return -1;
+        }
+    }
+    return 0;
+}
+
+static int send_packed(struct wl_proxy *proxy, uint32_t opcode, struct packed *packed, union wl_argument *arguments,
+                       struct wl_proxy *made, bool *is_taken)
+{
+    struct wl_display *display = proxy->display;
+    const struct wl_message *message = &proxy->object.interface->methods[opcode];
+    size_t length = length_on_wire(packed);
+    add_ids(packed, arguments, &made);
+    if (length > UINT16_MAX) {
+        errno = E2BIG;
+        return -1;
+    }
+    if (make_room_locked(display, length, packed->descriptors) < 0 || hand_over(proxy, opcode, packed, made) < 0)
+        return -1;
+    *is_taken = true;
+    if (display->has_failed)
+        close_dropped_locked(display);
+    display->unsent += length;
+    display->unsent_descriptors += packed->descriptors;
+    if (is_logging)
+        print_request(proxy, message, arguments, packed);
+    return 0;
+}
+
+/* Sends a request. If it cannot be sent, the display fails. */
+static void send_locked(struct wl_proxy *proxy, uint32_t opcode, union wl_argument *arguments, struct wl_proxy *made)
+{
+    const struct wl_message *message = &proxy->object.interface->methods[opcode];
+    struct packed packed;
+    bool is_taken = false;
+    put_made(message->signature, arguments, made);
+    int answer = pack(&packed, message->signature, arguments, true) ? 0 : -1;
+    if (answer == 0)
+        answer = send_packed(proxy, opcode, &packed, arguments, made, &is_taken);
+    int error = errno;
+    packed_end(&packed, is_taken);
+    if (answer == 0 || proxy->display->last_error != 0)
+        return;
+    if (packed.fault[0])
+        log_line("error marshalling arguments for %s (signature %s): %s\n", message->name, message->signature,
+                 packed.fault);
+    log_line("Error %s request: %s\n", packed.fault[0] ? "marshalling" : "sending", strerror(error));
+    fail_locked(proxy->display, error);
+}
+
+EXPORT struct wl_proxy *wl_proxy_marshal_array_flags(struct wl_proxy *proxy, uint32_t opcode,
+                                                     const struct wl_interface *interface, uint32_t version,
+                                                     uint32_t flags, union wl_argument *args)
+{
+    struct wl_display *display = proxy->display;
+    struct wl_proxy *made = NULL;
+    pthread_mutex_lock(&display->lock);
+    if (display == &nowhere)
+        made = NULL;
+    else if (interface && !(made = proxy_new_locked(proxy, interface, version)))
+        fail_locked(display, errno);
+    else
+        send_locked(proxy, opcode, args, made);
+    if (flags & WL_MARSHAL_FLAG_DESTROY) {
+        proxy_destroy_locked(proxy);
+        free_unused_locked(display);
+    }
+    pthread_mutex_unlock(&display->lock);
+    return made;
+}
+
+/* ======== The forms of the call */
+
+#define TAKE_LIST(last)                                                                                                \
+    union wl_argument arguments[MOST_ARGUMENTS];                                                                       \
+    va_list list;                                                                                                      \
+    va_start(list, last);                                                                                              \
+    arguments_from_list(proxy->object.interface->methods[opcode].signature, list, arguments);                          \
+    va_end(list)
+
+EXPORT struct wl_proxy *wl_proxy_marshal_flags(struct wl_proxy *proxy, uint32_t opcode,
+                                               const struct wl_interface *interface, uint32_t version, uint32_t flags,
+                                               ...)
+{
+    TAKE_LIST(flags);
+    return wl_proxy_marshal_array_flags(proxy, opcode, interface, version, flags, arguments);
+}
+
+EXPORT void wl_proxy_marshal(struct wl_proxy *proxy, uint32_t opcode, ...)
+{
+    TAKE_LIST(opcode);
+    wl_proxy_marshal_array_flags(proxy, opcode, NULL, 0, 0, arguments);
+}
+
+EXPORT struct wl_proxy *wl_proxy_marshal_constructor(struct wl_proxy *proxy, uint32_t opcode,
+                                                     const struct wl_interface *interface, ...)
+{
+    TAKE_LIST(interface);
+    return wl_proxy_marshal_array_flags(proxy, opcode, interface, proxy->version, 0, arguments);
+}
+
+EXPORT struct wl_proxy *wl_proxy_marshal_constructor_versioned(struct wl_proxy *proxy, uint32_t opcode,
+                                                               const struct wl_interface *interface, uint32_t version,
+                                                               ...)
+{
+    TAKE_LIST(version);
+    return wl_proxy_marshal_array_flags(proxy, opcode, interface, version, 0, arguments);
+}
+
+EXPORT void wl_proxy_marshal_array(struct wl_proxy *proxy, uint32_t opcode, union wl_argument *args)
+{
+    wl_proxy_marshal_array_flags(proxy, opcode, NULL, 0, 0, args);
+}
+
+EXPORT struct wl_proxy *wl_proxy_marshal_array_constructor(struct wl_proxy *proxy, uint32_t opcode,
+                                                           union wl_argument *args,
+                                                           const struct wl_interface *interface)
+{
+    return wl_proxy_marshal_array_flags(proxy, opcode, interface, proxy->version, 0, args);
+}
+
+EXPORT struct wl_proxy *wl_proxy_marshal_array_constructor_versioned(struct wl_proxy *proxy, uint32_t opcode,
+                                                                     union wl_argument *args,
+                                                                     const struct wl_interface *interface,
+                                                                     uint32_t version)
+{
+    return wl_proxy_marshal_array_flags(proxy, opcode, interface, version, 0, args);
+}

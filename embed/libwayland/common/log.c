@@ -1,0 +1,29 @@
+/* What a library tells its program in words. It touches the handler that the program set, and standard error. */
+#include "log.h"
+#include <stdarg.h>
+#include <stdio.h>
+#include <stdlib.h>
+
+WL_PRINTF(1, 0) static void to_standard_error(const char *format, va_list list)
+{
+    vfprintf(stderr, format, list);
+}
+
+wl_log_func_t log_handler = to_standard_error;
+
+void log_line(const char *format, ...)
+{
+    va_list list;
+    va_start(list, format);
+    log_handler(format, list);
+    va_end(list);
+}
+
+void log_and_abort(const char *format, ...)
+{
+    va_list list;
+    va_start(list, format);
+    log_handler(format, list);
+    va_end(list);
+    abort();
+}

@@ -1,0 +1,15 @@
+/* What a library tells its program in words. */
+#ifndef LOG_H
+#define LOG_H
+
+#include <wayland-util.h>
+
+/* Whom the words go to: standard error, until the program sets another one. */
+extern wl_log_func_t log_handler;
+
+void log_line(const char *format, ...) WL_PRINTF(1, 2);
+
+/* For what the program did that no call can mend. */
+_Noreturn void log_and_abort(const char *format, ...) WL_PRINTF(1, 2);
+
+#endif

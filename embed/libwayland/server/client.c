@@ -1,0 +1,292 @@
+/* Clients: how one begins and ends. It touches a display's lists of clients, and the session's clients.
+ *
+ * A client is destroyed by wl_client_destroy: then its socket is closed, its resources are gone, and the program may
+ * name it no more. Its memory goes when the session has given it back, too (`client_release`): without memory for its
+ * cleanup the session keeps it for a while, and its data there point here.
+ *
+ * `depth` is how many calls look at it. While it is not 0 a wl_client_destroy waits (`is_condemned`) for the outermost
+ * of them to end. */
+#include "server.h"
+#include <stdlib.h>
+#include <sys/socket.h>
+#include <unistd.h>
+
+void client_fail(struct wl_client *client)
+{
+    client->has_error = true;
+}
+
+void client_hold(struct wl_client *client)
+{
+    client->depth++;
+}
+
+void client_let_go(struct wl_client *client)
+{
+    if (--client->depth == 0 && client->is_condemned)
+        wl_client_destroy(client);
+}
+
+void client_release(struct wl_client *client)
+{
+    if (!client->is_destroyed || client->is_inside)
+        return;
+    wl_list_remove(&client->link);
+    free(client);
+}
+
+/* ======== Into the session */
+
+static bool hidden_globals(struct wl_client *client, struct wl_array *hidden)
+{
+    struct wl_display *display = client->display;
+    for (struct wl_list *it = display->globals.next; display->filter && it != &display->globals; it = it->next) {
+        const struct wl_global *global = CONTAINER(it, struct wl_global, link);
+        if (global_is_visible(global, client))
+            continue;
+        nb_global_id *added = wl_array_add(hidden, sizeof *added);
+        if (!added)
+            return false;
+        *added = global->id;
+    }
+    return true;
+}
+
+bool client_enter(struct wl_client *client)
+{
+    nb_server *core = &client->display->core;
+    struct wl_array hidden = { 0 };
+    if (client->was_inserted)
+        return client->is_inside;
+    client->was_inserted = true;
+    client->is_inside = hidden_globals(client, &hidden) &&
+                        nb_server_insert_client(core, (uint64_t)(uintptr_t)client, 1, hidden.data,
+                                                hidden.size / sizeof(nb_global_id), &client->id) == NB_OK;
+    free(hidden.data);
+    if (!client->is_inside) {
+        client_fail(client);
+        return false;
+    }
+    if (client->buffer_size > 0)
+        nb_server_set_max_buffer_size(core, &client->id, client->buffer_size);
+    if (client->display_resource)
+        nb_server_object_for_protocol_id(core, &client->id, NB_INTERFACE_DISPLAY, 1, &client->display_resource->core);
+    return true;
+}
+
+/* ======== What its socket is ready for */
+
+static void end_with(struct wl_client *client, const char *reason)
+{
+    log_line("%s (pid %u)\n", reason, (unsigned)client->pid);
+    wl_client_destroy(client);
+}
+
+static int is_ready(int fd, uint32_t mask, void *data)
+{
+    struct wl_client *client = data;
+    (void)fd;
+    if (client->depth > 0 && client->is_condemned) /* in a loop within its own handler: it is as good as gone */
+        return 1;
+    if (mask & WL_EVENT_HANGUP) {
+        wl_client_destroy(client);
+        return 1;
+    }
+    if (mask & WL_EVENT_ERROR) {
+        end_with(client, "socket error");
+        return 1;
+    }
+    if (mask & WL_EVENT_WRITABLE) {
+        client_send(client);
+        client_flush(client);
+        if (client->is_cut) {
+            end_with(client, "failed to flush client connection");
+            return 1;
+        }
+    }
+    if (mask & WL_EVENT_READABLE)
+        client_read(client);
+    else if (client->has_error)
+        end_with(client, "error in client communication");
+    return 1;
+}
+
+/* ======== Beginning and end */
+
+static bool begin_parts(struct wl_client *client)
+{
+    struct ucred peer;
+    socklen_t size = sizeof peer;
+    if (getsockopt(client->socket, SOL_SOCKET, SO_PEERCRED, &peer, &size) < 0)
+        return false;
+    client->pid = peer.pid;
+    client->uid = peer.uid;
+    client->gid = peer.gid;
+    client->source =
+        wl_event_loop_add_fd(client->display->loop, client->socket, WL_EVENT_READABLE, is_ready, client);
+    return client->source && resource_begin_display(client);
+}
+
+EXPORT struct wl_client *wl_client_create(struct wl_display *display, int fd)
+{
+    struct wl_client *client = calloc(1, sizeof *client);
+    if (!client)
+        return NULL;
+    client->display = display;
+    client->socket = fd;
+    wl_signal_init(&client->destroy_signal);
+    wl_signal_init(&client->destroy_late_signal);
+    wl_signal_init(&client->resource_created_signal);
+    wl_list_init(&client->displaced);
+    wl_list_init(&client->lent);
+    wl_list_init(&client->writable);
+    if (!begin_parts(client)) {
+        if (client->source)
+            wl_event_source_remove(client->source);
+        free(client->own.at);
+        free(client);
+        return NULL;
+    }
+    wl_list_insert(display->clients.prev, &client->link);
+    wl_signal_emit_mutable(&display->client_created_signal, client);
+    return client;
+}
+
+/* The session ends it, too. What its resources sent at their end goes nowhere. */
+static void leave(struct wl_client *client)
+{
+    wl_list_remove(&client->link);
+    wl_list_insert(&client->display->leaving, &client->link);
+    if (client->is_inside) {
+        nb_server_kill_client(&client->display->core, &client->id);
+        display_settle(client->display);
+    }
+}
+
+EXPORT void wl_client_destroy(struct wl_client *client)
+{
+    if (client->depth > 0) {
+        client->is_condemned = true;
+        return;
+    }
+    client_hold(client); /* for good: no listener destroys it again */
+    signal_emit_last(&client->destroy_signal, client);
+    client_flush(client);
+    display_settle(client->display);
+    client->is_ending = true;
+    resources_end(client);
+    wl_event_source_remove(client->source);
+    close(client->socket);
+    signal_emit_last(&client->destroy_late_signal, client);
+    wl_list_remove(&client->resource_created_signal.listener_list);
+    if (client->user_data_destroy)
+        client->user_data_destroy(client->user_data);
+    wl_list_remove(&client->writable);
+    wl_list_init(&client->writable);
+    trace_end(client);
+    leave(client);
+    client->is_destroyed = true; /* from here on it may be released */
+    client_release(client);
+}
+
+EXPORT void wl_display_destroy_clients(struct wl_display *display)
+{
+    while (!wl_list_empty(&display->clients)) {
+        struct wl_list *first = display->clients.next;
+        wl_client_destroy(CONTAINER(first, struct wl_client, link));
+        if (display->clients.next == first) {
+            log_line("wl_display_destroy_clients: called by a client's own request, which has to end first\n");
+            return;
+        }
+    }
+}
+
+/* ======== What a client has */
+
+EXPORT void wl_client_flush(struct wl_client *client)
+{
+    client_flush(client);
+}
+
+EXPORT struct wl_list *wl_client_get_link(struct wl_client *client)
+{
+    return &client->link;
+}
+
+EXPORT struct wl_client *wl_client_from_link(struct wl_list *link)
+{
+    return CONTAINER(link, struct wl_client, link);
+}
+
+EXPORT struct wl_display *wl_client_get_display(struct wl_client *client)
+{
+    return client->display;
+}
+
+EXPORT void wl_client_get_credentials(struct wl_client *client, pid_t *pid, uid_t *uid, gid_t *gid)
+{
+    if (pid)
+        *pid = client->pid;
+    if (uid)
+        *uid = client->uid;
+    if (gid)
+        *gid = client->gid;
+}
+
+EXPORT int wl_client_get_fd(struct wl_client *client)
+{
+    return client->socket;
+}
+
+EXPORT void wl_client_add_destroy_listener(struct wl_client *client, struct wl_listener *listener)
+{
+    wl_signal_add(&client->destroy_signal, listener);
+}
+
+EXPORT struct wl_listener *wl_client_get_destroy_listener(struct wl_client *client, wl_notify_func_t notify)
+{
+    return wl_signal_get(&client->destroy_signal, notify);
+}
+
+EXPORT void wl_client_add_resource_created_listener(struct wl_client *client, struct wl_listener *listener)
+{
+    wl_signal_add(&client->resource_created_signal, listener);
+}
+
+/* ======== Since 1.22 and 1.23; older headers do not declare them */
+
+EXPORT void wl_client_add_destroy_late_listener(struct wl_client *client, struct wl_listener *listener);
+EXPORT struct wl_listener *wl_client_get_destroy_late_listener(struct wl_client *client, wl_notify_func_t notify);
+EXPORT void wl_client_set_user_data(struct wl_client *client, void *data, void (*dtor)(void *data));
+EXPORT void *wl_client_get_user_data(struct wl_client *client);
+EXPORT void wl_client_set_max_buffer_size(struct wl_client *client, size_t max_buffer_size);
+
+EXPORT void wl_client_add_destroy_late_listener(struct wl_client *client, struct wl_listener *listener)
+{
+    wl_signal_add(&client->destroy_late_signal, listener);
+}
+
+EXPORT struct wl_listener *wl_client_get_destroy_late_listener(struct wl_client *client, wl_notify_func_t notify)
+{
+    return wl_signal_get(&client->destroy_late_signal, notify);
+}
+
+EXPORT void wl_client_set_user_data(struct wl_client *client, void *data, void (*dtor)(void *data))
+{
+    if (client->user_data_destroy)
+        client->user_data_destroy(client->user_data);
+    client->user_data = data;
+    client->user_data_destroy = dtor;
+}
+
+EXPORT void *wl_client_get_user_data(struct wl_client *client)
+{
+    return client->user_data;
+}
+
+EXPORT void wl_client_set_max_buffer_size(struct wl_client *client, size_t max_buffer_size)
+{
+    client->buffer_size = max_buffer_size;
+    if (client->is_inside)
+        nb_server_set_max_buffer_size(&client->display->core, &client->id, max_buffer_size);
+}

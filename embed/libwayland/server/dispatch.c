@@ -1,0 +1,147 @@
+/* Requests and binds as calls of the program's functions. It touches the session's open action, which it finishes before
+ * it calls the program: an object that the request has made has no data then, and gets them by wl_resource_create. */
+#include "server.h"
+#include "call.h"
+#include "signature.h"
+
+/* A request on its way to its handler. */
+struct request {
+    struct wl_client *client;
+    struct wl_resource *resource;
+    uint32_t opcode, count;
+    const struct wl_message *message;
+    struct unpacked arguments;
+};
+
+/* Looks at what the session does not: the version that the program gave the resource, which may be below that of the
+ * session's object, and whether there is a resource at all. False if it is refused, and its client told. */
+static bool is_allowed(const struct request *request, const nb_action *action)
+{
+    const struct wl_resource *resource = request->resource;
+    if (!resource) {
+        client_post_error(request->client, WL_DISPLAY_ERROR_INVALID_OBJECT, "invalid object %u",
+                          action->sender.number);
+        return false;
+    }
+    const struct wl_interface *interface = resource->object.interface;
+    const int version = wl_resource_get_version(request->resource);
+    if (request->opcode >= (uint32_t)interface->method_count) {
+        client_post_error(request->client, WL_DISPLAY_ERROR_INVALID_METHOD, "invalid method %u, object %s@%u",
+                          request->opcode, interface->name, resource->object.id);
+        return false;
+    }
+    const uint32_t since = signature_since(interface->methods[request->opcode].signature);
+    if (version > 0 && (uint32_t)version < since) {
+        client_post_error(request->client, WL_DISPLAY_ERROR_INVALID_METHOD,
+                          "invalid method %u (since %d < %u), object %s@%u", request->opcode, version, since,
+                          interface->name, resource->object.id);
+        return false;
+    }
+    return true;
+}
+
+/* Puts the resources in. False if an argument has none, or a string is null that may not be: the session lets that
+ * pass, and a handler would take it. */
+static bool complete(struct request *request, const nb_argument *arguments)
+{
+    for (uint32_t i = 0; i < request->count; i++) {
+        const nb_argument *argument = &arguments[i];
+        union wl_argument *value = &request->arguments.values[i];
+        if (argument->kind == NB_NULL_STRING && !signature_is_nullable(request->message->signature, i))
+            return false;
+        if (argument->kind != NB_OBJECT || nb_is_null(&argument->object))
+            continue;
+        struct wl_resource *resource = resource_of(request->client, &argument->object, argument->data);
+        if (!resource)
+            return false;
+        value->o = &resource->object;
+    }
+    return true;
+}
+
+static void call_handler(struct request *request)
+{
+    struct wl_resource *resource = request->resource;
+    const struct wl_object *object = &resource->object;
+    union wl_argument *values = request->arguments.values;
+    if (!lent_core(resource) && resource->dispatcher) {
+        resource->dispatcher(object->implementation, resource, request->opcode, request->message, values);
+        return;
+    }
+    void (*const *handlers)(void) = object->implementation;
+    if (!handlers || !handlers[request->opcode])
+        log_and_abort("listener function for opcode %u of %s is NULL\n", request->opcode, object->interface->name);
+    uintptr_t words[MOST_WORDS] = { (uintptr_t)request->client, (uintptr_t)resource };
+    const char *rest = request->message->signature;
+    char letter;
+    bool is_nullable;
+    for (uint32_t i = 0; i < request->count && (rest = signature_next(rest, &letter, &is_nullable)); i++)
+        words[2 + i] = word_of(letter, &values[i]);
+    call_words(handlers[request->opcode], words, 2 + request->count);
+}
+
+/* Hands a request on, or refuses it. The descriptors among its arguments are the handler's, if it is called. */
+static void hand_on(struct request *request, const nb_action *action, const nb_argument *arguments)
+{
+    if (!is_allowed(request, action)) {
+        close_descriptors(arguments, request->count);
+        return;
+    }
+    request->message = &request->resource->object.interface->methods[request->opcode];
+    if (!complete(request, arguments)) {
+        client_post_error(request->client, WL_DISPLAY_ERROR_INVALID_METHOD, "invalid arguments for %s@%u.%s",
+                          request->resource->object.interface->name, request->resource->object.id,
+                          request->message->name);
+        close_descriptors(arguments, request->count);
+        return;
+    }
+    trace_request(request->resource, request->opcode, request->arguments.values);
+    call_handler(request);
+}
+
+static void bind(struct wl_client *client, const nb_action *action)
+{
+    struct wl_global *global = (struct wl_global *)(uintptr_t)action->data;
+    if (global_is_visible(global, client))
+        global->bind(client, global->data, action->version, action->created.number);
+    else
+        client_post_error(client, WL_DISPLAY_ERROR_INVALID_OBJECT, "invalid global %s (%u)", global->interface->name,
+                          global->id.name);
+}
+
+/* Finishes the open action. It is none that ends its sender: the rows have no destructors, since a wl_message does not
+ * say which request is one. */
+static bool finish(struct wl_client *client, const nb_action *action)
+{
+    nb_server *core = &client->display->core;
+    uint32_t is_kept;
+    if (action->kind == NB_BIND)
+        return nb_server_finish_bind(core, &client->id, 0, &is_kept) == NB_OK;
+    if (nb_is_null(&action->created))
+        return nb_server_finish_request(core, &client->id) == NB_OK;
+    return nb_server_finish_request_with(core, &client->id, 0, &is_kept) == NB_OK;
+}
+
+void dispatch(struct wl_client *client, const nb_action *action, nb_argument *arguments)
+{
+    struct request request;
+    const uint32_t count = action->kind == NB_BIND ? 0 : action->arguments;
+    for (uint32_t i = 0; i < count; i++)
+        client->unread -= arguments[i].kind == NB_DESCRIPTOR;
+    client->created = action->created;
+    if (!unpack(&request.arguments, arguments, count, client->display->buffer) || !finish(client, action)) {
+        close_descriptors(arguments, count);
+        wl_client_post_no_memory(client);
+        client_fail(client);
+        return;
+    }
+    request.client = client;
+    request.resource = action->kind == NB_BIND ? NULL : resource_of(client, &action->sender, action->data);
+    request.opcode = action->opcode;
+    request.count = count;
+    if (action->kind == NB_BIND)
+        bind(client, action);
+    else
+        hand_on(&request, action, arguments);
+    unpacked_end(&request.arguments);
+}

@@ -1,0 +1,190 @@
+/* The display: what a server has once. It owns the session, the loop and the buffer of a round; wl_display_destroy is
+ * the only place that frees a display. */
+#include "server.h"
+#include "print.h"
+#include <errno.h>
+#include <stdlib.h>
+#include <sys/eventfd.h>
+#include <unistd.h>
+
+enum { LIMIT = 1 << 20 /* of the bytes that wait for a client, until the program sets one */ };
+
+static int wakes_up(int fd, uint32_t mask, void *data)
+{
+    uint64_t count;
+    (void)mask;
+    (void)data;
+    return read(fd, &count, sizeof count) < 0 && errno != EAGAIN ? -1 : 1;
+}
+
+static nb_status extend(void *session, const nb_table *rows, nb_table_fault *fault)
+{
+    return nb_server_extend(session, rows, fault);
+}
+
+static void begin_lists(struct wl_display *display)
+{
+    wl_list_init(&display->clients);
+    wl_list_init(&display->leaving);
+    wl_list_init(&display->writable);
+    wl_list_init(&display->globals);
+    wl_list_init(&display->sockets);
+    wl_list_init(&display->loggers);
+    wl_signal_init(&display->destroy_signal);
+    wl_signal_init(&display->client_created_signal);
+    wl_array_init(&display->shm_formats);
+}
+
+static bool begin_parts(struct wl_display *display)
+{
+    const nb_table nothing = { NULL, 0, NULL, 0, NULL, 0, NULL, 0 };
+    nb_table_fault fault;
+    display->wakeup = eventfd(0, EFD_CLOEXEC | EFD_NONBLOCK);
+    display->loop = wl_event_loop_create();
+    display->buffer = malloc(NB_MOST_WAITING);
+    if (display->wakeup < 0 || !display->loop || !display->buffer)
+        return false;
+    display->wakeup_source =
+        wl_event_loop_add_fd(display->loop, display->wakeup, WL_EVENT_READABLE, wakes_up, NULL);
+    return display->wakeup_source && nb_server_start(&display->core, &nothing, &fault) == NB_OK &&
+           nb_server_set_default_max_buffer_size(&display->core, LIMIT) == NB_OK;
+}
+
+static void end_loop(struct wl_display *display)
+{
+    if (display->wakeup_source)
+        wl_event_source_remove(display->wakeup_source);
+    if (display->wakeup >= 0)
+        close(display->wakeup);
+    if (display->loop)
+        wl_event_loop_destroy(display->loop);
+}
+
+static void end_memory(struct wl_display *display)
+{
+    nb_server_end(&display->core);
+    table_end(&display->table);
+    free(display->buffer);
+    free(display->shm_formats.data);
+    free(display);
+}
+
+EXPORT struct wl_display *wl_display_create(void)
+{
+    struct wl_display *display = calloc(1, sizeof *display);
+    if (!display)
+        return NULL;
+    begin_lists(display);
+    table_begin(&display->table, extend, &display->core);
+    display->is_printing = print_is_asked("server");
+    if (begin_parts(display))
+        return display;
+    end_loop(display);
+    end_memory(display);
+    return NULL;
+}
+
+/* Clients that the program has not destroyed keep what they have: they point to a display that is gone, and no call may
+ * be made for them. Those that it has destroyed, and that the session has not given back for want of memory, go here. */
+EXPORT void wl_display_destroy(struct wl_display *display)
+{
+    signal_emit_last(&display->destroy_signal, display);
+    sockets_end(display);
+    end_loop(display);
+    globals_end(display);
+    display_settle(display);
+    while (!wl_list_empty(&display->leaving)) {
+        struct wl_client *client = CONTAINER(display->leaving.next, struct wl_client, link);
+        client->is_inside = false;
+        client_release(client);
+    }
+    while (!wl_list_empty(&display->loggers)) {
+        struct wl_list *first = display->loggers.next;
+        wl_list_remove(first);
+        wl_list_init(first);
+    }
+    end_memory(display);
+}
+
+EXPORT struct wl_event_loop *wl_display_get_event_loop(struct wl_display *display)
+{
+    return display->loop;
+}
+
+EXPORT void wl_display_run(struct wl_display *display)
+{
+    display->is_running = true;
+    while (display->is_running) {
+        wl_display_flush_clients(display);
+        wl_event_loop_dispatch(display->loop, -1);
+    }
+}
+
+/* It may be called from a handler of signals: `errno` stays what it was. */
+EXPORT void wl_display_terminate(struct wl_display *display)
+{
+    const uint64_t one = 1;
+    int before = errno;
+    display->is_running = false;
+    ssize_t written = write(display->wakeup, &one, sizeof one);
+    (void)written; /* if it is full, the wait ends as well */
+    errno = before;
+}
+
+EXPORT uint32_t wl_display_get_serial(struct wl_display *display)
+{
+    return display->serial;
+}
+
+EXPORT uint32_t wl_display_next_serial(struct wl_display *display)
+{
+    return ++display->serial;
+}
+
+EXPORT void wl_display_add_destroy_listener(struct wl_display *display, struct wl_listener *listener)
+{
+    wl_signal_add(&display->destroy_signal, listener);
+}
+
+EXPORT struct wl_listener *wl_display_get_destroy_listener(struct wl_display *display, wl_notify_func_t notify)
+{
+    return wl_signal_get(&display->destroy_signal, notify);
+}
+
+EXPORT void wl_display_add_client_created_listener(struct wl_display *display, struct wl_listener *listener)
+{
+    wl_signal_add(&display->client_created_signal, listener);
+}
+
+EXPORT struct wl_list *wl_display_get_client_list(struct wl_display *display)
+{
+    return &display->clients;
+}
+
+EXPORT uint32_t *wl_display_add_shm_format(struct wl_display *display, uint32_t format)
+{
+    uint32_t *added = wl_array_add(&display->shm_formats, sizeof *added);
+    if (added)
+        *added = format;
+    return added;
+}
+
+EXPORT void wl_display_set_global_filter(struct wl_display *display, wl_display_global_filter_func_t filter, void *data)
+{
+    display->filter = filter;
+    display->filter_data = data;
+}
+
+/* Since 1.23. */
+EXPORT void wl_display_set_default_max_buffer_size(struct wl_display *display, size_t max_buffer_size);
+EXPORT void wl_display_set_default_max_buffer_size(struct wl_display *display, size_t max_buffer_size)
+{
+    nb_server_set_default_max_buffer_size(&display->core, max_buffer_size);
+}
+
+/* ======== The log */
+
+EXPORT void wl_log_set_handler_server(wl_log_func_t handler)
+{
+    log_handler = handler;
+}

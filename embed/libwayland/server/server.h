@@ -1,0 +1,184 @@
+/* What the files of the server's library share.
+ *
+ * The session of numbyroga.h reads, checks and numbers all that clients send. These files are between it and a program
+ * that was written for libwayland-server: they own sockets, memory and the order in which the program is called.
+ *
+ * Lifetimes. Each kind of thing is freed in one place:
+ *
+ *   - a client by `client_release` (client.c), once the program or its end has destroyed it *and* the session has given
+ *     it back, whichever comes last: until then the session's data of the client point to it;
+ *   - a resource by `resource_free` (resource.c), once the session's object has no data that point to it;
+ *   - a global by wl_global_destroy or its display's end (global.c), once the session has removed it;
+ *   - a source by `free_removed` (loop.c), after the round in which it was removed;
+ *   - a pool and a buffer of shared memory by their last reference (shm.c);
+ *   - a display by wl_display_destroy (display.c).
+ *
+ * The program. Any call of a function of the program may call the library again, and end what the caller looks at. So
+ * no action of the session is open then, and nothing of a display's buffer is needed afterwards. What has to live on is
+ * kept: a client by `depth`, a list by taking its first element again and again. */
+#ifndef SERVER_H
+#define SERVER_H
+
+#define WL_HIDE_DEPRECATED
+#include "arguments.h"
+#include "common.h"
+#include "log.h"
+#include "table.h"
+#include <numbyroga.h>
+#include <sys/types.h>
+#include <wayland-server-core.h>
+#include <wayland-server-protocol.h>
+
+struct trace;
+
+/* The fields up to `data` are shown by wayland-server.h, so their order is fixed; a program may have such a struct of
+ * its own, without those that follow (deprecated.c). */
+struct wl_resource {
+    struct wl_object object;
+    wl_resource_destroy_func_t destroy;
+    struct wl_list link;
+    struct wl_signal old_destroy_signal;
+    struct wl_client *client;
+    void *data;
+
+    int version;
+    wl_dispatcher_func_t dispatcher;
+    struct wl_signal destroy_signal;
+    nb_object_id core;        /* null if the session does not have it */
+    bool is_ending;           /* wl_resource_destroy is at it */
+    struct wl_list displaced; /* in its client's list, if its number names another one now */
+};
+
+/* Resources by number: those of one range. */
+struct numbered {
+    struct wl_resource **at;
+    uint32_t room;
+};
+
+struct wl_client {
+    struct wl_display *display;
+    struct wl_list link; /* in the display's list of clients; of those that leave, once it is destroyed */
+    int socket;
+    struct wl_event_source *source;
+    pid_t pid;
+    uid_t uid;
+    gid_t gid;
+    void *user_data;
+    void (*user_data_destroy)(void *data);
+    struct wl_signal destroy_signal, destroy_late_signal, resource_created_signal;
+
+    nb_client_id id;
+    bool was_inserted; /* the session has it, or had it */
+    bool is_inside;    /* the session has it, and its data point here */
+    uint64_t buffer_size; /* 0: the display's */
+
+    struct wl_resource *display_resource; /* NULL once the resources are destroyed */
+    struct numbered own, served;          /* of the client's range, and of the server's */
+    struct wl_list displaced, lent;       /* resources; the program's own structs */
+    nb_object_id created;                 /* the object that the last request has made */
+
+    unsigned depth;    /* how many calls look at it */
+    bool has_error;    /* it is told nothing more, and is destroyed when its socket can be read */
+    bool is_cut;       /* its socket failed: wl_display_flush_clients destroys it */
+    bool is_condemned; /* wl_client_destroy was called while `depth` was not 0 */
+    bool is_ending;    /* its resources are destroyed: what they send goes nowhere */
+    bool is_destroyed;
+    bool is_full;            /* the socket took no more */
+    bool was_read;           /* something came from it */
+    struct wl_list writable; /* in the display's list, if something is to be sent */
+    size_t unread, unsent;   /* descriptors that are in no request yet; that are in an event and not sent */
+    struct trace *trace;
+};
+
+struct wl_global {
+    struct wl_display *display;
+    struct wl_list link;
+    const struct wl_interface *interface;
+    uint32_t version;
+    void *data;
+    wl_global_bind_func_t bind;
+    bool is_removed;
+    nb_global_id id;
+};
+
+struct wl_display {
+    nb_server core;
+    struct table table;
+    uint8_t *buffer; /* NB_MOST_WAITING bytes for one call of the session */
+    struct wl_event_loop *loop;
+    bool is_running;
+    int wakeup; /* an eventfd, by which wl_display_terminate ends a wait */
+    struct wl_event_source *wakeup_source;
+    uint32_t serial;
+    struct wl_list clients, leaving, writable, globals, sockets, loggers;
+    struct wl_signal destroy_signal, client_created_signal;
+    wl_display_global_filter_func_t filter;
+    void *filter_data;
+    struct wl_array shm_formats;
+    bool is_printing; /* WAYLAND_DEBUG */
+    bool has_cut;     /* a client may be cut */
+};
+
+/* signal.c: emits a signal for the last time. Each listener is taken out before it is called. */
+void signal_emit_last(struct wl_signal *signal, void *data);
+
+/* sockets.c */
+void sockets_end(struct wl_display *display);
+
+/* global.c */
+bool global_is_visible(const struct wl_global *global, const struct wl_client *client);
+void globals_end(struct wl_display *display);
+
+/* client.c */
+void client_fail(struct wl_client *client);
+void client_hold(struct wl_client *client);
+void client_let_go(struct wl_client *client); /* it may be gone afterwards */
+void client_release(struct wl_client *client);
+/* Whether the session has the client. It is inserted at the first call: as late as can be, since the filter of globals
+ * is asked then what the client sees, and the program has to know by then who it is. */
+bool client_enter(struct wl_client *client);
+
+/* rounds.c */
+void client_send(struct wl_client *client);
+void client_flush(struct wl_client *client);
+void client_read(struct wl_client *client);
+void display_settle(struct wl_display *display);
+
+/* resource.c */
+bool resource_begin_display(struct wl_client *client);
+struct wl_resource *resource_at(struct wl_client *client, uint32_t id);
+struct wl_resource *resource_of(struct wl_client *client, const nb_object_id *core, uint64_t data);
+void resources_end(struct wl_client *client);
+bool number_put(struct wl_client *client, uint32_t id, struct wl_resource *resource);
+void number_take_out(struct wl_client *client, uint32_t id, const struct wl_resource *resource);
+/* The session's object that a resource with this number is to stand for: one that a request has made, or with 0 a new
+ * one. False if there is none, or it has a resource. */
+bool object_find(struct wl_client *client, const struct wl_interface *interface, int version, uint32_t id,
+                 uint64_t data, nb_object_id *object);
+void object_forget(struct wl_client *client, const nb_object_id *object);
+
+/* deprecated.c: the program's own structs. NULL if the resource is the library's. */
+const nb_object_id *lent_core(const struct wl_resource *resource);
+void lent_end(struct wl_resource *resource);
+
+/* The session's object of a resource; null if it has none. */
+const nb_object_id *core_of(const struct wl_resource *resource);
+
+/* errors.c */
+void client_post_error(struct wl_client *client, uint32_t code, const char *format, ...) WL_PRINTF(3, 4);
+
+/* dispatch.c */
+void dispatch(struct wl_client *client, const nb_action *action, nb_argument *arguments);
+
+/* trace.c */
+bool trace_is_on(const struct wl_display *display);
+void trace_event(struct wl_resource *resource, uint32_t opcode, union wl_argument *arguments);
+void trace_request(struct wl_resource *resource, uint32_t opcode, union wl_argument *arguments);
+void trace_received(struct wl_client *client, const uint8_t *bytes, size_t length);
+void trace_read(struct wl_client *client, bool has_action);
+void trace_delete_id(struct wl_client *client, uint32_t id);
+void trace_error(struct wl_client *client, struct wl_resource *resource, uint32_t code, const char *text);
+void trace_global(const struct wl_global *global, bool is_removal);
+void trace_end(struct wl_client *client);
+
+#endif

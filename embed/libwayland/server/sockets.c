@@ -1,0 +1,205 @@
+/* The sockets that a display listens at. It touches the file system: a socket and a lock file beside it, for each name,
+ * as long as the display lives. */
+#include "server.h"
+#include <errno.h>
+#include <fcntl.h>
+#include <stdio.h>
+#include <stdlib.h>
+#include <string.h>
+#include <sys/file.h>
+#include <sys/socket.h>
+#include <sys/stat.h>
+#include <sys/un.h>
+#include <unistd.h>
+
+enum { LAST_NAME = 32, WAITING = 128 };
+
+/* A path is empty until the file is there, and a descriptor -1. */
+struct listener {
+    struct wl_list link;
+    struct wl_event_source *source;
+    int socket, lock;
+    struct sockaddr_un address;
+    char path[sizeof((struct sockaddr_un *)0)->sun_path];
+    char lock_path[sizeof((struct sockaddr_un *)0)->sun_path + sizeof ".lock"];
+};
+
+static struct listener *listener_begin(void)
+{
+    struct listener *listener = calloc(1, sizeof *listener);
+    if (!listener)
+        return NULL;
+    listener->socket = -1;
+    listener->lock = -1;
+    wl_list_init(&listener->link);
+    return listener;
+}
+
+/* `errno` stays what it was. */
+static void listener_end(struct listener *listener)
+{
+    int reason = errno;
+    wl_list_remove(&listener->link);
+    if (listener->source)
+        wl_event_source_remove(listener->source);
+    if (listener->path[0])
+        unlink(listener->path);
+    if (listener->socket >= 0)
+        close(listener->socket);
+    if (listener->lock_path[0])
+        unlink(listener->lock_path);
+    if (listener->lock >= 0)
+        close(listener->lock);
+    free(listener);
+    errno = reason;
+}
+
+void sockets_end(struct wl_display *display)
+{
+    while (!wl_list_empty(&display->sockets))
+        listener_end(CONTAINER(display->sockets.next, struct listener, link));
+}
+
+static int client_connects(int fd, uint32_t mask, void *data)
+{
+    struct wl_display *display = data;
+    int socket = accept4(fd, NULL, NULL, SOCK_CLOEXEC);
+    (void)mask;
+    if (socket < 0)
+        log_line("failed to accept: %s\n", strerror(errno));
+    else if (!wl_client_create(display, socket))
+        close(socket);
+    return 1;
+}
+
+static bool listen_in(struct wl_display *display, struct listener *listener)
+{
+    listener->source =
+        wl_event_loop_add_fd(display->loop, listener->socket, WL_EVENT_READABLE, client_connects, display);
+    if (!listener->source)
+        return false;
+    wl_list_insert(display->sockets.prev, &listener->link);
+    return true;
+}
+
+/* The path of a name in $XDG_RUNTIME_DIR; an absolute name is a path. */
+static bool find_path(struct listener *listener, const char *name)
+{
+    const bool is_path = name[0] == '/';
+    const char *folder = is_path ? "" : getenv("XDG_RUNTIME_DIR");
+    const size_t room = sizeof listener->address.sun_path;
+    if (!is_path && (!folder || folder[0] != '/')) {
+        log_line("error: XDG_RUNTIME_DIR is invalid or not set in the environment\n");
+        errno = ENOENT;
+        return false;
+    }
+    int length = snprintf(listener->address.sun_path, room, "%s%s%s", folder, is_path ? "" : "/", name);
+    if (length < 0 || (size_t)length >= room) {
+        log_line("error: socket path \"%s%s%s\" plus null terminator exceeds %zu bytes\n", folder, is_path ? "" : "/",
+                 name, room);
+        listener->address.sun_path[0] = 0;
+        errno = ENAMETOOLONG;
+        return false;
+    }
+    return true;
+}
+
+/* The lock is held as long as the server lives: so the socket of one that runs is never taken away, and what one that
+ * ended has left is. */
+static bool take_lock(struct listener *listener)
+{
+    char path[sizeof listener->lock_path];
+    struct stat left;
+    snprintf(path, sizeof path, "%s.lock", listener->address.sun_path);
+    listener->lock = open(path, O_CREAT | O_CLOEXEC | O_RDWR, S_IRUSR | S_IWUSR | S_IRGRP | S_IWGRP);
+    if (listener->lock < 0) {
+        log_line("unable to open lockfile %s check permissions\n", path);
+        return false;
+    }
+    if (flock(listener->lock, LOCK_EX | LOCK_NB) < 0) {
+        log_line("unable to lock lockfile %s, maybe another compositor is running\n", path);
+        return false;
+    }
+    memcpy(listener->lock_path, path, sizeof path);
+    if (lstat(listener->address.sun_path, &left) == 0)
+        unlink(listener->address.sun_path);
+    else if (errno != ENOENT) {
+        log_line("did not manage to stat file %s\n", listener->address.sun_path);
+        return false;
+    }
+    return true;
+}
+
+static bool open_socket(struct listener *listener)
+{
+    const struct sockaddr_un *address = &listener->address;
+    const socklen_t size = (socklen_t)(offsetof(struct sockaddr_un, sun_path) + strlen(address->sun_path));
+    listener->socket = socket(AF_UNIX, SOCK_STREAM | SOCK_CLOEXEC, 0);
+    if (listener->socket < 0)
+        return false;
+    if (bind(listener->socket, (const struct sockaddr *)address, size) < 0) {
+        log_line("bind() failed with error: %s\n", strerror(errno));
+        return false;
+    }
+    memcpy(listener->path, address->sun_path, sizeof listener->path);
+    if (listen(listener->socket, WAITING) < 0) {
+        log_line("listen() failed with error: %s\n", strerror(errno));
+        return false;
+    }
+    return true;
+}
+
+/* A listener at this name, or NULL. `*is_hopeless`: another name would be no better. */
+static struct listener *serve(struct wl_display *display, const char *name, bool *is_hopeless)
+{
+    struct listener *listener = listener_begin();
+    *is_hopeless = true;
+    if (!listener)
+        return NULL;
+    listener->address.sun_family = AF_UNIX;
+    *is_hopeless = !find_path(listener, name);
+    if (!*is_hopeless && take_lock(listener) && open_socket(listener) && listen_in(display, listener))
+        return listener;
+    listener_end(listener);
+    return NULL;
+}
+
+EXPORT int wl_display_add_socket(struct wl_display *display, const char *name)
+{
+    bool is_hopeless;
+    if (!name)
+        name = getenv("WAYLAND_DISPLAY");
+    return serve(display, name ? name : "wayland-0", &is_hopeless) ? 0 : -1;
+}
+
+EXPORT const char *wl_display_add_socket_auto(struct wl_display *display)
+{
+    char name[sizeof "wayland-" + 12];
+    bool is_hopeless;
+    for (int i = 0; i <= LAST_NAME; i++) {
+        snprintf(name, sizeof name, "wayland-%d", i);
+        struct listener *listener = serve(display, name, &is_hopeless);
+        if (listener)
+            return strrchr(listener->path, '/') + 1;
+        if (is_hopeless)
+            return NULL;
+    }
+    errno = EINVAL;
+    return NULL;
+}
+
+EXPORT int wl_display_add_socket_fd(struct wl_display *display, int sock_fd)
+{
+    struct stat file;
+    if (sock_fd < 0 || fstat(sock_fd, &file) < 0 || !S_ISSOCK(file.st_mode))
+        return -1;
+    struct listener *listener = listener_begin();
+    if (!listener)
+        return -1;
+    listener->socket = sock_fd;
+    if (listen_in(display, listener))
+        return 0;
+    listener->socket = -1; /* it stays the program's */
+    listener_end(listener);
+    return -1;
+}

@@ -1,0 +1,267 @@
+/* The names of libwayland-server 1.22 to 1.24, which the library of 1.21 does not have: each by what its documentation
+ * says. It is linked with this library alone. The last line is `N passed, M failed`. */
+#include "../server/world.h"
+
+/* Newer headers declare these, too. */
+void wl_client_add_destroy_late_listener(struct wl_client *of, struct wl_listener *listener);
+struct wl_listener *wl_client_get_destroy_late_listener(struct wl_client *of, wl_notify_func_t notify);
+void wl_client_set_user_data(struct wl_client *of, void *data, void (*end)(void *data));
+void *wl_client_get_user_data(struct wl_client *of);
+void wl_client_set_max_buffer_size(struct wl_client *of, size_t size);
+void wl_display_set_default_max_buffer_size(struct wl_display *of, size_t size);
+uint32_t wl_global_get_name(const struct wl_global *global, const struct wl_client *of);
+void wl_resource_post_error_vargs(struct wl_resource *resource, uint32_t code, const char *message, va_list list);
+const struct wl_interface *wl_resource_get_interface(struct wl_resource *resource);
+struct wl_shm_buffer *wl_shm_buffer_ref(struct wl_shm_buffer *buffer);
+void wl_shm_buffer_unref(struct wl_shm_buffer *buffer);
+extern const struct wl_interface wl_fixes_interface;
+
+static int passed, failed;
+static FILE *out;
+
+static void check(bool holds, const char *what)
+{
+    passed += holds;
+    failed += !holds;
+    if (!holds)
+        fprintf(out, "FAILED %s\n", what);
+}
+
+/* ======== Late listeners: called after the resources are gone */
+
+static int order, destroy_at, resource_at, late_at;
+
+static void is_destroyed(struct wl_listener *listener, void *data)
+{
+    (void)listener;
+    (void)data;
+    destroy_at = ++order;
+}
+static void is_late(struct wl_listener *listener, void *data)
+{
+    (void)listener;
+    check(data == client, "a late listener is told of the client");
+    late_at = ++order;
+}
+static void resource_ends(struct wl_resource *resource)
+{
+    (void)resource;
+    resource_at = ++order;
+}
+
+static void late_listeners(void)
+{
+    struct wl_listener early = { .notify = is_destroyed }, late = { .notify = is_late };
+    begin_with_thing();
+    wl_resource_set_destructor(thing, resource_ends);
+    check(!wl_client_get_destroy_late_listener(client, is_late), "no late listener at first");
+    wl_client_add_destroy_listener(client, &early);
+    wl_client_add_destroy_late_listener(client, &late);
+    check(wl_client_get_destroy_late_listener(client, is_late) == &late, "the late listener is found");
+    check(!wl_client_get_destroy_listener(client, is_late), "it is none of the early ones");
+    wl_client_destroy(client);
+    check(destroy_at == 1 && resource_at == 2 && late_at == 3, "listeners, resources, late listeners: in this order");
+}
+
+/* ======== A client's data */
+
+static int ended_with;
+static void end_of_data(void *data)
+{
+    ended_with = *(int *)data;
+}
+
+static void user_data(void)
+{
+    int one = 1, two = 2;
+    begin();
+    check(!wl_client_get_user_data(client), "no data at first");
+    wl_client_set_user_data(client, &one, end_of_data);
+    check(wl_client_get_user_data(client) == &one, "the data that were set");
+    wl_client_set_user_data(client, &two, end_of_data);
+    check(ended_with == 1, "data that are replaced end");
+    wl_client_destroy(client);
+    check(ended_with == 2, "data end with the client");
+}
+
+/* ======== Names, interfaces, errors */
+
+static const struct wl_client *chosen;
+static bool for_one(const struct wl_client *of, const struct wl_global *global, void *data)
+{
+    (void)global;
+    (void)data;
+    return of == chosen;
+}
+
+static void names(void)
+{
+    begin();
+    check(wl_global_get_name(thing_global, client) == 1, "the name of a global");
+    wl_display_set_global_filter(display, for_one, NULL);
+    check(wl_global_get_name(thing_global, client) == 0, "no name for a client that does not see it");
+    chosen = client;
+    check(wl_global_get_name(thing_global, client) == 1, "a name for one that does");
+    struct wl_resource *made = wl_resource_create(client, &part_interface, 1, 0);
+    check(wl_resource_get_interface(made) == &part_interface, "the interface of a resource");
+}
+
+static void post(struct wl_resource *resource, const char *format, ...)
+{
+    va_list list;
+    va_start(list, format);
+    wl_resource_post_error_vargs(resource, 5, format, list);
+    va_end(list);
+}
+
+static uint32_t came[1000];
+
+static void errors(void)
+{
+    begin_with_thing();
+    post(thing, "a %s of %d", "text", 7);
+    dispatch_all();
+    check(recv(peer, came, sizeof came, MSG_DONTWAIT) > 20 && came[0] == 1 && (came[1] & 0xffff) == 0 && came[2] == 3 &&
+              came[3] == 5 && strcmp((char *)(came + 5), "a text of 7") == 0,
+          "an error of a list of arguments");
+}
+
+/* ======== How much may wait */
+
+/* How many events of 20 bytes a client that does not read can be told. */
+static int told(size_t display_size, size_t client_size)
+{
+    int size = 4096, count = 0;
+    begin();
+    if (display_size) {
+        wl_display_set_default_max_buffer_size(display, display_size);
+        client = connect_client(&peer);
+    }
+    if (client_size)
+        wl_client_set_max_buffer_size(client, client_size);
+    get_registry(2);
+    bind_global(2, 1, "thing", 5, 3);
+    dispatch_all();
+    setsockopt(wl_client_get_fd(client), SOL_SOCKET, SO_SNDBUF, &size, sizeof size);
+    for (int i = 0; i < 40000; i++) {
+        wl_resource_post_event(thing, THING_TOLD_NUMBERS, i, 2, 3);
+        if (i % 50 == 0)
+            dispatch_all();
+    }
+    for (int i = 0; i < 2000; i++) {
+        ssize_t length = recv(peer, came, sizeof came, MSG_DONTWAIT);
+        if (length > 0)
+            count += (int)length;
+        dispatch_all();
+    }
+    return count / 20;
+}
+
+static void buffer_sizes(void)
+{
+    const int all = told(0, 0), few = told(16384, 0), of_one = told(0, 16384), more = told(4096, 1 << 20);
+    check(all >= 40000, "800,000 bytes wait at first");
+    check(few < 20000, "the display's limit ends a client for which more waits");
+    check(of_one < 20000, "so does a client's own");
+    check(more >= 40000, "a client's own is above the display's");
+}
+
+/* ======== Buffers of shared memory that live longer than their resources */
+
+static struct wl_resource *buffer_resource;
+static void remember(struct wl_listener *listener, void *data)
+{
+    (void)listener;
+    if (strcmp(wl_resource_get_class(data), "wl_buffer") == 0)
+        buffer_resource = data;
+}
+
+static void kept_buffers(void)
+{
+    struct wl_listener listener = { .notify = remember };
+    int file = memfd_create("pool", 0);
+    begin();
+    wl_display_init_shm(display);
+    wl_client_add_resource_created_listener(client, &listener);
+    if (ftruncate(file, 4096) < 0 || pwrite(file, "pixels", 6, 0) != 6)
+        exit(9);
+    get_registry(2);
+    bind_global(2, 2, "wl_shm", 1, 3);
+    request(3, 0, "whw", 4, file, 4096);
+    request(4, 0, "wwwwww", 5, 0, 4, 4, 16, 0);
+    dispatch_all();
+    struct wl_shm_buffer *buffer = wl_shm_buffer_get(buffer_resource);
+    check(wl_shm_buffer_ref(buffer) == buffer, "a reference is the buffer");
+    wl_client_destroy(client);
+    check(memcmp(wl_shm_buffer_get_data(buffer), "pixels", 6) == 0 && wl_shm_buffer_get_width(buffer) == 4,
+          "the buffer outlives its client");
+    wl_shm_buffer_begin_access(buffer);
+    wl_shm_buffer_end_access(buffer);
+    wl_shm_buffer_unref(buffer);
+}
+
+/* ======== wl_fixes */
+
+static void destroy(struct wl_client *of, struct wl_resource *resource)
+{
+    (void)of;
+    wl_resource_destroy(resource);
+}
+static void destroy_registry(struct wl_client *of, struct wl_resource *resource, struct wl_resource *registry)
+{
+    (void)of;
+    (void)resource;
+    check(strcmp(wl_resource_get_class(registry), "wl_registry") == 0 && wl_resource_get_id(registry) == 2,
+          "a registry as an argument");
+    wl_resource_destroy(registry);
+}
+static const struct {
+    void (*destroy)(struct wl_client *, struct wl_resource *);
+    void (*destroy_registry)(struct wl_client *, struct wl_resource *, struct wl_resource *);
+} fixes = { destroy, destroy_registry };
+
+static void bind_fixes(struct wl_client *of, void *data, uint32_t version, uint32_t id)
+{
+    (void)data;
+    wl_resource_set_implementation(wl_resource_create(of, &wl_fixes_interface, (int)version, id), &fixes, NULL, NULL);
+}
+
+static void fixed(void)
+{
+    begin();
+    check(strcmp(wl_fixes_interface.name, "wl_fixes") == 0 && wl_fixes_interface.method_count >= 2 &&
+              strcmp(wl_fixes_interface.methods[1].name, "destroy_registry") == 0,
+          "the interface of wl_fixes");
+    wl_global_create(display, &wl_fixes_interface, 1, NULL, bind_fixes);
+    get_registry(2);
+    bind_global(2, 2, "wl_fixes", 1, 3);
+    request(3, 1, "w", 2);
+    dispatch_all();
+    while (recv(peer, came, sizeof came, MSG_DONTWAIT) > 0)
+        continue;
+    wl_global_create(display, &part_interface, 1, "", bind_part);
+    dispatch_all();
+    check(recv(peer, came, sizeof came, MSG_DONTWAIT) < 0 && errno == EAGAIN, "a registry that is gone is told nothing");
+    get_registry(2);
+    dispatch_all();
+    check(recv(peer, came, sizeof came, MSG_DONTWAIT) > 0 && came[0] == 2, "its number can be used again");
+}
+
+int main(void)
+{
+    signal(SIGPIPE, SIG_IGN);
+    fclose(stderr);
+    out = fdopen(dup(1), "w");
+    if (!freopen("/dev/null", "w", stdout))
+        return 3;
+    late_listeners();
+    user_data();
+    names();
+    errors();
+    buffer_sizes();
+    kept_buffers();
+    fixed();
+    fprintf(out, "%d passed, %d failed\n", passed, failed);
+    fclose(out);
+    return failed > 0;
+}
