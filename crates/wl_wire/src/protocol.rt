@@ -21,14 +21,16 @@ use std::marker::Model;
 
 /// Why a list of interfaces was refused as a table, or as more of one.
 ///
-/// The number in a variant is the place of the interface in the caller's list, counted from 0.
+/// The number in a variant is the place of the interface in the caller's list, counted from 0; for more messages of one
+/// interface (`Protocol::extend_row`) it is 0.
 #[derive(Clone, Copy, PartialEq, Eq)]
 pub enum TableError {
     /// The name of the interface, or of one of its messages, has a zero byte.
     ZeroInName(usize),
     /// The name of the interface is that of a fixed interface, of one that the table has, or of an earlier one of the list.
     DuplicateName(usize),
-    /// One of its messages names a child interface or an argument interface that is outside the table.
+    /// One of its messages names a child interface or an argument interface that is outside the table. Or it was to take more
+    /// messages, but is itself outside the table, or fixed.
     UnknownInterface(usize),
     /// One of its messages creates more than one object.
     TooManyNewIds(usize),
