@@ -271,16 +271,17 @@ pub fn same_interface(a: &'static Interface, b: &'static Interface) -> bool {
 }
 
 /// Whether a text of a message that came is null where its interface allows none. Code that is generated relies on it.
-#[cold]
-pub(crate) fn has_forbidden_text<Id, Fd>(
+#[inline]
+pub(crate) fn has_forbidden_null<Id, Fd>(
     messages: &[MessageDesc],
-    opcode: u32,
+    opcode: u16,
     args: &[Argument<Id, Fd>],
 ) -> bool {
-    messages.get(opcode as usize).is_some_and(|message| {
-        let mut pairs = message.signature.iter().zip(args);
-        pairs.any(|it| matches!(it, (ArgumentType::Str(AllowNull::No), Argument::Str(None))))
-    })
+    args.iter().any(|it| matches!(it, Argument::Str(None)))
+        && messages.get(usize::from(opcode)).is_some_and(|message| {
+            let mut pairs = message.signature.iter().zip(args);
+            pairs.any(|it| matches!(it, (ArgumentType::Str(AllowNull::No), Argument::Str(None))))
+        })
 }
 
 /// A value of an enum of the protocol.

@@ -13,7 +13,7 @@ use super::{Backend, ObjectData, ObjectId, WaylandError};
 use crate::debug;
 use crate::library::{Arguments, Received, Status};
 use crate::panics::Panics;
-use crate::protocol::Message;
+use crate::protocol::{has_forbidden_null, Message};
 
 /// Tells threads apart, as long as they run. It costs less than the standard library's id, for which references are counted.
 #[derive(Clone, Copy, Debug, PartialEq, Eq)]
@@ -316,6 +316,10 @@ fn hand_out<'a>(
         Ok(event) => event,
         Err(status) => return Err(NoEvent { session, status }),
     };
+    if has_forbidden_null(sender_id.interface().events, opcode, &args) {
+        let status = session.refuse_event();
+        return Err(NoEvent { session, status });
+    }
     drop(session);
     backend.connection.print_event(&sender_id, opcode, &args);
     // The message is large: it is put together where it is handed over.

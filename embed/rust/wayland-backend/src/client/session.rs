@@ -18,9 +18,7 @@ use crate::library::{
     Status,
 };
 use crate::panics::Panics;
-use crate::protocol::{
-    has_forbidden_text, ArgumentType, Interface, Message, MessageDesc, ObjectInfo, ProtocolError,
-};
+use crate::protocol::{ArgumentType, Interface, Message, MessageDesc, ObjectInfo, ProtocolError};
 use crate::table::{BadInterface, Longer, Table};
 
 /// What is kept for an object.
@@ -58,7 +56,7 @@ pub(super) struct Session {
 #[derive(Debug)]
 enum Fault {
     System(Errno),
-    /// An event had a null text where its interface allows none. The library hands it out.
+    /// An event had a null text where its interface allows none. The library lets it pass.
     NullText,
 }
 
@@ -523,16 +521,18 @@ impl Session {
                 (missing, table.interface(event.sender.interface))
             }
         };
-        // A null object is handed out, whatever its interface says.
-        if event.forbidden_null != 0 && has_forbidden_text(interface.events, event.opcode, args) {
-            self.fault = Some(Fault::NullText);
-            return Err(Status::FAILED);
-        }
         Ok(OpenEvent {
             data: receiver,
             sender_id: ObjectId::new(&event.sender, interface),
             opcode: event.opcode as u16,
         })
+    }
+
+    /// The event that was handed out is malformed, which ends the connection.
+    #[cold]
+    pub(super) fn refuse_event(&mut self) -> Status {
+        self.fault.get_or_insert(Fault::NullText);
+        Status::FAILED
     }
 
     /// Finishes the event that was handed out. An object that it made gets the data that the callback answered.

@@ -19,7 +19,7 @@ use super::{
 use crate::{
     library::{Arguments, RawClientId, Ready, Received, Status},
     panics::Panics,
-    protocol::Message,
+    protocol::{has_forbidden_null, Message},
 };
 
 /// How many clients are told of at once that have sent something.
@@ -302,7 +302,7 @@ impl<D> Backend<D> {
         }
     }
 
-    /// Ends a client for a request that has a null text where its interface allows none. The library hands it out.
+    /// Ends a client for a request that has a null text where its interface allows none. The library lets it pass.
     #[cold]
     fn refuse(&self, sender: ObjectId, opcode: u16) {
         const INVALID_METHOD: u32 = 1;
@@ -337,7 +337,7 @@ impl<D> Backend<D> {
             Err(status) => return Err(NoRequest { state, status }),
         };
         let (sender_id, opcode) = state.core.sender();
-        if state.core.action.forbidden_null != 0 {
+        if has_forbidden_null(sender_id.interface().requests, opcode, &args) {
             drop(state);
             self.refuse(sender_id, opcode);
             return Ok(None);
