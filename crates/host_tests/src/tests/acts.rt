@@ -4,13 +4,14 @@ use crate::tests::rows::{NOTE, TABLE};
 use crate::tests::session::Session;
 use crate::tests::told::{
     NO_ARGUMENT, NOBODY, NOTHING, NULL, bytes_of, tell_counts, tell_descriptor, tell_kept,
-    tell_lent, tell_numbers, tell_object, tell_objects, told, told_table,
+    tell_lent, tell_numbers, tell_object, tell_objects, told, told_extension,
+    told_table,
 };
 use std::alloc::Global;
 use std::test::Fail;
 use wl_host::{
-    FlatAction, FlatArgument, FlatClientId, FlatGlobalId, FlatNote, FlatObjectId, Gone, Server,
-    Status, TableFault,
+    FlatAction, FlatArgument, FlatClientId, FlatGlobalId, FlatNote, FlatObjectId, Gone, Rows,
+    Server, Status, TableFault,
 };
 
 /// One call of the session.
@@ -27,6 +28,8 @@ pub enum Act {
     Sees(FlatClientId),
     /// The interface `note` is added to the table.
     AddNote,
+    /// The table is extended by these rows.
+    Extend(Rows<'static>),
     /// A send to the client failed.
     SendFailed(FlatClientId),
     /// The client is killed.
@@ -251,6 +254,7 @@ fn on_clients(log: &mut String, server: &mut Server, act: &Act) -> Result<Status
             Ok(Status::Ok)
         }
         Act::AddNote => told_table(log, server.add_interfaces(&NOTE)),
+        Act::Extend(rows) => told_extension(log, server.extend_interfaces(rows)),
         _ => Err(Fail::new("no act of this kind")),
     }
 }

@@ -5,13 +5,14 @@ use crate::tests::rows::{NOTE, TABLE};
 use crate::tests::session::Session;
 use crate::tests::told::{
     NO_ARGUMENT, NOBODY, NOTHING, NULL, bytes_of, tell_counts, tell_descriptor, tell_kept,
-    tell_lent, tell_numbers, tell_object, tell_objects, told, told_table,
+    tell_lent, tell_numbers, tell_object, tell_objects, told, told_extension,
+    told_table,
 };
 use std::alloc::Global;
 use std::test::Fail;
 use wl_host::{
-    Client, FlatArgument, FlatError, FlatEvent, FlatObjectId, FlatObjectInfo, FlatRequest, Status,
-    TableFault,
+    Client, FlatArgument, FlatError, FlatEvent, FlatObjectId, FlatObjectInfo, FlatRequest, Rows,
+    Status, TableFault,
 };
 
 /// One call of the session.
@@ -34,6 +35,8 @@ pub enum Act {
     BindNote(u64),
     /// The interface `note` is added to the table.
     AddNote,
+    /// The table is extended by these rows.
+    Extend(Rows<'static>),
     /// What is known of the object.
     Info(FlatObjectId),
     /// The data of the object.
@@ -266,6 +269,7 @@ fn on_requests(log: &mut String, client: &mut Client, act: &Act) -> Result<Statu
             send(log, client, request, BIND_NOTE, b"note")
         }
         Act::AddNote => told_table(log, client.add_interfaces(&NOTE)),
+        Act::Extend(rows) => told_extension(log, client.extend_interfaces(rows)),
         _ => Err(Fail::new("no act of this kind")),
     }
 }
