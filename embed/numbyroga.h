@@ -299,8 +299,17 @@ enum {
     NB_FAULT_TOO_MANY_NEW_IDS = 5,    /* a message makes two objects */
     NB_FAULT_MISSING_CHILD = 6,       /* a new id names no interface */
     NB_FAULT_ARGUMENT_INTERFACES = 7, /* the interfaces of a message are not those of its object arguments */
-    NB_FAULT_OUT_OF_MEMORY = 8        /* malloc refused */
+    NB_FAULT_OUT_OF_MEMORY = 8,       /* malloc refused */
+    NB_FAULT_CONTRADICTS = 9          /* a row contradicts the table; of nb_server_extend_interfaces alone */
 };
+
+/* What is wrong with whole rows. The last three tell of NB_FAULT_CONTRADICTS at which message the row and the table
+ * differ first, and are 0 for other faults. The version of the row itself stands in the row. */
+typedef struct {
+    uint32_t interface, fault; /* as in nb_table_fault */
+    uint32_t is_event, opcode; /* whether the message is an event (0 or 1), and its opcode */
+    uint32_t version;          /* of the interface in the table */
+} nb_extension_fault;
 
 /* The four slices in one struct, as embed/scan writes them. */
 typedef struct {
@@ -459,6 +468,34 @@ nb_status nb_server_add_interfaces(nb_server *place, const uint8_t *text, size_t
                                    const nb_interface_row *interfaces, size_t interface_count,
                                    const nb_message_row *messages, size_t message_count,
                                    const nb_argument_row *arguments, size_t argument_count, nb_table_fault *fault);
+
+/* Extends the table by whole rows, of interfaces that it has and of others. So two libraries in one program can each
+ * bring the interfaces that they were made for: of two versions of one protocol the table has the longer one, whichever
+ * came first. nb_server_merge, below, takes an nb_table.
+ *
+ * An interface whose name the table lacks is added. One that it has is compared: the requests that both have must be
+ * the same, and the events. What the row has more is appended, and the version rises if that of the row is greater.
+ * Whatever is in the table stays: no number, opcode or message of it changes, and a shorter row changes nothing. Two
+ * messages are the same if they have one name, one `since`, arguments of the same kinds, and if these name the same
+ * interfaces; an argument that names none agrees with any. Neither is_destructor nor is_nullable is compared.
+ * wl_display, wl_registry and wl_callback take no more: NB_FAULT_UNKNOWN_INTERFACE.
+ *
+ * In the rows the number of an interface is its number in the table. The interfaces that are new have the numbers
+ * behind the last one of the table, in the order in which they stand among the rows.
+ *
+ * Everything is read and compared first. If a row contradicts the table (NB_FAULT_CONTRADICTS), or a name stands twice
+ * among the rows (NB_FAULT_DUPLICATE_NAME), nothing is changed. Then the new interfaces are added, all of them or none,
+ * and then the others are extended, one after the other. So a fault of what a row has more, and NB_OUT_OF_MEMORY, may
+ * leave some of them extended: make the same call again, and it goes on.
+ *
+ * What was received and is not read yet is read by the longer table. Objects and globals keep their versions.
+ *
+ * `fault` is written after NB_BAD_TABLE and NB_OUT_OF_MEMORY. Statuses: NB_BAD_TABLE; NB_OUT_OF_MEMORY. */
+nb_status nb_server_extend_interfaces(nb_server *place, const uint8_t *text, size_t text_length,
+                                      const nb_interface_row *interfaces, size_t interface_count,
+                                      const nb_message_row *messages, size_t message_count,
+                                      const nb_argument_row *arguments, size_t argument_count,
+                                      nb_extension_fault *fault);
 
 /* Writes 1 if malloc refused in the last call of the core, which is any call but received, sent, set_room and those
  * that only look; also where the call did its work all the same (a client that could not be told something is killed
@@ -746,6 +783,13 @@ nb_status nb_client_add_interfaces(nb_client *place, const uint8_t *text, size_t
                                    const nb_message_row *messages, size_t message_count,
                                    const nb_argument_row *arguments, size_t argument_count, nb_table_fault *fault);
 
+/* Extends the table by whole rows, as nb_server_extend_interfaces. */
+nb_status nb_client_extend_interfaces(nb_client *place, const uint8_t *text, size_t text_length,
+                                      const nb_interface_row *interfaces, size_t interface_count,
+                                      const nb_message_row *messages, size_t message_count,
+                                      const nb_argument_row *arguments, size_t argument_count,
+                                      nb_extension_fault *fault);
+
 /* Writes 1 if malloc refused in the last call of the core, as nb_server_memory_refused, and else 0. */
 nb_status nb_client_memory_refused(nb_client *place, uint32_t *is_refused);
 
@@ -883,6 +927,14 @@ static inline nb_status nb_server_extend(nb_server *place, const nb_table *table
                                     fault);
 }
 
+/* nb_server_extend_interfaces with a table. */
+static inline nb_status nb_server_merge(nb_server *place, const nb_table *table, nb_extension_fault *fault)
+{
+    return nb_server_extend_interfaces(place, table->text, table->text_length, table->interfaces,
+                                       table->interface_count, table->messages, table->message_count, table->arguments,
+                                       table->argument_count, fault);
+}
+
 /* nb_client_connect with a table. */
 static inline nb_status nb_client_start(nb_client *place, const nb_table *table, nb_table_fault *fault)
 {
@@ -896,6 +948,14 @@ static inline nb_status nb_client_extend(nb_client *place, const nb_table *table
     return nb_client_add_interfaces(place, table->text, table->text_length, table->interfaces, table->interface_count,
                                     table->messages, table->message_count, table->arguments, table->argument_count,
                                     fault);
+}
+
+/* nb_client_extend_interfaces with a table. */
+static inline nb_status nb_client_merge(nb_client *place, const nb_table *table, nb_extension_fault *fault)
+{
+    return nb_client_extend_interfaces(place, table->text, table->text_length, table->interfaces,
+                                       table->interface_count, table->messages, table->message_count, table->arguments,
+                                       table->argument_count, fault);
 }
 
 /* nb_server_create_global without data, in group 1 and hidden from nobody: each client of nb_serve_client sees it. */

@@ -34,6 +34,11 @@ AT(nb_argument_row, is_nullable, 4);
 AT(nb_argument_row, interface, 8);
 SIZE(nb_table_fault, 8);
 AT(nb_table_fault, fault, 4);
+SIZE(nb_extension_fault, 20);
+AT(nb_extension_fault, fault, 4);
+AT(nb_extension_fault, is_event, 8);
+AT(nb_extension_fault, opcode, 12);
+AT(nb_extension_fault, version, 16);
 
 SIZE(nb_argument, 56);
 AT(nb_argument, value, 4);

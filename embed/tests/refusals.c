@@ -1,5 +1,6 @@
 /* Each allocation of a run is refused in turn: the run goes to its end, no memory is lost (the address sanitizer
  * tells), and a session that is told so afterwards still ends. Linked with -Wl,--wrap=malloc,--wrap=realloc. */
+#include "rows.h"
 #include "tests.h"
 
 static long left, asked;
@@ -261,9 +262,72 @@ static void asked_again(void)
     OK(nb_server_end(&server));
 }
 
+/* ---- a table that is extended: after a refusal the same call goes on */
+
+static row_list pads(uint32_t version, uint32_t messages)
+{
+    row_list rows = { 0 };
+    static const char *const names[] = { "pad", "pen", "ink" };
+    for (uint32_t i = 0; i < 3; i++) {
+        interface_row(&rows, names[i], version);
+        for (uint32_t k = 0; k < messages; k++)
+            request_row(&rows, "draw", k + 1, "sno", NB_INTERFACE_FIRST, NB_INTERFACE_FIRST + 1);
+        event_row(&rows, "dry", 1, "u");
+    }
+    return rows;
+}
+
+static nb_status merge(int is_client, const row_list *rows, nb_extension_fault *why)
+{
+    nb_table table = table_of(rows);
+    return is_client ? nb_client_merge(&session, &table, why) : nb_server_merge(&server, &table, why);
+}
+
+/* Each interface has the greatest version, and nothing more can be had of the rows. */
+static void is_whole(int is_client, const row_list *rows, uint32_t version)
+{
+    nb_extension_fault why;
+    nb_global_id global;
+    for (uint32_t i = NB_INTERFACE_FIRST; i < NB_INTERFACE_FIRST + 4 && !is_client; i++) {
+        OK(nb_server_create_global(&server, i, version, 0, 1, NULL, 0, &global));
+        IS(nb_server_create_global(&server, i, version + 1, 0, 1, NULL, 0, &global), NB_VERSION_TOO_HIGH);
+    }
+    OK(merge(is_client, rows, &why));
+}
+
+static void extend_in_turn(int is_client)
+{
+    const row_list first = pads(1, 1);
+    row_list second = pads(4, 3);
+    interface_row(&second, "brush", 4);
+    const nb_table table = table_of(&first);
+    long refused = 0, all = 0;
+    for (is_refused = 1; is_refused; all++) {
+        nb_extension_fault why = { 0 };
+        left = is_refused = 0;
+        OK(is_client ? nb_client_start(&session, &table, &fault) : nb_server_start(&server, &table, &fault));
+        left = all + 1;
+        nb_status status = merge(is_client, &second, &why);
+        left = 0;
+        if (status == NB_OUT_OF_MEMORY) {
+            refused++;
+            HOLDS(is_refused && why.fault == NB_FAULT_OUT_OF_MEMORY && why.interface == 0 && why.version == 0);
+            status = merge(is_client, &second, &why);
+        }
+        OK(status);
+        is_whole(is_client, &second, 4);
+        OK(is_client ? nb_client_end(&session) : nb_server_end(&server));
+    }
+    HOLDS(refused > 30);
+    printf("an extension: %ld allocations, each refused once; out of memory was answered %ld times\n", all - 1,
+           refused);
+}
+
 int main(void)
 {
     asked_again();
+    extend_in_turn(0);
+    extend_in_turn(1);
     refuse_each(serve, "a server");
     refuse_each(use, "a client");
     return tell();

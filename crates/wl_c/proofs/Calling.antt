@@ -3,8 +3,9 @@
 -- In each lemma the place held `w`, which was taken out and lent to the call as `x`. The call made `y` of it, which was put back.
 use Rattle.std.proofs.Common.{◌≡◌, ℕ, subst}
 use Rattle.std.specs.Prelude.{Bool, Option, Some, Result}
-use Rattle.wl_c.specs.Calls.{Added, Did, Gave, GaveFlag, Written, WrittenFault, flagged}
+use Rattle.wl_c.specs.Calls.{Added, Did, Extended, Gave, GaveFlag, Written, WrittenExtension, WrittenFault, flagged}
 use Rattle.wl_host.specs.Status.{code_of}
+use Rattle.wl_host.specs.declared.extending.ExtensionFault.{ExtensionFault}
 use Rattle.wl_host.specs.declared.rows.TableFault.{TableFault}
 use Rattle.wl_host.specs.declared.status.Status.{Status}
 
@@ -33,4 +34,9 @@ gave_flag R {answer = answer} took lent put told call =
 pub added : {S : Type 0} (R : S → Result (Unit {0}) TableFault → S → Type 0) {before after : Option S} {w x y : S} {code : ℕ} {old new : TableFault} {answer : Result (Unit {0}) TableFault} →
     before ≡ Some w → x ≡ w → after ≡ Some y → WrittenFault answer code old new → R x answer y → Added before code old new after R
 added R {answer = answer} took lent put told call =
+    λ s t is_s is_t. (answer, told, moved (λ u v. R u answer v) took lent put is_s is_t call)
+
+pub extended : {S : Type 0} (R : S → Result (Unit {0}) ExtensionFault → S → Type 0) {before after : Option S} {w x y : S} {code : ℕ} {old new : ExtensionFault} {answer : Result (Unit {0}) ExtensionFault} →
+    before ≡ Some w → x ≡ w → after ≡ Some y → WrittenExtension answer code old new → R x answer y → Extended before code old new after R
+extended R {answer = answer} took lent put told call =
     λ s t is_s is_t. (answer, told, moved (λ u v. R u answer v) took lent put is_s is_t call)

@@ -3,6 +3,7 @@
 use Rattle.std.specs.Prelude.{◌≡◌, ◌==◌, ℕ, Bool, if◌then◌else◌, Option, Some, Result, Ok, Err}
 use Rattle.wl_c.specs.Flags.{flag}
 use Rattle.wl_host.specs.Status.{code_of}
+use Rattle.wl_host.specs.declared.extending.ExtensionFault.{ExtensionFault}
 use Rattle.wl_host.specs.declared.rows.TableFault.{TableFault}
 use Rattle.wl_host.specs.declared.status.Status.{Status}
 
@@ -63,3 +64,19 @@ WrittenFault (Err refused) code old new = (code ≡ fault_code refused) × (new 
 abbrev pub Added : {S : Type 0} → Option S → ℕ → TableFault → TableFault → Option S → (S → Result (Unit {0}) TableFault → S → Type 0) → Type 0
 Added {S} before code old new after R =
     (s t : S) → before ≡ Some s → after ≡ Some t → (answer : Result (Unit {0}) TableFault) × WrittenFault answer code old new × R s answer t
+
+-- ---- whole rows
+
+-- the number for rows that were refused, or of which only some were taken: for want of memory, which is fault 8, or for another fault
+abbrev pub extension_code : ExtensionFault → ℕ
+extension_code refused = if refused.fault == 8 then 3 else 8
+
+-- the rows are taken, and the number is 0; or not all of them are, and why is written
+abbrev pub WrittenExtension : Result (Unit {0}) ExtensionFault → ℕ → ExtensionFault → ExtensionFault → Type 0
+WrittenExtension (Ok u) code old new = (code ≡ 0) × (new ≡ old)
+WrittenExtension (Err refused) code old new = (code ≡ extension_code refused) × (new ≡ refused)
+
+-- the table of the session was to be extended, so that this holds
+abbrev pub Extended : {S : Type 0} → Option S → ℕ → ExtensionFault → ExtensionFault → Option S → (S → Result (Unit {0}) ExtensionFault → S → Type 0) → Type 0
+Extended {S} before code old new after R =
+    (s t : S) → before ≡ Some s → after ≡ Some t → (answer : Result (Unit {0}) ExtensionFault) × WrittenExtension answer code old new × R s answer t

@@ -1,9 +1,9 @@
 //! How the answer of a session's call goes out to C.
 
 ghost use Rattle.std.specs.Prelude.{◌≡◌, ◌≢◌};
-ghost use Rattle.wl_c.specs.Calls.{Written, WrittenFault, fault_code, flagged};
+ghost use Rattle.wl_c.specs.Calls.{Written, WrittenExtension, WrittenFault, fault_code, flagged};
 
-use wl_host::{Status, TableFault, fault};
+use wl_host::{ExtensionFault, Status, TableFault, fault};
 
 /// Writes what a call answers, unless it was refused, and answers the number of its status.
 pub fn write_answer<T: Drop>(answer: Result<T, Status>, out: &mut T) -> u32
@@ -54,5 +54,23 @@ pub fn write_fault(refused: TableFault, out: &mut TableFault) -> u32
         Status::OutOfMemory.code()
     } else {
         Status::BadTable.code()
+    }
+}
+
+/// Writes why whole rows were refused, or only some of them taken, if so, and answers the number of the status.
+pub fn write_extended(answer: Result<(), ExtensionFault>, out: &mut ExtensionFault) -> u32
+    ensures answered { WrittenExtension answer result out.old out.new }
+    ensures unfaulted { result ≡ 0 → out.new ≡ out.old }
+{
+    match answer {
+        Ok(()) => Status::Ok.code(),
+        Err(refused) => {
+            *out = refused;
+            if refused.fault == fault::OUT_OF_MEMORY {
+                Status::OutOfMemory.code()
+            } else {
+                Status::BadTable.code()
+            }
+        }
     }
 }

@@ -2,7 +2,7 @@
 //!
 //! | Calls | File |
 //! |---|---|
-//! | `new`, `end`, `add_interfaces`, `memory_refused`, the limits | `session` |
+//! | `new`, `end`, `add_interfaces`, `extend_interfaces`, `memory_refused`, the limits | `session` |
 //! | `insert_client`, `received`, .. | `clients` |
 //! | `next_action`, `finish_request`, `send_event`, .. | `actions` |
 //! | `create_object`, `object_data`, .. | `objects` |

@@ -6,9 +6,9 @@ use crate::client::ClientPlace;
 use crate::server::ServerPlace;
 use std::mem::size_of;
 use wl_host::{
-    ArgumentRow, Counts, FlatAction, FlatArgument, FlatClientId, FlatError, FlatEvent,
-    FlatGlobalId, FlatGlobalInfo, FlatNote, FlatObjectId, FlatObjectInfo, FlatRequest, Gone,
-    InterfaceRow, MessageRow, TableFault,
+    ArgumentRow, Counts, ExtensionFault, FlatAction, FlatArgument, FlatClientId, FlatError,
+    FlatEvent, FlatGlobalId, FlatGlobalInfo, FlatNote, FlatObjectId, FlatObjectInfo, FlatRequest,
+    Gone, InterfaceRow, MessageRow, TableFault,
 };
 
 const _: () = prove!(size_of::<ServerPlace>() == 16);
@@ -28,6 +28,8 @@ const _: () = prove!(size_of::<MessageRow>() == 20);
 const _: () = prove!(size_of::<ArgumentRow>() == 12);
 
 const _: () = prove!(size_of::<TableFault>() == 8);
+
+const _: () = prove!(size_of::<ExtensionFault>() == 20);
 
 const _: () = prove!(size_of::<FlatArgument>() == 56);
 

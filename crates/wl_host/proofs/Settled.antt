@@ -13,32 +13,36 @@ use Rattle.wl_server.specs.declared.reading.action.Action.{Action}
 use Rattle.wl_server.specs.declared.reading.action.OpenAction.TheVariants as opened
 use Rattle.wl_server.specs.declared.runs.step.Reply.TheVariants as reply
 use Rattle.wl_server.specs.declared.runs.step.Step.TheVariants as step
-use Rattle.wl_server.specs.Backend.{Calls}
+use Rattle.wl_server.specs.Backend.{Calls, IsGrowth}
 use Rattle.wl_server.specs.Ids.{ClientParts, GlobalParts, IdParts}
 use Rattle.wl_server.specs.Lending.{state_over}
 use Rattle.wl_server.specs.Lookups.{transport_of}
 use Rattle.wl_server.specs.Plain.{action_in, killed_in}
 use Rattle.wl_server.specs.Reading.{action_content}
-use Rattle.wl_wire.specs.Table.{NewRows}
+use Rattle.wl_wire.specs.declared.protocol.TableError.{TableError}
+use Rattle.wl_wire.specs.Table.{Extension, LongerRow, NewRows}
 use Rattle.wl_wire.specs.declared.error.OutOfMemory.{OutOfMemory}
 use Rattle.wl_host.proofs.Killing.{says_killed}
 use Rattle.wl_host.proofs.Marking.{KillsNobody, action_kills, cleanup_leaves_none, creates_kills, finish_bind_kills, finish_request_kills, flush_kills, insert_kills, growth_kills, mailbox_kills, notes_kill, refused_global_kills, set_data_kills}
 use Rattle.wl_host.specs.Actions.{EndsBind, EndsRequest, Lent, NextAction, ReadsNext, ended, is_killed_by, marked_if}
 use Rattle.wl_host.specs.Calls.{CoreState, CreatesGlobal, CreatesObject, InsertsClient, SetsObjectData, flattened, interface_of, world}
 use Rattle.wl_host.specs.Clients.{SetsRoom, inserted}
+use Rattle.wl_host.specs.Extending.{Lengthens, Parts, Takes, parts_of, told_at, told_of_new}
 use Rattle.wl_host.specs.Events.{Passed, PostsError, SendsEvent}
 use Rattle.wl_host.specs.Flat.{client_of, flat_global}
 use Rattle.wl_host.specs.Killed.{IsSettled, KnowsEnd, StaysSettled}
 use Rattle.wl_host.specs.Notes.{NextNote, noted, noted_if, text_of}
+use Rattle.wl_host.specs.Rows.{fault_of}
 use Rattle.wl_host.specs.Seats.{SeatsState, added, gone_all, ledger_at, ledger_of}
 use Rattle.wl_host.specs.Status.{of_global}
 use Rattle.wl_host.specs.Server.{Asks, AsksInTurn, CleansUp, Ends, NextWritable, Received, ReceivedBy, Sent, SentBy, ServerState}
-use Rattle.wl_host.specs.Tables.{AddsInterfaces, IsNewServer}
+use Rattle.wl_host.specs.Tables.{AddsInterfaces, ExtendsInterfaces, IsNewServer}
 use Rattle.wl_host.specs.declared.flat.FlatArgument.{FlatArgument}
 use Rattle.wl_host.specs.declared.flat.FlatClientId.{FlatClientId}
 use Rattle.wl_host.specs.declared.flat.FlatGlobalId.{FlatGlobalId}
 use Rattle.wl_host.specs.declared.flat.FlatNote.{FlatNote}
 use Rattle.wl_host.specs.declared.flat.FlatObjectId.{FlatObjectId}
+use Rattle.wl_host.specs.declared.extending.ExtensionFault.{ExtensionFault}
 use Rattle.wl_host.specs.declared.rows.Rows.{Rows}
 use Rattle.wl_host.specs.declared.rows.TableFault.{TableFault}
 use Rattle.wl_host.specs.declared.server.ledger.Ledger.{Ledger}
@@ -172,6 +176,40 @@ pub interfaces_settled : (b a : ServerState) (rows : Rows) (result : Result (Uni
 interfaces_settled b a rows result h e =
     stays_by b a (elim h [
       | inl asked ↦ growth_kills b.core a.core (NewRows asked.0) asked.1 asked.3
+      | inr refused ↦ kills_same b.core a.core refused.3
+    ])
+    (ap (λ (s : ServerState). s.may_clean_up) e)
+
+lengthens_kill : (longer : List (ℕ × Extension)) (b a : CoreState) (result : Result (Unit {0}) ExtensionFault) → Lengthens (IsGrowth world) b longer result a → KillsNobody b a
+lengthens_kill [] b a result done = kills_same b a done.1
+lengthens_kill (more ∷ others) b a result did =
+    let (mid, answer, grows, rest) = did in
+    kills_then b mid a (growth_kills b mid (LongerRow more.1) answer grows)
+    ((elim answer as (λ r. MatchResult r (λ _. Lengthens (IsGrowth world) mid others result a) (λ e. (result ≡ Err (told_at more.0 (fault_of e))) × (a ≡ mid)) → KillsNobody mid a) [
+      | Ok u ↦ λ h. lengthens_kill others mid a result h
+      | Err e ↦ λ h. kills_same mid a h.1
+    ]) rest)
+
+takes_kill : (parts : Parts) (b a : CoreState) (result : Result (Unit {0}) ExtensionFault) → Takes (IsGrowth world) b parts result a → KillsNobody b a
+takes_kill parts b a result did =
+    let (mid, answer, grows, rest) = did in
+    kills_then b mid a (growth_kills b mid (NewRows parts.new_rows) answer grows)
+    ((elim answer as (λ r. MatchResult r (λ _. Lengthens (IsGrowth world) mid parts.longer result a) (λ e. (result ≡ Err (told_of_new parts.new_at (fault_of e))) × (a ≡ mid)) → KillsNobody mid a) [
+      | Ok u ↦ λ h. lengthens_kill parts.longer mid a result h
+      | Err e ↦ λ h. kills_same mid a h.1
+    ]) rest)
+
+pub extends_settled : (b a : ServerState) (rows : Rows) (result : Result (Unit {0}) ExtensionFault) → ExtendsInterfaces rows b.core result a.core → a ≡ record b { core = a.core }
+    → StaysSettled b a
+extends_settled b a rows result h e =
+    stays_by b a (elim h [
+      | inl read ↦ elim read.2 [
+        | inl faulty ↦ kills_same b.core a.core faulty.3
+        | inr agrees ↦ elim agrees [
+          | inl refused ↦ kills_same b.core a.core refused.2
+          | inr takes ↦ takes_kill (parts_of b.core.server.offer.table read.0) b.core a.core result takes.1
+        ]
+      ]
       | inr refused ↦ kills_same b.core a.core refused.3
     ])
     (ap (λ (s : ServerState). s.may_clean_up) e)

@@ -6,6 +6,7 @@ pub mod Client
 pub mod Clients
 pub mod Descriptors
 pub mod Events
+pub mod Extending
 pub mod Faults
 pub mod Flat
 pub mod Globals

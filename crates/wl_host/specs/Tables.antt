@@ -1,16 +1,18 @@
--- Which table a session has: when it is made for rows, and when the interfaces of more rows are added.
+-- Which table a session has: when it is made for rows, when the interfaces of more rows are added, and when whole rows extend it.
 use Rattle.std.specs.Prelude.{◌≡◌, ◌⊎◌, [], ◌++◌, List, false, None, Result, Ok, Err}
 use Rattle.wl_wire.specs.declared.protocol.TableError.{TableError}
-use Rattle.wl_wire.specs.Table.{AnswersGrowth, InterfaceRow, IsAcceptedTable, IsFirstFault, NewRows, fixed_rows, grown, refused_growth}
+use Rattle.wl_wire.specs.Table.{AnswersGrowth, AnswersTo, Growth, InterfaceRow, IsAcceptedTable, IsFirstFault, NewRows, fixed_rows, grown, refused_growth, table_after}
 use Rattle.wl_client.specs.Session.{IsConnected}
 use Rattle.wl_server.specs.Backend.{IsGrowth}
 use Rattle.wl_server.specs.Globals.{new_offer}
 use Rattle.wl_server.specs.Server.{new_server}
+use Rattle.wl_host.specs.declared.extending.ExtensionFault.{ExtensionFault}
 use Rattle.wl_host.specs.declared.rows.Rows.{Rows}
 use Rattle.wl_host.specs.declared.rows.TableFault.{TableFault}
 use Rattle.wl_host.specs.Calls.{CoreState, world}
 use Rattle.wl_host.specs.Rows.{RefusesRows, fault_of, said_by, table_answer}
 use Rattle.wl_host.specs.Client.{ClientCore, HostedClient}
+use Rattle.wl_host.specs.Extending.{Extends, fault_as_told}
 use Rattle.wl_host.specs.Seats.{empty_mailbox, no_descriptors, no_seats}
 use Rattle.wl_host.specs.Server.{ServerState}
 
@@ -77,3 +79,27 @@ AddsToClient rows before result after =
     })
     × (result ≡ table_answer answer))
     ⊎ ((fault : TableFault) × RefusesRows rows fault × (result ≡ Err fault) × (after ≡ before))
+
+-- ---- whole rows
+
+-- The table grows, or is refused, and nothing else of a client's session changes.
+abbrev pub ClientGrows : ClientCore → Growth → Result (Unit {0}) TableError → ClientCore → Type 0
+ClientGrows before more answer after =
+    AnswersTo before.session.table more answer
+    × (after ≡ record {
+      session = record before.session { table = table_after before.session.table more answer };
+      refused = refused_growth answer;
+    })
+
+-- The table is extended by the rows; or the rows are not read, and the core is not called.
+abbrev pub ExtendsInterfaces : Rows → CoreState → Result (Unit {0}) ExtensionFault → CoreState → Type 0
+ExtendsInterfaces rows before result after =
+    ((interfaces : List InterfaceRow) × (said_by rows ≡ Ok interfaces)
+    × Extends (IsGrowth world) before.server.offer.table interfaces before result after)
+    ⊎ ((fault : TableFault) × RefusesRows rows fault × (result ≡ Err (fault_as_told fault)) × (after ≡ before))
+
+-- and so of a client's session
+abbrev pub ExtendsClient : Rows → ClientCore → Result (Unit {0}) ExtensionFault → ClientCore → Type 0
+ExtendsClient rows before result after =
+    ((interfaces : List InterfaceRow) × (said_by rows ≡ Ok interfaces) × Extends ClientGrows before.session.table interfaces before result after)
+    ⊎ ((fault : TableFault) × RefusesRows rows fault × (result ≡ Err (fault_as_told fault)) × (after ≡ before))

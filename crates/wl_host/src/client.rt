@@ -13,7 +13,7 @@
 ghost use Rattle.std.specs.Prelude.{◌≡◌, [], IfErr, IfOk, Ok};
 ghost use Rattle.wl_wire.specs.declared.protocol.TableError.TheVariants as table_error;
 ghost use Rattle.wl_host.specs.Rows.{fault_of};
-ghost use Rattle.wl_host.specs.Tables.{AddsToClient, IsConnectedOver, IsFaultOf, IsNewClient};
+ghost use Rattle.wl_host.specs.Tables.{AddsToClient, ExtendsClient, IsConnectedOver, IsFaultOf, IsNewClient};
 ghost use Rattle.wl_wire.specs.Table.{display_id};
 ghost use Rattle.wl_host.specs.Client.{ConservesClient, SetsLimit, limit_of, mailbox_of, with_mailbox};
 ghost use Rattle.wl_host.specs.Flat.{flat_proxy};
@@ -30,6 +30,7 @@ mod sending;
 
 use self::notes::DestroyedObject;
 use crate::descriptors::DescriptorQueue;
+use crate::extending::{ExtensionFault, Growing, extend};
 use crate::flat::FlatObjectId;
 use crate::rows::{Rows, TableFault, interfaces_of, table_answer};
 use crate::status::Status;
@@ -40,7 +41,9 @@ use std::fmt;
 use std::marker::Model;
 use wl_client::{Backend, ObjectId};
 use wl_link::Mailbox;
-use wl_wire::{Message, Protocol, TableError, Token};
+use wl_wire::{
+    Interface, InterfaceId, Message, MessageDesc, Protocol, TableError, Token,
+};
 
 /// The core of a client's session: the session over a mailbox. The program's data of an object are a number.
 pub type Core = Backend<Mailbox, u64>;
@@ -160,6 +163,16 @@ impl Client {
         table_answer(self.core.add_interfaces(interfaces))
     }
 
+    /// Extends the table by whole rows, as `Server::extend_interfaces` does.
+    pub fn extend_interfaces(&mut self, rows: &Rows) -> Result<(), ExtensionFault>
+        ensures call { ExtendsClient rows.now self.old.core result self.new.core }
+        ensures beside { self.new ≡ record self.old { core = self.new.core } }
+    {
+        let alloc = *self.notes.allocator();
+        let interfaces = interfaces_of(alloc, rows)?;
+        extend(alloc, &mut self.core, interfaces)
+    }
+
     /// Whether memory was refused in the last call of the core that changes it.
     pub fn memory_refused(&self) -> bool
         ensures { result ≡ self.now.core.refused }
@@ -202,5 +215,31 @@ impl Client {
         ensures { result ≡ Ok (flat_proxy (record { number = 1; serial = 0; interface = display_id })) }
     {
         Ok(FlatObjectId::of_proxy(self.core.display_id()))
+    }
+}
+
+impl Growing for Core {
+    ghost use Rattle.wl_host.specs.Tables.{ClientGrows};
+
+    ghost table_of = { λ s. s.session.table };
+
+    ghost grows = { ClientGrows };
+
+    fn table(&self) -> &Protocol {
+        self.protocol()
+    }
+
+    fn add(&mut self, interfaces: Vec<Interface>) -> Result<(), TableError> {
+        self.add_interfaces(interfaces)
+    }
+
+    fn lengthen(
+        &mut self,
+        id: InterfaceId,
+        version: u32,
+        requests: Vec<MessageDesc>,
+        events: Vec<MessageDesc>,
+    ) -> Result<(), TableError> {
+        self.extend_interface(id, version, requests, events)
     }
 }

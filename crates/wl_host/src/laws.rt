@@ -22,7 +22,8 @@ ghost use Rattle.wl_host.specs.Killed.{IsSettled, KnowsEnd, StaysSettled};
 ghost use Rattle.wl_host.specs.Notes.{NextNote};
 ghost use Rattle.wl_host.specs.Nulls.{TellsNull, forbidden_null};
 ghost use Rattle.wl_host.specs.Server.{CleansUp, Ends, NextWritable, Received, Sent, ServerState};
-ghost use Rattle.wl_host.specs.Tables.{AddsInterfaces, IsNewServer};
+ghost use Rattle.wl_host.specs.Tables.{AddsInterfaces, ExtendsInterfaces, IsNewServer};
+ghost use Rattle.wl_host.specs.declared.extending.ExtensionFault.{ExtensionFault};
 ghost use Rattle.wl_host.specs.declared.flat.FlatArgument.{FlatArgument};
 ghost use Rattle.wl_host.specs.declared.flat.FlatClientId.{FlatClientId};
 ghost use Rattle.wl_host.specs.declared.flat.FlatGlobalId.{FlatGlobalId};
@@ -60,6 +61,7 @@ pub fn a_cleanup_looks_for_the_killed()
     ensures set_max_buffer_size { (before after : ServerState) (id : ClientParts) (size : ℕ) → Calls world before.core (step.SetClientMaxBufferSize id size) reply.SetClientMaxBufferSize after.core → after ≡ record before { core = after.core } → StaysSettled before after }
     ensures set_default_max_buffer_size { (before after : ServerState) (size : ℕ) → Calls world before.core (step.SetDefaultMaxBufferSize size) reply.SetDefaultMaxBufferSize after.core → after ≡ record before { core = after.core } → StaysSettled before after }
     ensures add_interfaces { (before after : ServerState) (rows : Rows) (result : Result (Unit {0}) TableFault) → AddsInterfaces rows before.core result after.core → after ≡ record before { core = after.core } → StaysSettled before after }
+    ensures extend_interfaces { (before after : ServerState) (rows : Rows) (result : Result (Unit {0}) ExtensionFault) → ExtendsInterfaces rows before.core result after.core → after ≡ record before { core = after.core } → StaysSettled before after }
     ensures received { (before after : ServerState) (id : ClientParts) (bytes : List ℕ) (descriptors : List ℤ) (s : Status) → Received before id bytes descriptors s after → StaysSettled before after }
     ensures ended { (before after : ServerState) (id : ClientParts) (ending : Ending) (s : Status) → Ends before id ending s after → StaysSettled before after }
     ensures next_action { (before after : ServerState) (id : ClientParts) (arguments : List FlatArgument) (bytes : List ℕ) (s : Status) (lent : Lent) (came_out : List ℤ) → NextAction before id arguments bytes s lent came_out after → StaysSettled before after }

@@ -13,6 +13,7 @@
 //! | flat structs and ids | `flat` | `Flat` |
 //! | what a call came to | `status` | `Status` |
 //! | the table of interfaces as rows | `rows` | `Rows`, `Tables` |
+//! | whole rows that extend those of the table | `extending` | `Extending`, `Tables` |
 //! | which client sees which global | `server`, `server::hidden` | `Visibility` |
 //! | arguments of messages, from flat structs and into lent memory | `arguments` | `Arguments` |
 //! | laws of the flat structs | `laws` | `Arguments`, `Nulls` |
@@ -23,6 +24,7 @@
 mod arguments;
 mod client;
 mod descriptors;
+mod extending;
 mod flat;
 mod incoming;
 mod laws;
@@ -33,6 +35,7 @@ mod server;
 mod status;
 
 pub use client::Client;
+pub use extending::ExtensionFault;
 pub use flat::{
     BIND, Counts, DESTROYED, FlatAction, FlatArgument, FlatClientId, FlatError, FlatEvent,
     FlatGlobalId, FlatGlobalInfo, FlatNote, FlatObjectId, FlatObjectInfo, FlatRequest, Gone,

@@ -103,6 +103,8 @@ pub mod fault {
     pub const ARGUMENT_INTERFACES: u32 = 7;
     /// There was no memory for the table.
     pub const OUT_OF_MEMORY: u32 = 8;
+    /// A row contradicts the interface of its name in the table. Only `extend_interfaces` answers it.
+    pub const CONTRADICTS: u32 = 9;
 }
 
 impl From<TableError> for TableFault {

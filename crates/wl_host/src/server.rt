@@ -2,7 +2,7 @@
 //!
 //! | Calls | Code |
 //! |---|---|
-//! | `new`, `add_interfaces`, `memory_refused`, `set_default_max_buffer_size` | `server` |
+//! | `new`, `add_interfaces`, `extend_interfaces`, `memory_refused`, `set_default_max_buffer_size` | `server` |
 //! | clients, and what arrives of them | `server::clients`, `server::arrivals` |
 //! | `next_action`, and those that finish an action | `server::actions` |
 //! | `send_event`, `post_error` | `server::events` |
@@ -29,13 +29,14 @@ ghost use Rattle.std.specs.Prelude.{[], ◌≡◌, IfErr, IfOk, true};
 ghost use Rattle.wl_host.specs.Descriptors.{Conserves};
 ghost use Rattle.wl_host.specs.Server.{kept_by_server};
 ghost use Rattle.wl_host.specs.Calls.{world};
-ghost use Rattle.wl_host.specs.Tables.{AddsInterfaces, IsFaultOf, IsNewServer, new_state};
+ghost use Rattle.wl_host.specs.Tables.{AddsInterfaces, ExtendsInterfaces, IsFaultOf, IsNewServer, new_state};
 ghost use Rattle.wl_server.specs.Backend.{Calls};
 ghost use Rattle.wl_server.specs.declared.runs.step.Reply.TheVariants as reply;
 ghost use Rattle.wl_server.specs.declared.runs.step.Step.TheVariants as step;
 ghost use Rattle.wl_host.specs.declared.status.Status.TheVariants as status;
 
 use crate::arguments::{FromFlat, Objects};
+use crate::extending::{ExtensionFault, Growing, extend};
 use crate::flat::{FlatClientId, FlatGlobalId, FlatObjectId};
 use crate::rows::{Rows, TableFault, interfaces_of, table_answer};
 use crate::server::seats::Seats;
@@ -47,7 +48,9 @@ use std::fmt;
 use std::marker::Model;
 use wl_link::Mailbox;
 use wl_server::{Action, Backend, ClientId, GlobalHandler, GlobalId, Note, ObjectId};
-use wl_wire::{Message, Protocol, Token};
+use wl_wire::{
+    Interface, InterfaceId, Message, MessageDesc, Protocol, TableError, Token,
+};
 
 /// How far the buffers of a new client may grow at first, in bytes. The core's 4096 are so few that a client which is busy for
 /// a moment is killed.
@@ -206,6 +209,31 @@ impl Server {
         table_answer(self.core.add_interfaces(interfaces))
     }
 
+    /// Extends the table by whole rows. An interface whose name is new is added. One that the table has is compared with its
+    /// row: the messages that both have must be the same, and what the row has more is appended. Its version rises to that of
+    /// the row, if that is greater. A shorter row changes nothing.
+    ///
+    /// Two messages are the same if their names, the types of their arguments, the interfaces that these name and the versions
+    /// that have them are. Whether a message is a destructor and whether an argument may be null is not compared, and an
+    /// argument that names no interface agrees with any. What the table has stays.
+    ///
+    /// In the rows the number of an interface is that of the table. The new ones have the numbers after the last one of the
+    /// table, in their order among the rows.
+    ///
+    /// All rows are read and compared before anything changes. `fault::CONTRADICTS` names the first message that differs, of
+    /// the first row that has one; `fault::DUPLICATE_NAME` a name that stands twice among the rows. Then the table is as it
+    /// was. Then the new interfaces are added, all of them or none, and the others are extended, one after the other. A fault
+    /// of what a row has more, or `fault::OUT_OF_MEMORY`, leaves those before it extended: the same call again goes on.
+    pub fn extend_interfaces(&mut self, rows: &Rows) -> Result<(), ExtensionFault>
+        ensures call { ExtendsInterfaces rows.now self.old.core result self.new.core }
+        ensures beside { self.new ≡ record self.old { core = self.new.core } }
+        ensures descriptors { Conserves kept_by_server self.old [] [] self.new }
+    {
+        let alloc = self.alloc();
+        let interfaces = interfaces_of(alloc, rows)?;
+        extend(alloc, &mut self.core, interfaces)
+    }
+
     /// Whether memory was refused in the last call of the core that changed it (`wl_server::Backend::memory_refused`).
     pub fn memory_refused(&self) -> bool
         ensures { result ≡ self.now.core.refused }
@@ -264,5 +292,32 @@ impl Objects<ObjectId> for Core {
             Ok(user_data) => *user_data,
             Err(_) => 0,
         }
+    }
+}
+
+impl Growing for Core {
+    ghost use Rattle.wl_host.specs.Calls.{world};
+    ghost use Rattle.wl_server.specs.Backend.{IsGrowth};
+
+    ghost table_of = { λ s. s.server.offer.table };
+
+    ghost grows = { IsGrowth world };
+
+    fn table(&self) -> &Protocol {
+        self.protocol()
+    }
+
+    fn add(&mut self, interfaces: Vec<Interface>) -> Result<(), TableError> {
+        self.add_interfaces(interfaces)
+    }
+
+    fn lengthen(
+        &mut self,
+        id: InterfaceId,
+        version: u32,
+        requests: Vec<MessageDesc>,
+        events: Vec<MessageDesc>,
+    ) -> Result<(), TableError> {
+        self.extend_interface(id, version, requests, events)
     }
 }

@@ -4,13 +4,14 @@ use crate::tests::rows::{KNOT, NOTE, TABLE};
 use crate::tests::session::Session;
 use crate::tests::told::{
     NO_ARGUMENT, NOBODY, NOTHING, NULL, bytes_of, tell_counts, tell_descriptor, tell_kept,
-    tell_lent, tell_numbers, tell_object, tell_objects, told, told_table,
+    tell_lent, tell_numbers, tell_object, tell_objects, told, told_extension,
+    told_table,
 };
 use std::alloc::Global;
 use std::test::Fail;
 use wl_host::{
-    FlatAction, FlatArgument, FlatClientId, FlatGlobalId, FlatNote, FlatObjectId, Gone, Server,
-    Status, TableFault,
+    FlatAction, FlatArgument, FlatClientId, FlatGlobalId, FlatNote, FlatObjectId, Gone, Rows,
+    Server, Status, TableFault,
 };
 
 /// One call of the session.
@@ -29,6 +30,8 @@ pub enum Act {
     AddNote,
     /// The interface `knot` is added to the table.
     AddKnot,
+    /// The table is extended by these rows.
+    Extend(Rows<'static>),
     /// A send to the client failed.
     SendFailed(FlatClientId),
     /// The client is killed.
@@ -255,6 +258,7 @@ fn on_clients(log: &mut String, server: &mut Server, act: &Act) -> Result<Status
         }
         Act::AddNote => told_table(log, server.add_interfaces(&NOTE)),
         Act::AddKnot => told_table(log, server.add_interfaces(&KNOT)),
+        Act::Extend(rows) => told_extension(log, server.extend_interfaces(rows)),
         _ => Err(Fail::new("no act of this kind")),
     }
 }

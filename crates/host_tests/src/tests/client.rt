@@ -2,6 +2,7 @@
 
 use crate::tests::args::{arg, id};
 use crate::tests::client_acts::{Act, DISPLAY, NEW, REGISTRY};
+use crate::tests::rows::{BAD_NOTE, LONG_PAD, OTHER_PAD, PAD_TWICE, TABLE};
 use crate::tests::session::{Run, run_tells};
 use crate::tests::told::NOBODY;
 use std::test::Fail;
@@ -28,6 +29,9 @@ const WRONG: &[FlatArgument] = &[arg!(fd: 43), arg!(int: 5)];
 /// The arguments of `pad.label`: the three bytes behind the first one.
 const LABEL: &[FlatArgument] = &[arg!(string: 1, 3)];
 
+/// The arguments of `pad.write`: the first three bytes, and the new object.
+const WRITE: &[FlatArgument] = &[arg!(string: 0, 3), arg!(new)];
+
 /// `given` of the object 3, which the client has destroyed.
 const TO_DEAD: &[u32] = &[3, 0x00080001];
 
@@ -53,7 +57,7 @@ const MOVED: &[u32] = &[3, 0x000c0000, 0];
 const GLOBAL_NULL: &[u32] = &[2, 0x00140000, 1, 0, 1];
 
 /// The conversations, each of a new session.
-static ROWS: [Run<Act>; 5] = [
+static ROWS: [Run<Act>; 6] = [
     // `wl_display.sync` is sent, and `wl_callback.done` and `wl_display.delete_id` come back. The callback had data, so it is
     // noted.
     Run {
@@ -322,6 +326,35 @@ static ROWS: [Run<Act>; 5] = [
                 "Ok has_data 1 data 1 arguments 3 null 2 by 2@2 (1: 1) (8: 0) (1: 1)",
             ),
             (Act::Finish, "Ok"),
+        ],
+    },
+    // A `pad` has its new request and its new event once longer rows have extended the table, and the rows that it began with
+    // change nothing then. Rows that contradict are refused.
+    Run {
+        name: "whole rows extend the table",
+        first: &[],
+        entries: &[
+            (
+                Act::Extend(OTHER_PAD),
+                "BadTable fault 9 event 1 opcode 1 version 2",
+            ),
+            (Act::Extend(PAD_TWICE), "BadTable interface 2 fault 3"),
+            (Act::Extend(LONG_PAD), "Ok"),
+            (Act::Extend(TABLE), "Ok"),
+            (Act::Send(DISPLAY, 1, Some(1), NEW, &[]), "Ok 2@2 serial 1"),
+            (Act::BindPad(9), "Ok 4@3 serial 2"),
+            (
+                Act::Send(BOUND, 4, Some(10), WRITE, b"hey"),
+                "Ok 5@4 serial 3",
+            ),
+            (Act::Received(&[3, 0x00080002], &[]), "Ok"),
+            (Act::Next(0, 0), "Ok opcode 2 has_data 1 data 9 by 4@3"),
+            (Act::Finish, "Ok"),
+            (
+                Act::Extend(OTHER_PAD),
+                "BadTable fault 9 event 1 opcode 1 version 3",
+            ),
+            (Act::Extend(BAD_NOTE), "BadTable fault 4"),
         ],
     },
 ];

@@ -5,13 +5,14 @@ use crate::tests::rows::{KNOT, NOTE, TABLE};
 use crate::tests::session::Session;
 use crate::tests::told::{
     NO_ARGUMENT, NOBODY, NOTHING, NULL, bytes_of, tell_counts, tell_descriptor, tell_kept,
-    tell_lent, tell_numbers, tell_object, tell_objects, told, told_table,
+    tell_lent, tell_numbers, tell_object, tell_objects, told, told_extension,
+    told_table,
 };
 use std::alloc::Global;
 use std::test::Fail;
 use wl_host::{
-    Client, FlatArgument, FlatError, FlatEvent, FlatObjectId, FlatObjectInfo, FlatRequest, Status,
-    TableFault,
+    Client, FlatArgument, FlatError, FlatEvent, FlatObjectId, FlatObjectInfo, FlatRequest, Rows,
+    Status, TableFault,
 };
 
 /// One call of the session.
@@ -38,6 +39,8 @@ pub enum Act {
     AddNote,
     /// The interface `knot` is added to the table.
     AddKnot,
+    /// The table is extended by these rows.
+    Extend(Rows<'static>),
     /// What is known of the object.
     Info(FlatObjectId),
     /// The data of the object.
@@ -277,6 +280,7 @@ fn on_requests(log: &mut String, client: &mut Client, act: &Act) -> Result<Statu
         }
         Act::AddNote => told_table(log, client.add_interfaces(&NOTE)),
         Act::AddKnot => told_table(log, client.add_interfaces(&KNOT)),
+        Act::Extend(rows) => told_extension(log, client.extend_interfaces(rows)),
         _ => Err(Fail::new("no act of this kind")),
     }
 }

@@ -3,6 +3,7 @@
 use crate::tests::acts::{Act, FIRST, SECOND};
 use crate::tests::args::{arg, id};
 use crate::tests::client_acts::{Act as ClientAct, DISPLAY, NEW};
+use crate::tests::rows::{LONG_PAD, OTHER_PAD};
 use crate::tests::server::TELL;
 use crate::tests::session::{End, Run, run_tells};
 use crate::tests::told::{NOBODY, NULL};
@@ -106,6 +107,25 @@ static ARGUMENTS: Run<Act> = Run {
         (Act::Gone, "Ok client 0:1 data 7 [ ] [ ]"),
         (Act::Dropped, "Ok descriptor 43"),
         (Act::Dropped, "WouldBlock"),
+    ],
+};
+
+/// A table that longer rows extend: one interface, its requests and its events, and a new one.
+static EXTENSION: Run<Act> = Run {
+    name: "an extension",
+    first: &[],
+    entries: &[
+        (Act::Extend(LONG_PAD), "Ok"),
+        (Act::Extend(LONG_PAD), "Ok"),
+        (
+            Act::Extend(OTHER_PAD),
+            "BadTable fault 9 event 1 opcode 1 version 3",
+        ),
+        (Act::Insert(7, 1, &[]), "Ok client 0:1"),
+        (Act::Create(FIRST, 4, 33), "Ok 4@4278190080"),
+        (Act::Create(FIRST, 5, 55), "Ok 5@4278190081"),
+        (Act::Create(FIRST, 6, 66), "UnknownInterface"),
+        (Act::Send(PAD, 2, &[], b""), "Ok"),
     ],
 };
 
@@ -245,6 +265,12 @@ fn drill_of_lists(rt: HostRuntime) -> Result<(), Fail> {
 #[test]
 fn drill_of_arguments(rt: HostRuntime) -> Result<(), Fail> {
     run_tells::<Server>(&rt, &ARGUMENTS, None, true)
+}
+
+/// Whatever memory is refused, the rows are taken when the call is made again, and each message once.
+#[test]
+fn drill_of_an_extension(rt: HostRuntime) -> Result<(), Fail> {
+    run_tells::<Server>(&rt, &EXTENSION, None, true)
 }
 
 /// Whatever memory is refused, the client is killed once, and its end is told once.

@@ -110,3 +110,58 @@ pub const KNOT: Rows = Rows {
         argument!(kind::STRING, 0, 0),
     ],
 };
+/// `pad` of version 3, with one more request, `write(string, new_id<note>)`, and one more event, `full()`; and `note` with one
+/// event, `read()`.
+pub const LONG_PAD: Rows = Rows {
+    text: b"padpushlabelclosemakemovedgivenwritefullnoteread",
+    interfaces: &[interface!(0, 3, 3, 5, 3), interface!(40, 4, 1, 0, 1)],
+    messages: &[
+        message!(3, 4, 2, 0),
+        message!(7, 5, 1, 0),
+        message!(12, 5, 0, 1),
+        message!(17, 4, 1, 0),
+        message!(31, 5, 2, 0),
+        message!(21, 5, 1, 0),
+        message!(26, 5, 1, 0),
+        message!(36, 4, 0, 0),
+        message!(44, 4, 0, 0),
+    ],
+    arguments: &[
+        argument!(kind::INT, 0, 0),
+        argument!(kind::DESCRIPTOR, 0, 0),
+        argument!(kind::STRING, 0, 0),
+        argument!(kind::NEW_ID, 4, 0),
+        argument!(kind::STRING, 0, 0),
+        argument!(kind::NEW_ID, 5, 0),
+        argument!(kind::INT, 0, 0),
+        argument!(kind::DESCRIPTOR, 0, 0),
+    ],
+};
+
+/// `pad` of version 4 whose second event, `given`, has an integer; and an interface `new`.
+pub const OTHER_PAD: Rows = Rows {
+    text: b"padmovedgivennew",
+    interfaces: &[interface!(0, 3, 4, 0, 2), interface!(13, 3, 1, 0, 0)],
+    messages: &[message!(3, 5, 1, 0), message!(8, 5, 1, 0)],
+    arguments: &[argument!(kind::INT, 0, 0), argument!(kind::INT, 0, 0)],
+};
+
+/// `pad` twice.
+pub const PAD_TWICE: Rows = Rows {
+    text: b"padnew",
+    interfaces: &[
+        interface!(3, 3, 1, 0, 0),
+        interface!(0, 3, 1, 0, 0),
+        interface!(0, 3, 1, 0, 0),
+    ],
+    messages: &[],
+    arguments: &[],
+};
+
+/// `note` of version 2 whose second event names an interface that is not there; and an interface `new`.
+pub const BAD_NOTE: Rows = Rows {
+    text: b"notereadfarnew",
+    interfaces: &[interface!(0, 4, 2, 0, 2), interface!(11, 3, 1, 0, 0)],
+    messages: &[message!(4, 4, 0, 0), message!(8, 3, 1, 0)],
+    arguments: &[argument!(kind::OBJECT, 99, 0)],
+};

@@ -2,6 +2,7 @@
 
 use crate::tests::acts::{Act, FIRST, GIVEN, MOVED, SECOND};
 use crate::tests::args::{arg, id};
+use crate::tests::rows::{BAD_NOTE, LONG_PAD, OTHER_PAD, PAD_TWICE, TABLE};
 use crate::tests::session::{Entry, Run, run_tells};
 use std::test::Fail;
 use wl_host::{FlatClientId, FlatGlobalId, FlatObjectId, Server};
@@ -490,6 +491,47 @@ static GLOBALS: [Run<Act>; 2] = [
         ],
     },
 ];
+
+/// A `pad` that is made after a `note`.
+const SECOND_PAD: FlatObjectId = id!(FIRST, 4 @ 0xff000001, serial 2);
+
+/// Rows that contradict the table, or have a name twice, change nothing. Longer rows extend it: the new interface has a number, and
+/// an object its new event. A shorter row changes nothing then. A fault of what a row has more leaves the interface that came
+/// with it.
+static WHOLE_ROWS: Run<Act> = Run {
+    name: "whole rows extend the table",
+    first: &[],
+    entries: &[
+        (
+            Act::Extend(OTHER_PAD),
+            "BadTable fault 9 event 1 opcode 1 version 2",
+        ),
+        (Act::Extend(PAD_TWICE), "BadTable interface 2 fault 3"),
+        (Act::Insert(7, 1, &[]), "Ok client 0:1"),
+        (Act::Create(FIRST, 5, 55), "UnknownInterface"),
+        (Act::Extend(LONG_PAD), "Ok"),
+        (Act::Extend(TABLE), "Ok"),
+        (Act::Create(FIRST, 5, 55), "Ok 5@4278190080"),
+        (Act::Create(FIRST, 4, 33), "Ok 4@4278190081"),
+        (Act::Send(SECOND_PAD, 2, &[], b""), "Ok"),
+        (Act::Send(SECOND_PAD, 3, &[], b""), "UnknownOpcode"),
+        (Act::Writable, "Ok client 0:1"),
+        (Act::ToSend(FIRST), "Ok [ 01 00 00 ff 02 00 08 00 ] [ ]"),
+        (
+            Act::Extend(OTHER_PAD),
+            "BadTable fault 9 event 1 opcode 1 version 3",
+        ),
+        (Act::Create(FIRST, 6, 66), "UnknownInterface"),
+        (Act::Extend(BAD_NOTE), "BadTable fault 4"),
+        (Act::Create(FIRST, 6, 66), "Ok 6@4278190082"),
+    ],
+};
+
+/// It tells what it has to.
+#[test]
+fn whole_rows(rt: HostRuntime) -> Result<(), Fail> {
+    run_tells::<Server>(&rt, &WHOLE_ROWS, None, false)
+}
 
 /// Each of them tells what it has to.
 #[test]

@@ -3,7 +3,9 @@
 use crate::tests::args::{arg, id};
 use std::alloc::Global;
 use std::test::Fail;
-use wl_host::{Counts, FlatArgument, FlatClientId, FlatObjectId, Status, TableFault, fault};
+use wl_host::{
+    Counts, ExtensionFault, FlatArgument, FlatClientId, FlatObjectId, Status, TableFault, fault,
+};
 
 /// The client of all objects of a client's session.
 pub const NOBODY: FlatClientId = FlatClientId { serial: 0, slot: 0 };
@@ -157,6 +159,30 @@ pub fn told_table(log: &mut String, answer: Result<(), TableFault>) -> Result<St
     tell_numbers(
         log,
         &[("interface", u64::from(at)), ("fault", u64::from(why))],
+    )?;
+    Ok(Status::BadTable)
+}
+
+/// What whole rows came to.
+pub fn told_extension(
+    log: &mut String,
+    answer: Result<(), ExtensionFault>,
+) -> Result<Status, Fail> {
+    let Err(refused) = answer else {
+        return Ok(Status::Ok);
+    };
+    if refused.fault == fault::OUT_OF_MEMORY {
+        return Ok(Status::OutOfMemory);
+    }
+    tell_numbers(
+        log,
+        &[
+            ("interface", u64::from(refused.interface)),
+            ("fault", u64::from(refused.fault)),
+            ("event", u64::from(refused.is_event)),
+            ("opcode", u64::from(refused.opcode)),
+            ("version", u64::from(refused.version)),
+        ],
     )?;
     Ok(Status::BadTable)
 }

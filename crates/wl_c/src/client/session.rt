@@ -1,18 +1,21 @@
 //! A client's session as a whole: its begin and its end, its table, its limits, its error.
 
 ghost use Rattle.std.specs.Prelude.{IsSome, None, Ok, Some, [], ◌↔◌, ◌≡◌, ◌≢◌};
-ghost use Rattle.wl_c.specs.Calls.{Added, Did, FoundFlag, Told, fault_code};
+ghost use Rattle.wl_c.specs.Calls.{Added, Did, Extended, FoundFlag, Told, fault_code};
 ghost use Rattle.wl_host.specs.Client.{ConservesClient, HostedClient, SetsLimit, limit_of, mailbox_of, with_mailbox};
 ghost use Rattle.wl_host.specs.Faults.{flat_error, text_of_error};
 ghost use Rattle.wl_host.specs.Lent.{has_room, status_for, written};
-ghost use Rattle.wl_host.specs.Tables.{AddsToClient, IsFaultOf, IsNewClient};
+ghost use Rattle.wl_host.specs.Tables.{AddsToClient, ExtendsClient, IsFaultOf, IsNewClient};
 ghost use Rattle.wl_host.specs.declared.status.Status.TheVariants as status;
 
 use super::place::ClientPlace;
-use crate::answer::{write_added, write_fault, write_flag};
+use crate::answer::{write_added, write_extended, write_fault, write_flag};
 use crate::boxed::boxed;
 use std::alloc::Global;
-use wl_host::{ArgumentRow, Client, FlatError, InterfaceRow, MessageRow, Rows, Status, TableFault};
+use wl_host::{
+    ArgumentRow, Client, ExtensionFault, FlatError, InterfaceRow, MessageRow, Rows, Status,
+    TableFault,
+};
 
 /// Begins a session over this table of interfaces, in an empty place. A place that holds a session keeps it, and
 /// the status is `NB_IN_USE`. Where the table is refused, `fault` says which interface and why, and the place stays empty.
@@ -93,6 +96,38 @@ pub extern "C" fn nb_client_add_interfaces(
     let answer = session.add_interfaces(&rows);
     place.put(session);
     write_added(answer, fault)
+}
+
+/// Extends the table by whole rows: those of interfaces that it has are compared, and what they have more is appended; the others
+/// are added. Where a row contradicts the table, `fault` says at which message, and the table is as before.
+#[unsafe(no_mangle)]
+pub extern "C" fn nb_client_extend_interfaces(
+    alloc: Global,
+    place: &mut ClientPlace,
+    text: &[u8],
+    interfaces: &[InterfaceRow],
+    messages: &[MessageRow],
+    arguments: &[ArgumentRow],
+    fault: &mut ExtensionFault,
+) -> u32
+    ensures none { place.old.kept.held ≡ None → (result ≡ 1) × (place.new.kept.held ≡ None) × (fault.new ≡ fault.old) }
+    ensures stays { IsSome place.old.kept.held → IsSome place.new.kept.held }
+    ensures unfaulted { result ≡ 0 → fault.new ≡ fault.old }
+    ensures call { Extended place.old.kept.held result fault.old fault.new place.new.kept.held (λ s answer t. ExtendsClient (record { text = text.entry; interfaces = interfaces.entry; messages = messages.entry; arguments = arguments.entry }) s.core answer t.core) }
+    ensures beside { Extended place.old.kept.held result fault.old fault.new place.new.kept.held (λ s answer t. t ≡ record s { core = t.core }) }
+{
+    let Some(mut session) = place.take(alloc) else {
+        return Status::NoSession.code();
+    };
+    let rows = Rows {
+        text,
+        interfaces,
+        messages,
+        arguments,
+    };
+    let answer = session.extend_interfaces(&rows);
+    place.put(session);
+    write_extended(answer, fault)
 }
 
 /// Writes 1 where memory was refused in the last call of the core that changes it, and 0 else.

@@ -1,24 +1,25 @@
 //! A server's session as a whole: its begin and its end, its table, its limits.
 
 ghost use Rattle.std.specs.Prelude.{IsSome, None, Ok, Some, [], ◌↔◌, ◌≡◌, ◌≢◌};
-ghost use Rattle.wl_c.specs.Calls.{Added, Did, FoundFlag, fault_code};
+ghost use Rattle.wl_c.specs.Calls.{Added, Did, Extended, FoundFlag, fault_code};
 ghost use Rattle.wl_host.specs.Calls.{world};
 ghost use Rattle.wl_host.specs.Clients.{SetsRoom};
 ghost use Rattle.wl_host.specs.Descriptors.{Conserves};
 ghost use Rattle.wl_host.specs.Flat.{client_of};
 ghost use Rattle.wl_host.specs.Server.{ServerState, kept_by_server};
-ghost use Rattle.wl_host.specs.Tables.{AddsInterfaces, IsFaultOf, IsNewServer};
+ghost use Rattle.wl_host.specs.Tables.{AddsInterfaces, ExtendsInterfaces, IsFaultOf, IsNewServer};
 ghost use Rattle.wl_host.specs.declared.status.Status.TheVariants as status;
 ghost use Rattle.wl_server.specs.Backend.{Calls};
 ghost use Rattle.wl_server.specs.declared.runs.step.Reply.TheVariants as reply;
 ghost use Rattle.wl_server.specs.declared.runs.step.Step.TheVariants as step;
 
 use super::place::ServerPlace;
-use crate::answer::{write_added, write_fault, write_flag};
+use crate::answer::{write_added, write_extended, write_fault, write_flag};
 use crate::boxed::boxed;
 use std::alloc::Global;
 use wl_host::{
-    ArgumentRow, FlatClientId, InterfaceRow, MessageRow, Rows, Server, Status, TableFault,
+    ArgumentRow, ExtensionFault, FlatClientId, InterfaceRow, MessageRow, Rows, Server, Status,
+    TableFault,
 };
 
 /// Begins a session over this table of interfaces, in an empty place. A place that holds a session keeps it, and
@@ -101,6 +102,39 @@ pub extern "C" fn nb_server_add_interfaces(
     let answer = session.add_interfaces(&rows);
     place.put(session);
     write_added(answer, fault)
+}
+
+/// Extends the table by whole rows: those of interfaces that it has are compared, and what they have more is appended; the others
+/// are added. Where a row contradicts the table, `fault` says at which message, and the table is as before.
+#[unsafe(no_mangle)]
+pub extern "C" fn nb_server_extend_interfaces(
+    alloc: Global,
+    place: &mut ServerPlace,
+    text: &[u8],
+    interfaces: &[InterfaceRow],
+    messages: &[MessageRow],
+    arguments: &[ArgumentRow],
+    fault: &mut ExtensionFault,
+) -> u32
+    ensures none { place.old.kept.held ≡ None → (result ≡ 1) × (place.new.kept.held ≡ None) × (fault.new ≡ fault.old) }
+    ensures stays { IsSome place.old.kept.held → IsSome place.new.kept.held }
+    ensures unfaulted { result ≡ 0 → fault.new ≡ fault.old }
+    ensures call { Extended place.old.kept.held result fault.old fault.new place.new.kept.held (λ s answer t. ExtendsInterfaces (record { text = text.entry; interfaces = interfaces.entry; messages = messages.entry; arguments = arguments.entry }) s.core answer t.core) }
+    ensures beside { Extended place.old.kept.held result fault.old fault.new place.new.kept.held (λ s answer t. t ≡ record s { core = t.core }) }
+    ensures descriptors { Extended place.old.kept.held result fault.old fault.new place.new.kept.held (λ s answer t. Conserves kept_by_server s [] [] t) }
+{
+    let Some(mut session) = place.take(alloc) else {
+        return Status::NoSession.code();
+    };
+    let rows = Rows {
+        text,
+        interfaces,
+        messages,
+        arguments,
+    };
+    let answer = session.extend_interfaces(&rows);
+    place.put(session);
+    write_extended(answer, fault)
 }
 
 /// Writes 1 where memory was refused in the last call of the core that changes it, and 0 else.

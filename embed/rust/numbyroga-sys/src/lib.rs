@@ -273,6 +273,22 @@ plain! {
     }
 }
 
+plain! {
+    /// What is wrong with whole rows. The last three are 0 unless the fault is [`NB_FAULT_CONTRADICTS`].
+    nb_extension_fault: 20, 4 {
+        /// The index of the interface's row among those that were passed, from 0.
+        interface: u32 = 0,
+        /// What is wrong, [`NB_FAULT_ROW`] to [`NB_FAULT_CONTRADICTS`].
+        fault: u32 = 4,
+        /// Whether the message that differs is an event (0 or 1).
+        is_event: u32 = 8,
+        /// The opcode of that message.
+        opcode: u32 = 12,
+        /// The version of the interface in the table.
+        version: u32 = 16,
+    }
+}
+
 /// Nothing is wrong.
 pub const NB_FAULT_NONE: u32 = 0;
 /// A row names what is not there, has a kind that is none, or its name is not UTF-8.
@@ -291,6 +307,8 @@ pub const NB_FAULT_MISSING_CHILD: u32 = 6;
 pub const NB_FAULT_ARGUMENT_INTERFACES: u32 = 7;
 /// malloc refused.
 pub const NB_FAULT_OUT_OF_MEMORY: u32 = 8;
+/// A row contradicts the table.
+pub const NB_FAULT_CONTRADICTS: u32 = 9;
 
 /// A signed number.
 pub const NB_INT: u32 = 0;
@@ -549,6 +567,19 @@ unsafe extern "C" {
         arguments: *const nb_argument_row,
         argument_count: usize,
         fault: &mut nb_table_fault,
+    ) -> nb_status;
+    /// Extends the table by whole rows.
+    pub fn nb_server_extend_interfaces(
+        place: &mut nb_server,
+        text: *const u8,
+        text_length: usize,
+        interfaces: *const nb_interface_row,
+        interface_count: usize,
+        messages: *const nb_message_row,
+        message_count: usize,
+        arguments: *const nb_argument_row,
+        argument_count: usize,
+        fault: &mut nb_extension_fault,
     ) -> nb_status;
     /// Whether malloc refused in the last call.
     pub safe fn nb_server_memory_refused(place: &mut nb_server, is_refused: &mut u32) -> nb_status;
@@ -818,6 +849,19 @@ unsafe extern "C" {
         arguments: *const nb_argument_row,
         argument_count: usize,
         fault: &mut nb_table_fault,
+    ) -> nb_status;
+    /// Extends the table by whole rows.
+    pub fn nb_client_extend_interfaces(
+        place: &mut nb_client,
+        text: *const u8,
+        text_length: usize,
+        interfaces: *const nb_interface_row,
+        interface_count: usize,
+        messages: *const nb_message_row,
+        message_count: usize,
+        arguments: *const nb_argument_row,
+        argument_count: usize,
+        fault: &mut nb_extension_fault,
     ) -> nb_status;
     /// Whether malloc refused in the last call.
     pub safe fn nb_client_memory_refused(place: &mut nb_client, is_refused: &mut u32) -> nb_status;

@@ -33,9 +33,9 @@ compile_error!(
 
 #[cfg(feature = "log")]
 #[allow(unused_imports)]
-use log::{debug as log_debug, error as log_error, warn as log_warn};
+use log::{debug as log_debug, error as log_error};
 #[cfg(not(feature = "log"))]
-use std::{eprintln as log_error, eprintln as log_warn};
+use std::eprintln as log_error;
 
 /// Prints nothing: what happens is logged by the crate `log` alone.
 #[cfg(not(feature = "log"))]

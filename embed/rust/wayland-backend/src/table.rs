@@ -1,44 +1,70 @@
 //! Interfaces as statics, and as rows of a session's table.
 //!
-//! An interface gets its row when a call first names it, and all that it names get theirs with it. A name has one row.
-//! If a program has several statics of one name, they share it, and each object keeps the static that it was made with.
+//! An interface gets its row when a call first names it, and all that it names get theirs with it. A name has one row. If a
+//! program has several statics of one name, as of two versions of a protocol, the row has the messages of the longest, and
+//! each object keeps the static that it was made with. A static that contradicts the row is refused when it is first named.
 
-use std::collections::HashMap;
+use std::collections::{HashMap, HashSet};
 use std::fmt;
 use std::hash::{BuildHasherDefault, Hasher};
 
 use numbyroga_sys as sys;
 
 use crate::core_interfaces::{WL_CALLBACK_INTERFACE, WL_DISPLAY_INTERFACE, WL_REGISTRY_INTERFACE};
-use crate::library::{Rows, TableFault};
+use crate::library::{text_of, Opcode, Rows, TableFault, TableFaultKind};
 use crate::protocol::{AllowNull, ArgumentType, Interface, MessageDesc, ANONYMOUS_INTERFACE};
 
 /// Which row stands for which static.
 #[derive(Debug)]
 pub(crate) struct Table {
-    /// What is to be logged when no lock is held.
-    longer: Vec<Longer>,
     /// Whether two statics of one name differ in which events end their objects.
     ends_differ: bool,
     /// The static of each row: the first one of its name.
     statics: Vec<&'static Interface>,
     rows_by_name: HashMap<&'static str, u32>,
+    /// The rows of those that the session's table has.
     rows_by_address: HashMap<usize, u32, BuildHasherDefault<AddressHasher>>,
 }
 
-/// An interface that cannot be appended to a table.
+/// An interface that the session's table does not take.
 #[derive(Debug)]
 pub(crate) struct BadInterface {
-    name: &'static str,
-    fault: TableFault,
+    interface: &'static Interface,
+    kind: TableFaultKind,
 }
 
 impl fmt::Display for BadInterface {
     fn fmt(&self, f: &mut fmt::Formatter<'_>) -> fmt::Result {
+        let Interface { name, version, .. } = self.interface;
+        match self.kind {
+            TableFaultKind::Contradicts {
+                message,
+                version: first,
+            } => write!(
+                f,
+                "The interface {name} of version {version} cannot be used beside that of version {first}: they differ in the {}.",
+                MessageName(self.interface, message)
+            ),
+            TableFaultKind::Other(fault) => {
+                write!(f, "The interface {name} cannot be used: {}.", text_of(fault))
+            }
+        }
+    }
+}
+
+/// A message as a text names it.
+struct MessageName(&'static Interface, Opcode);
+
+impl fmt::Display for MessageName {
+    fn fmt(&self, f: &mut fmt::Formatter<'_>) -> fmt::Result {
+        let (kind, messages, opcode) = match self.1 {
+            Opcode::Request(opcode) => ("request", self.0.requests, opcode),
+            Opcode::Event(opcode) => ("event", self.0.events, opcode),
+        };
         write!(
             f,
-            "The interface {} cannot be used: {}.",
-            self.name, self.fault
+            "{kind} {}",
+            messages.get(opcode).map_or("?", |message| message.name)
         )
     }
 }
@@ -47,7 +73,6 @@ impl Table {
     /// The table of a new session.
     pub(crate) fn new() -> Table {
         let mut table = Table {
-            longer: Vec::new(),
             ends_differ: false,
             statics: Vec::new(),
             rows_by_name: HashMap::new(),
@@ -73,17 +98,17 @@ impl Table {
         self.statics[row as usize]
     }
 
-    /// The row of an interface. If it has none, it gets one, and so do all that it names; `append` hands these to the
-    /// session.
+    /// The row of an interface. If the session's table does not have it yet, it gets it, and all that it names; `extend` hands
+    /// these to the session.
     #[inline]
     pub(crate) fn row(
         &mut self,
         interface: &'static Interface,
-        append: impl FnOnce(&Rows) -> Result<(), TableFault>,
+        extend: impl FnMut(&Rows) -> Result<(), TableFault>,
     ) -> Result<u32, BadInterface> {
         match self.rows_by_address.get(&address(interface)) {
             Some(row) => Ok(*row),
-            None => self.append(interface, append),
+            None => self.learn(interface, extend),
         }
     }
 
@@ -94,59 +119,75 @@ impl Table {
         self.ends_differ || event.is_some_and(|event| event.is_destructor)
     }
 
-    /// Whether something is to be logged of the interfaces that were named. It is not almost always.
-    #[inline]
-    pub(crate) fn has_longer(&self) -> bool {
-        !self.longer.is_empty()
-    }
-
-    /// Takes what is to be logged.
-    pub(crate) fn take_longer(&mut self) -> std::vec::Drain<'_, Longer> {
-        self.longer.drain(..)
-    }
-
     #[cold]
-    fn append(
+    fn learn(
         &mut self,
         interface: &'static Interface,
-        append: impl FnOnce(&Rows) -> Result<(), TableFault>,
+        mut extend: impl FnMut(&Rows) -> Result<(), TableFault>,
     ) -> Result<u32, BadInterface> {
-        let before = self.statics.len();
-        self.push_all(interface);
-        if self.statics.len() > before {
-            if let Err(fault) = append(&self.rows_from(before)) {
-                let name = self
-                    .statics
-                    .get(before + fault.interface)
-                    .unwrap_or(&interface)
-                    .name;
-                self.forget_from(before);
-                return Err(BadInterface { name, fault });
-            }
+        let mut unknown = self.unknown_from(interface);
+        while !unknown.is_empty() {
+            unknown = self.learn_some(unknown, &mut extend)?;
         }
-        Ok(self.known(interface))
+        Ok(self.rows_by_address[&address(interface)])
     }
 
-    /// Gives rows to an interface and to all that it names.
-    fn push_all(&mut self, interface: &'static Interface) {
+    /// The interface and all that it names, as far as the session's table does not have them yet.
+    fn unknown_from(&self, interface: &'static Interface) -> Vec<&'static Interface> {
+        let mut unknown = Vec::new();
+        let mut seen = HashSet::new();
         let mut named = vec![interface];
         while let Some(interface) = named.pop() {
-            if self.rows_by_address.contains_key(&address(interface)) {
+            let address = address(interface);
+            if self.rows_by_address.contains_key(&address) || !seen.insert(address) {
                 continue;
             }
-            if let Some(&row) = self.rows_by_name.get(interface.name) {
-                self.rows_by_address.insert(address(interface), row);
-                let first = self.interface(row);
-                self.longer.extend(Longer::of(interface, first));
-                self.ends_differ |= !same_ends(interface, first);
-                continue;
-            }
-            self.push(interface);
+            unknown.push(interface);
             for message in interface.requests.iter().chain(interface.events) {
                 named.extend(message.child_interface);
                 named.extend(message.arg_interfaces);
             }
         }
+        unknown
+    }
+
+    /// Hands statics to the session, one of each name, and answers those that are left.
+    fn learn_some(
+        &mut self,
+        statics: Vec<&'static Interface>,
+        extend: &mut impl FnMut(&Rows) -> Result<(), TableFault>,
+    ) -> Result<Vec<&'static Interface>, BadInterface> {
+        let before = self.statics.len();
+        let (mut others, mut left) = (Vec::new(), Vec::new());
+        let mut names = HashSet::new();
+        for interface in statics {
+            if !names.insert(interface.name) {
+                left.push(interface);
+            } else if self.rows_by_name.contains_key(interface.name) {
+                others.push(interface);
+            } else {
+                self.push(interface);
+            }
+        }
+        let news = self.statics.len() - before;
+        let said = [&self.statics[before..], &others].concat();
+        if let Err(fault) = extend(&self.rows_of(&said)) {
+            let is_contradiction = matches!(fault.kind, TableFaultKind::Contradicts { .. });
+            // What is wrong with the rest of a longer static shows when the new ones have been added.
+            if is_contradiction || fault.interface < news {
+                self.forget_from(before);
+            }
+            return Err(BadInterface {
+                interface: said.get(fault.interface).unwrap_or(&said[0]),
+                kind: fault.kind,
+            });
+        }
+        for other in others {
+            let row = self.rows_by_name[other.name];
+            self.ends_differ |= !same_ends(other, self.interface(row));
+            self.rows_by_address.insert(address(other), row);
+        }
+        Ok(left)
     }
 
     fn push(&mut self, interface: &'static Interface) {
@@ -164,27 +205,37 @@ impl Table {
             .retain(|_, row| (*row as usize) < first);
     }
 
-    fn known(&self, interface: &'static Interface) -> u32 {
-        self.rows_by_address[&address(interface)]
-    }
-
-    /// The rows from this one on, as the library takes them.
-    fn rows_from(&self, first: usize) -> Rows {
+    /// The rows of these statics, as the library takes them.
+    fn rows_of(&self, statics: &[&'static Interface]) -> Rows {
         let mut rows = Rows::default();
-        for interface in &self.statics[first..] {
-            let (name_at, name_length) = rows.put_name(interface.name);
+        for interface in statics {
+            let whole = self.whole(interface);
+            let (name_at, name_length) = rows.put_name(whole.name);
             rows.interfaces.push(sys::nb_interface_row {
                 name_at,
                 name_length,
-                version: interface.version,
-                requests: interface.requests.len() as u32,
-                events: interface.events.len() as u32,
+                version: whole.version,
+                requests: whole.requests.len() as u32,
+                events: whole.events.len() as u32,
             });
-            for message in interface.requests.iter().chain(interface.events) {
+            for message in whole.requests.iter().chain(whole.events) {
                 self.put_message(&mut rows, message);
             }
         }
         rows
+    }
+
+    /// What the session is told of a static. The fixed interfaces take no more than they have.
+    fn whole(&self, interface: &'static Interface) -> Interface {
+        let row = self.rows_by_name[interface.name];
+        let mut whole = Interface { ..*interface };
+        if row < sys::NB_INTERFACE_FIRST {
+            let fixed = self.interface(row);
+            whole.version = whole.version.min(fixed.version);
+            whole.requests = &whole.requests[..whole.requests.len().min(fixed.requests.len())];
+            whole.events = &whole.events[..whole.events.len().min(fixed.events.len())];
+        }
+        whole
     }
 
     fn put_message(&self, rows: &mut Rows, message: &MessageDesc) {
@@ -207,7 +258,8 @@ impl Table {
             rows.arguments.push(sys::nb_argument_row {
                 kind,
                 is_nullable: (allow_null == AllowNull::Yes).into(),
-                interface: interface.map_or(sys::NB_INTERFACE_ANY, |named| self.known(named)),
+                interface: interface
+                    .map_or(sys::NB_INTERFACE_ANY, |named| self.rows_by_name[named.name]),
             });
         }
     }
@@ -217,31 +269,6 @@ impl Table {
 fn same_ends(one: &Interface, other: &Interface) -> bool {
     let mut both = one.events.iter().zip(other.events);
     both.all(|(one, other)| one.is_destructor == other.is_destructor)
-}
-
-/// A second static of a name that has messages which the row has not: they cannot be sent or received.
-#[derive(Debug)]
-pub(crate) struct Longer {
-    first: &'static Interface,
-    second: &'static Interface,
-}
-
-impl Longer {
-    fn of(second: &'static Interface, first: &'static Interface) -> Option<Longer> {
-        let is_longer = second.requests.len() > first.requests.len()
-            || second.events.len() > first.events.len();
-        is_longer.then_some(Longer { first, second })
-    }
-
-    /// Says so. No lock must be held, since a logger may use the session.
-    pub(crate) fn log(&self) {
-        crate::log_warn!(
-            "The interface {} is used in version {} and in version {}: messages of the latter alone cannot be used.",
-            self.first.name,
-            self.first.version,
-            self.second.version
-        );
-    }
 }
 
 fn kind_of(argument: ArgumentType) -> (u32, AllowNull) {
@@ -415,6 +442,12 @@ mod tests {
     fn a_second_static_of_a_name_shares_its_row() {
         let mut table = Table::new();
         let row = table.row(&SURFACE, |_| Ok(())).unwrap();
+        let mut extended = None;
+        let second = table.row(&OTHER_SURFACE, |rows| {
+            extended = Some(rows.interfaces.len());
+            Ok(())
+        });
+        assert_eq!((second.unwrap(), extended), (row, Some(1)));
         assert_eq!(
             table
                 .row(&OTHER_SURFACE, |_| panic!("it has a row"))
@@ -422,6 +455,126 @@ mod tests {
             row
         );
         assert!(std::ptr::eq(table.interface(row), &SURFACE));
+    }
+
+    /// An interface `pad` of this version, with the first so many of its requests and events.
+    const fn pad(version: u32, messages: usize) -> Interface {
+        const MESSAGES: &[MessageDesc] = &[
+            message("one", None, &[], &[ArgumentType::Int]),
+            message("two", None, &[], &[ArgumentType::Str(AllowNull::No)]),
+            message("three", None, &[], &[]),
+        ];
+        let (messages, _) = MESSAGES.split_at(messages);
+        Interface {
+            name: "pad",
+            version,
+            requests: messages,
+            events: messages,
+            c_ptr: None,
+        }
+    }
+
+    static SHORT_PAD: Interface = pad(1, 1);
+    static PAD: Interface = pad(2, 2);
+    static LONG_PAD: Interface = pad(3, 3);
+    static OTHER_PAD: Interface = Interface {
+        version: 7,
+        events: &[message("one", None, &[], &[ArgumentType::Uint])],
+        ..pad(2, 2)
+    };
+
+    #[test]
+    fn statics_of_one_name_extend_their_row_in_any_order() {
+        let pads = [&SHORT_PAD, &PAD, &LONG_PAD];
+        for order in [
+            [0, 1, 2],
+            [0, 2, 1],
+            [1, 0, 2],
+            [1, 2, 0],
+            [2, 0, 1],
+            [2, 1, 0],
+        ] {
+            let (mut table, mut session) = (Table::new(), Client::new());
+            for at in order {
+                let row = table.row(pads[at], |rows| session.extend_interfaces(rows));
+                assert_eq!(row.unwrap(), 4);
+            }
+        }
+    }
+
+    #[test]
+    fn a_static_that_contradicts_the_row_is_refused() {
+        for first in [&SHORT_PAD, &PAD, &LONG_PAD] {
+            let (mut table, mut session) = (Table::new(), Client::new());
+            table
+                .row(first, |rows| session.extend_interfaces(rows))
+                .unwrap();
+            for _ in 0..2 {
+                let error = table
+                    .row(&OTHER_PAD, |rows| session.extend_interfaces(rows))
+                    .unwrap_err();
+                assert_eq!(
+                    error.to_string(),
+                    format!(
+                        "The interface pad of version 7 cannot be used beside that of version {}: they differ in the event one.",
+                        first.version
+                    )
+                );
+            }
+            assert_eq!(
+                table
+                    .row(&SURFACE, |rows| session.extend_interfaces(rows))
+                    .unwrap(),
+                5
+            );
+        }
+    }
+
+    #[test]
+    fn statics_of_one_name_may_come_in_one_call() {
+        static BOTH: Interface = interface(
+            "both",
+            &[
+                message("first", Some(&PAD), &[], &[ArgumentType::NewId]),
+                message("second", Some(&LONG_PAD), &[], &[ArgumentType::NewId]),
+                message("third", Some(&SHORT_PAD), &[], &[ArgumentType::NewId]),
+            ],
+        );
+        let (mut table, mut session) = (Table::new(), Client::new());
+        let mut row = |interface| {
+            table
+                .row(interface, |rows| session.extend_interfaces(rows))
+                .unwrap()
+        };
+        assert_eq!(
+            [&BOTH, &PAD, &LONG_PAD, &SHORT_PAD].map(&mut row),
+            [4, 5, 5, 5]
+        );
+    }
+
+    #[test]
+    fn what_came_before_a_bad_rest_is_kept() {
+        static BAD_PAD: Interface = Interface {
+            requests: &[
+                message("one", None, &[], &[ArgumentType::Int]),
+                message(
+                    "make",
+                    None,
+                    &[&ROLE],
+                    &[ArgumentType::Object(AllowNull::No), ArgumentType::NewId],
+                ),
+            ],
+            ..pad(2, 1)
+        };
+        let (mut table, mut session) = (Table::new(), Client::new());
+        let mut row = |interface| table.row(interface, |rows| session.extend_interfaces(rows));
+        assert_eq!(row(&SHORT_PAD).unwrap(), 4);
+        assert_eq!(
+            row(&BAD_PAD).unwrap_err().to_string(),
+            "The interface pad cannot be used: a message makes an object of no interface."
+        );
+        assert_eq!((row(&SURFACE).unwrap(), row(&ROLE).unwrap()), (6, 5));
+        assert_eq!(row(&LONG_PAD).unwrap(), 4);
     }
 
     #[test]
@@ -472,7 +625,7 @@ mod tests {
         let (mut table, mut session) = (Table::new(), Client::new());
         assert_eq!(
             table
-                .row(&SURFACE, |rows| session.add_interfaces(rows))
+                .row(&SURFACE, |rows| session.extend_interfaces(rows))
                 .unwrap(),
             4
         );
@@ -482,7 +635,7 @@ mod tests {
     fn what_a_session_refuses_is_forgotten() {
         let (mut table, mut session) = (Table::new(), Client::new());
         let error = table
-            .row(&NAMES_BAD, |rows| session.add_interfaces(rows))
+            .row(&NAMES_BAD, |rows| session.extend_interfaces(rows))
             .unwrap_err();
         assert_eq!(
             error.to_string(),
@@ -490,7 +643,7 @@ mod tests {
         );
         assert_eq!(
             table
-                .row(&SURFACE, |rows| session.add_interfaces(rows))
+                .row(&SURFACE, |rows| session.extend_interfaces(rows))
                 .unwrap(),
             4
         );

@@ -1,6 +1,6 @@
 use Rattle.std.proofs.Common.{ap}
 use Rattle.wl_host.proofs.Marking.{default_kills, limit_kills}
-use Rattle.wl_host.proofs.Settled.{action_settled, bind_settled, cleanup_settled, creates_settled, data_settled, ends_settled, error_settled, event_settled, insert_settled, interfaces_settled, kills_same, new_settled, notes_settled, received_settled, refused_global_settled, request_settled, room_settled, sent_settled, stays_by, stays_marked, writable_settled}
+use Rattle.wl_host.proofs.Settled.{action_settled, bind_settled, cleanup_settled, creates_settled, data_settled, ends_settled, error_settled, event_settled, extends_settled, insert_settled, interfaces_settled, kills_same, new_settled, notes_settled, received_settled, refused_global_settled, request_settled, room_settled, sent_settled, stays_by, stays_marked, writable_settled}
 use Rattle.wl_host.specs.Server.{ServerState}
 use Rattle.wl_host.proofs.laws.a_cleanup_looks_for_the_killed.Goals as goal
 
@@ -21,6 +21,9 @@ returns-clause-set_default_max_buffer_size c before after size h e = stays_by be
 
 pub returns-clause-add_interfaces : goal.returns-clause-add_interfaces
 returns-clause-add_interfaces c before after rows result h e = interfaces_settled before after rows result h e
+
+pub returns-clause-extend_interfaces : goal.returns-clause-extend_interfaces
+returns-clause-extend_interfaces c before after rows result h e = extends_settled before after rows result h e
 
 pub returns-clause-received : goal.returns-clause-received
 returns-clause-received c before after id bytes descriptors s h = received_settled before after id bytes descriptors s h

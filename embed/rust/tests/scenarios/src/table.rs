@@ -71,6 +71,67 @@ pub static SHAPE_AGAIN: Interface = Interface {
     c_ptr: None,
 };
 
+/// Opcodes of pens.
+pub const DRAW: u16 = 0;
+pub const FILL: u16 = 1;
+pub const DREW: u16 = 0;
+pub const EMPTY: u16 = 1;
+
+const PEN_REQUESTS: &[MessageDesc] = &[
+    message("draw", &[ArgumentType::Int]),
+    MessageDesc {
+        since: 2,
+        child_interface: Some(&INK),
+        ..message(
+            "fill",
+            &[ArgumentType::Str(AllowNull::No), ArgumentType::NewId],
+        )
+    },
+];
+
+const PEN_EVENTS: &[MessageDesc] = &[
+    message("drew", &[ArgumentType::Int]),
+    MessageDesc {
+        since: 3,
+        ..message("empty", &[ArgumentType::Str(AllowNull::No)])
+    },
+];
+
+/// An interface in its first version.
+pub static PEN_1: Interface = Interface {
+    name: "pen",
+    version: 1,
+    requests: PEN_REQUESTS.split_at(1).0,
+    events: PEN_EVENTS.split_at(1).0,
+    c_ptr: None,
+};
+
+/// And in its third.
+pub static PEN_3: Interface = Interface {
+    name: "pen",
+    version: 3,
+    requests: PEN_REQUESTS,
+    events: PEN_EVENTS,
+    c_ptr: None,
+};
+
+/// An interface of that name, and of another protocol.
+pub static OTHER_PEN: Interface = Interface {
+    name: "pen",
+    version: 2,
+    requests: &[message("draw", &[ArgumentType::Uint])],
+    events: &[],
+    c_ptr: None,
+};
+
+static INK: Interface = Interface {
+    name: "ink",
+    version: 3,
+    requests: &[],
+    events: &[],
+    c_ptr: None,
+};
+
 /// An interface that no message names.
 pub static STRANGER: Interface = Interface {
     name: "stranger",

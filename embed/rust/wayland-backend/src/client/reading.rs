@@ -316,7 +316,8 @@ fn hand_out<'a>(
         Ok(event) => event,
         Err(status) => return Err(NoEvent { session, status }),
     };
-    if has_forbidden_null(sender_id.interface().events, opcode, &args) {
+    let events = sender_id.interface().events;
+    if usize::from(opcode) >= events.len() || has_forbidden_null(events, opcode, &args) {
         let status = session.refuse_event();
         return Err(NoEvent { session, status });
     }

@@ -19,7 +19,7 @@ use crate::library::{
 };
 use crate::panics::Panics;
 use crate::protocol::{ArgumentType, Interface, Message, MessageDesc, ObjectInfo, ProtocolError};
-use crate::table::{BadInterface, Longer, Table};
+use crate::table::{BadInterface, Table};
 
 /// What is kept for an object.
 #[derive(Debug)]
@@ -56,8 +56,9 @@ pub(super) struct Session {
 #[derive(Debug)]
 enum Fault {
     System(Errno),
-    /// An event had a null text where its interface allows none. The library lets it pass.
-    NullText,
+    /// An event had a null text where its interface allows none, or an opcode that its object's static lacks. The library
+    /// lets it pass.
+    Malformed,
 }
 
 /// Why a call failed.
@@ -151,8 +152,6 @@ type Ended = (Arc<dyn ObjectData>, ObjectId);
 struct MoreLeftovers {
     ended: Vec<Ended>,
     unused: Vec<Arc<dyn ObjectData>>,
-    /// Interfaces that can be used in part, which is to be logged.
-    longer: Vec<Longer>,
 }
 
 impl Leftovers {
@@ -201,11 +200,6 @@ impl Leftovers {
     fn settle_all(&mut self) {
         let mut panics = Panics::default();
         let mut more = self.more.take();
-        if let Some(more) = &mut more {
-            for longer in more.longer.drain(..) {
-                panics.catch(|| longer.log());
-            }
-        }
         if let Some((data, id)) = self.ended.take() {
             panics.catch(|| data.destroyed(id));
         }
@@ -269,7 +263,7 @@ impl Session {
     pub(super) fn error(&mut self) -> Option<WaylandError> {
         match self.fault {
             Some(Fault::System(number)) => return Some(io::Error::from(number).into()),
-            Some(Fault::NullText) => return Some(malformed().into()),
+            Some(Fault::Malformed) => return Some(malformed().into()),
             None => {}
         }
         Some(match self.library.last_error()? {
@@ -382,11 +376,10 @@ impl Session {
             interface = description.and_then(|description| description.child_interface);
             if let Some((child, version)) = child_spec {
                 let library = &mut self.library;
-                let row = self.table.row(child, |rows| library.add_interfaces(rows));
-                if self.table.has_longer() {
-                    leftovers.more().longer.extend(self.table.take_longer());
-                }
-                match row {
+                match self
+                    .table
+                    .row(child, |rows| library.extend_interfaces(rows))
+                {
                     Ok(row) => request.child_interface = row,
                     Err(error) => {
                         leftovers.leave(data);
@@ -443,6 +436,15 @@ impl Session {
         self.send(message, &request).map(|_| ())
     }
 
+    /// What a request comes to that the sender's static lacks. The row of another static of that name may have it.
+    #[cold]
+    fn unknown_request(&mut self, sender: &ObjectId) -> Status {
+        match self.library.object_info(&sender.raw()) {
+            Some(_) => Status::UNKNOWN_OPCODE,
+            None => Status::INVALID_ID,
+        }
+    }
+
     /// Hands a request to the session. If a descriptor cannot be duplicated, the session gets a number that is none in its
     /// place, so that the object of the request is there; and nothing is sent any more.
     #[inline]
@@ -451,6 +453,10 @@ impl Session {
         message: &Message<ObjectId, RawFd>,
         request: &Request,
     ) -> Result<RawObjectId, Status> {
+        let sender = &message.sender_id;
+        if usize::from(message.opcode) >= sender.interface.requests.len() {
+            return Err(self.unknown_request(sender));
+        }
         let fault = self.outgoing.set(&message.args, ObjectId::raw).err();
         let sent = self.library.send_request(request, &mut self.outgoing);
         match sent {
@@ -531,7 +537,7 @@ impl Session {
     /// The event that was handed out is malformed, which ends the connection.
     #[cold]
     pub(super) fn refuse_event(&mut self) -> Status {
-        self.fault.get_or_insert(Fault::NullText);
+        self.fault.get_or_insert(Fault::Malformed);
         Status::FAILED
     }
 

@@ -38,7 +38,7 @@ pub(crate) use client::{Client, SessionError};
 pub(crate) use messages::{Arguments, Outgoing};
 pub(crate) use ready::Ready;
 pub(crate) use receiving::{Inbox, Receipt, Received};
-pub(crate) use rows::{Rows, TableFault};
+pub(crate) use rows::{text_of, Opcode, Rows, TableFault, TableFaultKind};
 pub(crate) use server::{ClientError, Note, Server};
 
 /// How many descriptors wait in a session, and are in one send, at most.

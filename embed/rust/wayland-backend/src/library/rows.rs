@@ -27,38 +27,63 @@ impl Rows {
 pub(crate) struct TableFault {
     /// The index of the interface among those that were passed.
     pub(crate) interface: usize,
-    fault: u32,
+    pub(crate) kind: TableFaultKind,
 }
 
-impl std::fmt::Display for TableFault {
-    fn fmt(&self, f: &mut std::fmt::Formatter<'_>) -> std::fmt::Result {
-        f.write_str(match self.fault {
-            sys::NB_FAULT_ZERO_IN_NAME => "a name has a zero byte",
-            sys::NB_FAULT_DUPLICATE_NAME => "another interface has the name",
-            sys::NB_FAULT_UNKNOWN_INTERFACE => {
-                "an argument names an interface that is not in the table"
-            }
-            sys::NB_FAULT_TOO_MANY_NEW_IDS => "a message makes two objects",
-            sys::NB_FAULT_MISSING_CHILD => "a message makes an object of no interface",
-            sys::NB_FAULT_ARGUMENT_INTERFACES => {
-                "the interfaces of a message are not those of its object arguments"
-            }
-            _ => "its rows make no table",
-        })
+#[derive(Clone, Copy, Debug, PartialEq, Eq)]
+pub(crate) enum TableFaultKind {
+    /// A message differs from the one that the table has. The table has the interface in this version.
+    Contradicts { message: Opcode, version: u32 },
+    /// Another fault, by its number.
+    Other(u32),
+}
+
+/// A message of an interface.
+#[derive(Clone, Copy, Debug, PartialEq, Eq)]
+pub(crate) enum Opcode {
+    Request(usize),
+    Event(usize),
+}
+
+/// What a fault is that is no contradiction.
+pub(crate) fn text_of(fault: u32) -> &'static str {
+    match fault {
+        sys::NB_FAULT_ZERO_IN_NAME => "a name has a zero byte",
+        sys::NB_FAULT_DUPLICATE_NAME => "another interface has the name",
+        sys::NB_FAULT_UNKNOWN_INTERFACE => {
+            "an argument names an interface that is not in the table"
+        }
+        sys::NB_FAULT_TOO_MANY_NEW_IDS => "a message makes two objects",
+        sys::NB_FAULT_MISSING_CHILD => "a message makes an object of no interface",
+        sys::NB_FAULT_ARGUMENT_INTERFACES => {
+            "the interfaces of a message are not those of its object arguments"
+        }
+        _ => "its rows make no table",
     }
 }
 
-/// The answer of a call that takes rows.
+/// The answer of a call that takes whole rows.
 pub(super) fn table_answer(
     status: sys::nb_status,
-    fault: sys::nb_table_fault,
+    fault: sys::nb_extension_fault,
 ) -> Result<(), TableFault> {
-    match status {
-        sys::NB_OK => Ok(()),
+    let kind = match status {
+        sys::NB_OK => return Ok(()),
         sys::NB_OUT_OF_MEMORY => no_memory(),
-        _ => Err(TableFault {
-            interface: fault.interface as usize,
-            fault: fault.fault,
-        }),
-    }
+        _ if fault.fault == sys::NB_FAULT_CONTRADICTS => {
+            let opcode = fault.opcode as usize;
+            TableFaultKind::Contradicts {
+                message: match fault.is_event {
+                    0 => Opcode::Request(opcode),
+                    _ => Opcode::Event(opcode),
+                },
+                version: fault.version,
+            }
+        }
+        _ => TableFaultKind::Other(fault.fault),
+    };
+    Err(TableFault {
+        interface: fault.interface as usize,
+        kind,
+    })
 }

@@ -175,12 +175,12 @@ impl Server {
         !self.may_have_notes && !self.may_clean_up && self.descriptors == 0
     }
 
-    /// Appends interfaces to the table: all of them, or none.
-    pub(crate) fn add_interfaces(&mut self, rows: &Rows) -> Result<(), TableFault> {
-        let mut fault = sys::nb_table_fault::default();
+    /// Extends the table by whole rows: those of interfaces that it has, and of new ones.
+    pub(crate) fn extend_interfaces(&mut self, rows: &Rows) -> Result<(), TableFault> {
+        let mut fault = sys::nb_extension_fault::default();
         // SAFETY: each slice is lent with its own length.
         let status = unsafe {
-            sys::nb_server_add_interfaces(
+            sys::nb_server_extend_interfaces(
                 &mut self.place,
                 rows.text.as_ptr(),
                 rows.text.len(),

@@ -14,7 +14,7 @@ use rustix::event::epoll;
 
 use super::{
     state::{lock, Bound, Called, Data, State, Unused},
-    ClientId, Handle, InitError, ObjectId,
+    ClientId, DisconnectReason, Handle, InitError, ObjectId,
 };
 use crate::{
     library::{Arguments, RawClientId, Ready, Received, Status},
@@ -337,6 +337,13 @@ impl<D> Backend<D> {
             Err(status) => return Err(NoRequest { state, status }),
         };
         let (sender_id, opcode) = state.core.sender();
+        if usize::from(opcode) >= sender_id.interface().requests.len() {
+            // The row has it from another static of that name.
+            drop(state);
+            self.handle
+                .kill_client(client.clone(), DisconnectReason::ConnectionClosed);
+            return Ok(None);
+        }
         if has_forbidden_null(sender_id.interface().requests, opcode, &args) {
             drop(state);
             self.refuse(sender_id, opcode);

@@ -209,15 +209,9 @@ impl Core {
     /// The number that the library has for an interface. It learns what it does not know yet.
     pub(super) fn row(&mut self, interface: &'static Interface) -> Result<u32, BadInterface> {
         let Core { server, names, .. } = self;
-        let table = &mut names.table;
-        let row = table.row(interface, |rows| server.add_interfaces(rows));
-        if table.has_longer() {
-            for longer in table.take_longer() {
-                self.news.put(Told::Longer(longer));
-                self.put += 1;
-            }
-        }
-        row
+        names
+            .table
+            .row(interface, |rows| server.extend_interfaces(rows))
     }
 
     // ---- What happened
@@ -289,7 +283,11 @@ impl Core {
                         }),
                     };
                     let data = connection.data.clone();
-                    self.news.put(Told::Disconnected(data, id, reason));
+                    self.news.put(Told {
+                        data,
+                        client: id,
+                        reason,
+                    });
                     self.put += 1;
                 }
                 Note::Destroyed { object, data } => {
@@ -605,6 +603,15 @@ impl Core {
 
     // ---- Events
 
+    /// What an event comes to that the sender's static lacks. The row of another static of that name may have it.
+    #[cold]
+    fn unknown_event(&mut self, sender: &ObjectId) -> Status {
+        match self.server.object_info(&sender.raw()) {
+            Some(_) => Status::UNKNOWN_OPCODE,
+            None => Status::INVALID_ID,
+        }
+    }
+
     /// Sends an event. The client is killed if a descriptor among the arguments cannot be duplicated.
     pub(super) fn send_event(&mut self, message: &Message<ObjectId, RawFd>) -> Result<(), Status> {
         let Message {
@@ -612,6 +619,9 @@ impl Core {
             opcode,
             args,
         } = message;
+        if usize::from(*opcode) >= sender_id.interface.events.len() {
+            return Err(self.unknown_event(sender_id));
+        }
         if self.outgoing.set(args, ObjectId::raw).is_err() {
             return self.send_without_descriptor(message);
         }

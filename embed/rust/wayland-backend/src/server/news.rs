@@ -7,28 +7,13 @@ use std::{
 };
 
 use super::{ClientData, ClientId, DisconnectReason};
-use crate::{panics::Panics, table::Longer};
+use crate::panics::Panics;
 
-/// What the program is to be told when the state is not locked.
-pub(super) enum Told {
-    Disconnected(Arc<dyn ClientData>, ClientId, DisconnectReason),
-    Longer(Longer),
-}
-
-impl Told {
-    fn client(&self) -> Option<&ClientId> {
-        match self {
-            Told::Disconnected(_, id, _) => Some(id),
-            Told::Longer(_) => None,
-        }
-    }
-
-    fn tell(self) {
-        match self {
-            Told::Disconnected(data, id, reason) => data.disconnected(id, reason),
-            Told::Longer(longer) => longer.log(),
-        }
-    }
+/// A client that is gone, which the program is to be told when the state is not locked.
+pub(super) struct Told {
+    pub(super) data: Arc<dyn ClientData>,
+    pub(super) client: ClientId,
+    pub(super) reason: DisconnectReason,
 }
 
 #[derive(Default)]
@@ -36,8 +21,8 @@ struct Queue {
     waiting: VecDeque<Told>,
     /// How many have been told.
     told: u64,
-    /// What is told now: the client, if it is of one.
-    current: Option<Option<ClientId>>,
+    /// The client of what is told now.
+    current: Option<ClientId>,
     /// The thread that tells.
     teller: Option<ThreadId>,
 }
@@ -70,11 +55,11 @@ impl News {
         let at = queue
             .waiting
             .iter()
-            .rposition(|told| told.client() == Some(client));
+            .rposition(|told| told.client == *client);
         let is_in_hand = queue.current.is_some();
         match at {
             Some(at) => queue.told + u64::from(is_in_hand) + at as u64 + 1,
-            None if queue.current.as_ref() == Some(&Some(client.clone())) => queue.told + 1,
+            None if queue.current.as_ref() == Some(client) => queue.told + 1,
             None => 0,
         }
     }
@@ -125,9 +110,9 @@ impl Telling<'_> {
         let mut panics = Panics::default();
         let mut queue = self.news.lock();
         while let Some(told) = queue.waiting.pop_front() {
-            queue.current = Some(told.client().cloned());
+            queue.current = Some(told.client.clone());
             drop(queue);
-            panics.catch(|| told.tell());
+            panics.catch(|| told.data.disconnected(told.client, told.reason));
             queue = self.news.lock();
             queue.current = None;
             queue.told += 1;

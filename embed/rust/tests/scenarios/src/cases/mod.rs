@@ -12,6 +12,7 @@ mod printed;
 mod requests_by_hand;
 mod sizes;
 mod threads;
+mod versions;
 
 use crate::Case;
 
@@ -28,6 +29,7 @@ pub fn all() -> Vec<Case> {
         descriptors::CASES,
         sizes::CASES,
         threads::CASES,
+        versions::CASES,
         printed::CASES,
     ]
     .concat()
