@@ -453,10 +453,11 @@ static nb_status finish(struct client *client, const nb_action *action, struct o
 }
 
 /* A request with a null that its interface does not allow: its client ends. */
-static void refuse(const struct client *client, const nb_action *action)
+static void refuse(const struct client *client)
 {
-    post_error(&action->sender, NB_WL_DISPLAY_ERROR_INVALID_METHOD, "an argument is null and may not be");
-    nb_server_finish_request(&server, &client->id);
+    static const char why[] = "an argument is null and may not be";
+    if (nb_server_refuse_request(&server, &client->id, (const uint8_t *)why, sizeof why - 1) != NB_OK)
+        nb_server_kill_client(&server, &client->id);
 }
 
 static void take(struct client *client, const nb_action *action, const nb_argument *arguments)
@@ -465,7 +466,7 @@ static void take(struct client *client, const nb_action *action, const nb_argume
     if (is_logging)
         log_action(client, action);
     if (action->forbidden_null != 0)
-        refuse(client, action);
+        refuse(client);
     else if (finish(client, action, &made) != NB_OK)
         nb_server_kill_client(&server, &client->id);
     else if (action->kind == NB_BIND)

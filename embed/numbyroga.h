@@ -49,13 +49,8 @@
  * Nulls. A peer may send a null string where the table allows none, and a server also a null object. The session hands
  * such a message out, and says so: `forbidden_null` of the action or event is the place of the first such argument,
  * counted from 1, and 0 if there is none. A null string has no bytes, and a null object no data. So look at that number
- * before the arguments. A server's host ends the client:
- *
- *     if (action.forbidden_null != 0) {
- *         nb_server_post_error(&server, &action.sender, NB_WL_DISPLAY_ERROR_INVALID_METHOD, text, length);
- *         nb_server_finish_request(&server, &client);
- *
- * and a client's host ends its session. Descriptors of the message are the host's all the same.
+ * before the arguments. A server's host ends the client by nb_server_refuse_request, and a client's host ends its
+ * session. Descriptors of the message are the host's all the same: close them.
  *
  * Descriptors. Each descriptor has one owner at a time.
  *
@@ -300,11 +295,11 @@ enum {
     NB_FAULT_MISSING_CHILD = 6,       /* a new id names no interface */
     NB_FAULT_ARGUMENT_INTERFACES = 7, /* the interfaces of a message are not those of its object arguments */
     NB_FAULT_OUT_OF_MEMORY = 8,       /* malloc refused */
-    NB_FAULT_CONTRADICTS = 9          /* a row contradicts the table; of nb_server_extend_interfaces alone */
+    NB_FAULT_CONTRADICTS = 9          /* a row contradicts the table; of the calls with nb_extension_fault */
 };
 
 /* What is wrong with whole rows. The last three tell of NB_FAULT_CONTRADICTS at which message the row and the table
- * differ first, and are 0 for other faults. The version of the row itself stands in the row. */
+ * differ first, requests before events, and are 0 for other faults. The version of the row itself stands in the row. */
 typedef struct {
     uint32_t interface, fault; /* as in nb_table_fault */
     uint32_t is_event, opcode; /* whether the message is an event (0 or 1), and its opcode */
@@ -469,33 +464,37 @@ nb_status nb_server_add_interfaces(nb_server *place, const uint8_t *text, size_t
                                    const nb_message_row *messages, size_t message_count,
                                    const nb_argument_row *arguments, size_t argument_count, nb_table_fault *fault);
 
-/* Extends the table by whole rows, of interfaces that it has and of others. So two libraries in one program can each
- * bring the interfaces that they were made for: of two versions of one protocol the table has the longer one, whichever
- * came first. nb_server_merge, below, takes an nb_table.
+/* Adds whole rows, of interfaces that the table has and of others (nb_server_add_interfaces takes only others). So two
+ * libraries in one program can each bring the interfaces that they were made for: of two versions of one protocol the
+ * table has the longer one, whichever came first. nb_server_merge, below, takes an nb_table.
  *
- * An interface whose name the table lacks is added. One that it has is compared: the requests that both have must be
- * the same, and the events. What the row has more is appended, and the version rises if that of the row is greater.
- * Whatever is in the table stays: no number, opcode or message of it changes, and a shorter row changes nothing. Two
- * messages are the same if they have one name, one `since`, arguments of the same kinds, and if these name the same
- * interfaces; an argument that names none agrees with any. Neither is_destructor nor is_nullable is compared.
- * wl_display, wl_registry and wl_callback take no more: NB_FAULT_UNKNOWN_INTERFACE.
+ * An interface whose name the table lacks is added. One that it has is compared: at each opcode that both have, the
+ * requests must be the same, and so the events. What the row has more is appended, and the version rises if that of the
+ * row is greater. Whatever is in the table stays: no number, opcode or message of it changes, and a shorter row changes
+ * nothing. Two messages are the same if they have one name, one `since`, arguments of the same kinds, and if these name
+ * the same interfaces; an argument that names none agrees with any. Neither is_destructor nor is_nullable is compared.
+ * Where they differ, those of the table count: so code that was made for the row may be handed a null, with 0 in
+ * `forbidden_null`, or an object of any interface, where its own row allows none. wl_display, wl_registry and
+ * wl_callback take no more: NB_FAULT_UNKNOWN_INTERFACE.
  *
- * In the rows the number of an interface is its number in the table. The interfaces that are new have the numbers
- * behind the last one of the table, in the order in which they stand among the rows.
+ * In the rows the number of an interface is its number in the table. The interfaces that are new have the numbers after
+ * the last one of the table, in the order in which they stand among the rows. So whoever makes the rows has to know the
+ * numbers: numbyroga-scan -k does, if it is given the files of the session's tables in their order.
  *
- * Everything is read and compared first. If a row contradicts the table (NB_FAULT_CONTRADICTS), or a name stands twice
- * among the rows (NB_FAULT_DUPLICATE_NAME), nothing is changed. Then the new interfaces are added, all of them or none,
- * and then the others are extended, one after the other. So a fault of what a row has more, and NB_OUT_OF_MEMORY, may
- * leave some of them extended: make the same call again, and it goes on.
+ * Everything is read and compared first. A row that names what is not there (NB_FAULT_ROW), one that contradicts the
+ * table (NB_FAULT_CONTRADICTS), and a name that stands twice among the rows (NB_FAULT_DUPLICATE_NAME) change nothing.
+ * If there is none of these, the new interfaces are added, all of them or none, and then the others are extended, one
+ * after the other. A fault of what a row has more leaves the new interfaces added, and those before it extended. So
+ * does NB_OUT_OF_MEMORY: make the same call again then, and it goes on.
  *
  * What was received and is not read yet is read by the longer table. Objects and globals keep their versions.
  *
  * `fault` is written after NB_BAD_TABLE and NB_OUT_OF_MEMORY. Statuses: NB_BAD_TABLE; NB_OUT_OF_MEMORY. */
-nb_status nb_server_extend_interfaces(nb_server *place, const uint8_t *text, size_t text_length,
-                                      const nb_interface_row *interfaces, size_t interface_count,
-                                      const nb_message_row *messages, size_t message_count,
-                                      const nb_argument_row *arguments, size_t argument_count,
-                                      nb_extension_fault *fault);
+nb_status nb_server_merge_interfaces(nb_server *place, const uint8_t *text, size_t text_length,
+                                     const nb_interface_row *interfaces, size_t interface_count,
+                                     const nb_message_row *messages, size_t message_count,
+                                     const nb_argument_row *arguments, size_t argument_count,
+                                     nb_extension_fault *fault);
 
 /* Writes 1 if malloc refused in the last call of the core, which is any call but received, sent, set_room and those
  * that only look; also where the call did its work all the same (a client that could not be told something is killed
@@ -783,12 +782,12 @@ nb_status nb_client_add_interfaces(nb_client *place, const uint8_t *text, size_t
                                    const nb_message_row *messages, size_t message_count,
                                    const nb_argument_row *arguments, size_t argument_count, nb_table_fault *fault);
 
-/* Extends the table by whole rows, as nb_server_extend_interfaces. */
-nb_status nb_client_extend_interfaces(nb_client *place, const uint8_t *text, size_t text_length,
-                                      const nb_interface_row *interfaces, size_t interface_count,
-                                      const nb_message_row *messages, size_t message_count,
-                                      const nb_argument_row *arguments, size_t argument_count,
-                                      nb_extension_fault *fault);
+/* Extends the table by whole rows, as nb_server_merge_interfaces. */
+nb_status nb_client_merge_interfaces(nb_client *place, const uint8_t *text, size_t text_length,
+                                     const nb_interface_row *interfaces, size_t interface_count,
+                                     const nb_message_row *messages, size_t message_count,
+                                     const nb_argument_row *arguments, size_t argument_count,
+                                     nb_extension_fault *fault);
 
 /* Writes 1 if malloc refused in the last call of the core, as nb_server_memory_refused, and else 0. */
 nb_status nb_client_memory_refused(nb_client *place, uint32_t *is_refused);
@@ -919,7 +918,7 @@ static inline nb_status nb_server_start(nb_server *place, const nb_table *table,
                          table->messages, table->message_count, table->arguments, table->argument_count, fault);
 }
 
-/* nb_server_add_interfaces with a table. */
+/* nb_server_add_interfaces with a table: its interfaces have to be new. */
 static inline nb_status nb_server_extend(nb_server *place, const nb_table *table, nb_table_fault *fault)
 {
     return nb_server_add_interfaces(place, table->text, table->text_length, table->interfaces, table->interface_count,
@@ -927,12 +926,12 @@ static inline nb_status nb_server_extend(nb_server *place, const nb_table *table
                                     fault);
 }
 
-/* nb_server_extend_interfaces with a table. */
+/* nb_server_merge_interfaces with a table. */
 static inline nb_status nb_server_merge(nb_server *place, const nb_table *table, nb_extension_fault *fault)
 {
-    return nb_server_extend_interfaces(place, table->text, table->text_length, table->interfaces,
-                                       table->interface_count, table->messages, table->message_count, table->arguments,
-                                       table->argument_count, fault);
+    return nb_server_merge_interfaces(place, table->text, table->text_length, table->interfaces,
+                                      table->interface_count, table->messages, table->message_count, table->arguments,
+                                      table->argument_count, fault);
 }
 
 /* nb_client_connect with a table. */
@@ -950,12 +949,12 @@ static inline nb_status nb_client_extend(nb_client *place, const nb_table *table
                                     fault);
 }
 
-/* nb_client_extend_interfaces with a table. */
+/* nb_client_merge_interfaces with a table. */
 static inline nb_status nb_client_merge(nb_client *place, const nb_table *table, nb_extension_fault *fault)
 {
-    return nb_client_extend_interfaces(place, table->text, table->text_length, table->interfaces,
-                                       table->interface_count, table->messages, table->message_count, table->arguments,
-                                       table->argument_count, fault);
+    return nb_client_merge_interfaces(place, table->text, table->text_length, table->interfaces,
+                                      table->interface_count, table->messages, table->message_count, table->arguments,
+                                      table->argument_count, fault);
 }
 
 /* nb_server_create_global without data, in group 1 and hidden from nobody: each client of nb_serve_client sees it. */
@@ -968,6 +967,20 @@ static inline nb_status nb_offer(nb_server *place, uint32_t interface, uint32_t 
 static inline nb_status nb_serve_client(nb_server *place, uint64_t data, nb_client_id *client)
 {
     return nb_server_insert_client(place, data, 1, NULL, 0, client);
+}
+
+/* Refuses the request that is open, and finishes it: its client is told by wl_display.error of its wl_display, with the
+ * code 1 (invalid_method) and this message, and killed. Descriptors of the request stay yours.
+ *
+ * Statuses: those of nb_server_post_error and nb_server_finish_request; NB_INVALID_ID (the client is not there). */
+static inline nb_status nb_server_refuse_request(nb_server *place, const nb_client_id *client, const uint8_t *message,
+                                                 size_t length)
+{
+    nb_object_id display;
+    nb_status status = nb_server_object_for_protocol_id(place, client, NB_INTERFACE_DISPLAY, 1, &display);
+    if (status == NB_OK)
+        status = nb_server_post_error(place, &display, 1, message, length);
+    return status == NB_OK ? nb_server_finish_request(place, client) : status;
 }
 
 /* The null object. */

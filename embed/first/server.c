@@ -46,9 +46,7 @@ static nb_status finish(int i, const nb_action *action, const nb_argument *argum
         }
     if (action->forbidden_null != 0) { /* its interface allows no null there: the client ends */
         static const char why[] = "an argument is null and may not be";
-        nb_server_post_error(&server, &action->sender, NB_WL_DISPLAY_ERROR_INVALID_METHOD, (const uint8_t *)why,
-                             sizeof why - 1);
-        return nb_server_finish_request(&server, &clients[i]);
+        return nb_server_refuse_request(&server, &clients[i], (const uint8_t *)why, sizeof why - 1);
     }
     if (action->kind == NB_BIND) {
         nb_status status = nb_server_finish_bind(&server, &clients[i], 0, &kept);

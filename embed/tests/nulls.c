@@ -121,14 +121,13 @@ static void refused(void)
     HOLDS(action.opcode == NB_QUAD_REQUEST_GIVE && action.arguments == 3 && action.forbidden_null == 1);
     HOLDS(arguments[0].kind == NB_NULL_STRING && arguments[0].at == 0 && arguments[0].length == 0);
     HOLDS(arguments[1].kind == NB_ARRAY && arguments[2].kind == NB_DESCRIPTOR && arguments[2].value == 61);
-    OK(nb_server_post_error(&server, &action.sender, 1, (const uint8_t *)why, strlen(why)));
-    OK(nb_server_finish_request(&server, &client));
+    OK(nb_server_refuse_request(&server, &client, (const uint8_t *)why, strlen(why)));
     HOLDS(nb_same_object(&action.sender, &object));
     IS(next_action(), NB_CLOSED);
     nb_gone gone;
     OK(nb_server_cleanup(&server));
     OK(nb_server_next_gone(&server, &gone, bytes, sizeof bytes, descriptors, NB_MOST_DESCRIPTORS));
-    put(1, 0, "uus", 3, 1, why);
+    put(1, 0, "uus", 1, 1, why);
     HOLDS(is_wire(bytes, gone.waiting.bytes));
     int32_t descriptor;
     IS(nb_server_next_dropped(&server, &descriptor), NB_WOULD_BLOCK);

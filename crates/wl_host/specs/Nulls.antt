@@ -1,6 +1,6 @@
 -- Nulls that the table forbids: an argument is a null string or a null object, and its place in the signature allows no null.
 use Rattle.std.specs.List.{position, zip}
-use Rattle.std.specs.Prelude.{◌≡◌, ◌<◌, ℕ, ◌+◌, ◌==◌, ◌&&◌, List, [], Bool, true, false, not, IsSomeAnd, IsTrue, Option, None, Some, slice_get}
+use Rattle.std.specs.Prelude.{◌≡◌, ◌↔◌, ◌<◌, ℕ, ◌+◌, ◌==◌, ◌&&◌, List, [], Bool, true, false, not, IsSomeAnd, IsTrue, Option, None, Some, slice_get}
 use Rattle.wl_wire.specs.Table.{MessageRow}
 use Rattle.wl_wire.specs.declared.argument.AllowNull.TheVariants.{Yes}
 use Rattle.wl_wire.specs.declared.argument.Argument.{Argument}
@@ -55,5 +55,5 @@ IsFirstAt flat signature args n =
 
 -- what such a number says: 0 if no argument is a null that is forbidden, and else which is the first
 pub record TellsNull {Id : Type 0} (flat : Id → FlatObjectId) (signature : List ArgumentType) (args : List (Argument Id Token)) (told : ℕ) : Type 0 where
-  pub none : told ≡ 0 → (n : ℕ) → ¬ (IsForbiddenAt flat signature args n)
+  pub none : (told ≡ 0) ↔ ((n : ℕ) → ¬ (IsForbiddenAt flat signature args n))
   pub first : (n : ℕ) → IsFirstAt flat signature args n → told ≡ count_number (n + 1)

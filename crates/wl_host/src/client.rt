@@ -41,9 +41,7 @@ use std::fmt;
 use std::marker::Model;
 use wl_client::{Backend, ObjectId};
 use wl_link::Mailbox;
-use wl_wire::{
-    Interface, InterfaceId, Message, MessageDesc, Protocol, TableError, Token,
-};
+use wl_wire::{Interface, InterfaceId, Message, MessageDesc, Protocol, TableError, Token};
 
 /// The core of a client's session: the session over a mailbox. The program's data of an object are a number.
 pub type Core = Backend<Mailbox, u64>;

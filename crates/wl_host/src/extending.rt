@@ -11,8 +11,8 @@ use crate::flat::count_number;
 use crate::rows::{TableFault, fault};
 use std::alloc::Global;
 use wl_wire::{
-    ANONYMOUS_INTERFACE, ArgumentType, Interface, InterfaceId, MessageDesc, OutOfMemory,
-    Protocol, TableError,
+    ANONYMOUS_INTERFACE, ArgumentType, Interface, InterfaceId, MessageDesc, OutOfMemory, Protocol,
+    TableError,
 };
 
 /// Why whole rows were refused, or only some of them taken.
@@ -258,12 +258,7 @@ impl Parts {
     }
 
     /// Takes in what the row at that place has.
-    fn push(
-        &mut self,
-        protocol: &Protocol,
-        at: usize,
-        said: Interface,
-    ) -> Result<(), OutOfMemory>
+    fn push(&mut self, protocol: &Protocol, at: usize, said: Interface) -> Result<(), OutOfMemory>
         ensures { OnOk result (parts_seen self.new ≡ joined (parts_seen self.old) (part_of protocol.now at (interface_row said))) }
     {
         let Some(id) = place_of(protocol, &said.name) else {
@@ -288,11 +283,7 @@ impl Parts {
 }
 
 /// Takes the rows apart.
-fn parts_of(
-    alloc: Global,
-    protocol: &Protocol,
-    rows: Vec<Interface>,
-) -> Result<Parts, OutOfMemory>
+fn parts_of(alloc: Global, protocol: &Protocol, rows: Vec<Interface>) -> Result<Parts, OutOfMemory>
     ensures { IfOk result (λ parts. parts_seen parts ≡ parts_of protocol.now (interface_rows rows.items)) }
 {
     let mut parts = Parts::new(alloc);

@@ -48,9 +48,7 @@ use std::fmt;
 use std::marker::Model;
 use wl_link::Mailbox;
 use wl_server::{Action, Backend, ClientId, GlobalHandler, GlobalId, Note, ObjectId};
-use wl_wire::{
-    Interface, InterfaceId, Message, MessageDesc, Protocol, TableError, Token,
-};
+use wl_wire::{Interface, InterfaceId, Message, MessageDesc, Protocol, TableError, Token};
 
 /// How far the buffers of a new client may grow at first, in bytes. The core's 4096 are so few that a client which is busy for
 /// a moment is killed.
@@ -220,10 +218,11 @@ impl Server {
     /// In the rows the number of an interface is that of the table. The new ones have the numbers after the last one of the
     /// table, in their order among the rows.
     ///
-    /// All rows are read and compared before anything changes. `fault::CONTRADICTS` names the first message that differs, of
-    /// the first row that has one; `fault::DUPLICATE_NAME` a name that stands twice among the rows. Then the table is as it
-    /// was. Then the new interfaces are added, all of them or none, and the others are extended, one after the other. A fault
-    /// of what a row has more, or `fault::OUT_OF_MEMORY`, leaves those before it extended: the same call again goes on.
+    /// All rows are read and compared before anything changes. `fault::ROW` names a row that names what is not there,
+    /// `fault::CONTRADICTS` the first message that differs, of the first row that has one, and `fault::DUPLICATE_NAME` a name
+    /// that stands twice among the rows: the table is as it was. If there is none of these, the new interfaces are added, all
+    /// of them or none, and the others are extended, one after the other. A fault of what a row has more leaves the new ones
+    /// added, and those before it extended. So does `fault::OUT_OF_MEMORY`, and then the same call again goes on.
     pub fn extend_interfaces(&mut self, rows: &Rows) -> Result<(), ExtensionFault>
         ensures call { ExtendsInterfaces rows.now self.old.core result self.new.core }
         ensures beside { self.new ≡ record self.old { core = self.new.core } }

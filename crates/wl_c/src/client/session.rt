@@ -101,7 +101,7 @@ pub extern "C" fn nb_client_add_interfaces(
 /// Extends the table by whole rows: those of interfaces that it has are compared, and what they have more is appended; the others
 /// are added. Where a row contradicts the table, `fault` says at which message, and the table is as before.
 #[unsafe(no_mangle)]
-pub extern "C" fn nb_client_extend_interfaces(
+pub extern "C" fn nb_client_merge_interfaces(
     alloc: Global,
     place: &mut ClientPlace,
     text: &[u8],

@@ -107,7 +107,7 @@ pub extern "C" fn nb_server_add_interfaces(
 /// Extends the table by whole rows: those of interfaces that it has are compared, and what they have more is appended; the others
 /// are added. Where a row contradicts the table, `fault` says at which message, and the table is as before.
 #[unsafe(no_mangle)]
-pub extern "C" fn nb_server_extend_interfaces(
+pub extern "C" fn nb_server_merge_interfaces(
     alloc: Global,
     place: &mut ServerPlace,
     text: &[u8],

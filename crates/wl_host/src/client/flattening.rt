@@ -76,7 +76,10 @@ pub fn made_and_ends(core: &Core) -> (ObjectId, bool)
 fn forbidden_null_of(core: &Core, event: &Message<ObjectId, Token>) -> u32
     ensures { result ≡ (flat_event core.now (session_content event.now)).forbidden_null }
 {
-    match core.protocol().event(event.sender_id.interface(), event.opcode) {
+    match core
+        .protocol()
+        .event(event.sender_id.interface(), event.opcode)
+    {
         Some(desc) => forbidden_null(core, desc.signature.as_slice(), event.args.as_slice()),
         None => 0,
     }

@@ -41,8 +41,8 @@ impl<T: Transport + Drop, U: Drop, G: GlobalHandler<C> + Drop, C: Drop> Backend<
     /// raises its version, as `Protocol::extend_row` does. What is there keeps its opcodes, no client is told anything, and
     /// nothing else of the server changes: a global keeps its version. After an error the table is as it was.
     ///
-    /// What was received and is not read yet is read by the longer row: a request whose opcode was outside the row, for which
-    /// its client would have been killed, is then handed out.
+    /// What was received and is not read yet is read by the longer row: a request whose opcode was outside the row, and so
+    /// malformed, is then judged as any other. If its `since` is above its object's version, it still ends its client.
     pub fn extend_interface(
         &mut self,
         interface: InterfaceId,

@@ -569,7 +569,7 @@ unsafe extern "C" {
         fault: &mut nb_table_fault,
     ) -> nb_status;
     /// Extends the table by whole rows.
-    pub fn nb_server_extend_interfaces(
+    pub fn nb_server_merge_interfaces(
         place: &mut nb_server,
         text: *const u8,
         text_length: usize,
@@ -851,7 +851,7 @@ unsafe extern "C" {
         fault: &mut nb_table_fault,
     ) -> nb_status;
     /// Extends the table by whole rows.
-    pub fn nb_client_extend_interfaces(
+    pub fn nb_client_merge_interfaces(
         place: &mut nb_client,
         text: *const u8,
         text_length: usize,

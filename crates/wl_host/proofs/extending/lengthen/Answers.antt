@@ -6,7 +6,7 @@ use Rattle.wl_host.proofs.extending.lengthen.Goals as goal
 pub returns : goal.returns
 returns g c =
     let none : into_iter_items c.loop-more.more-iterator ≡ [] =
-        nil_from_length _ (sym c.loop-more.more-iterator.rest.ok.0 ∙ c.in-None.ensures.steps.0) in
+    nil_from_length _ (sym c.loop-more.more-iterator.rest.ok.0 ∙ c.in-None.ensures.steps.0) in
     c.loop-more.invariant _ _ (rw none (refl, refl))
 
 pub returns-in-Err : goal.returns-in-Err

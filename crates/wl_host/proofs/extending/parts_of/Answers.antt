@@ -8,5 +8,5 @@ use Rattle.wl_host.proofs.extending.parts_of.Goals as goal
 pub returns : goal.returns
 returns c =
     let none : into_iter_items (enumerate_source c.loop-at.at-iterator) ≡ [] =
-        nil_from_length _ (sym (enumerate_source c.loop-at.at-iterator).rest.ok.0 ∙ c.in-None.ensures.steps.0.0) in
+    nil_from_length _ (sym (enumerate_source c.loop-at.at-iterator).rest.ok.0 ∙ c.in-None.ensures.steps.0.0) in
     sym (c.loop-at.invariant ∙ parts_end _ _ _ _ none)

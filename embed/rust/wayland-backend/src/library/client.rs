@@ -120,7 +120,7 @@ impl Client {
         let mut fault = sys::nb_extension_fault::default();
         // SAFETY: each slice is lent with its own length.
         let status = unsafe {
-            sys::nb_client_extend_interfaces(
+            sys::nb_client_merge_interfaces(
                 &mut self.place,
                 rows.text.as_ptr(),
                 rows.text.len(),

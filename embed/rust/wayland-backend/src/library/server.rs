@@ -180,7 +180,7 @@ impl Server {
         let mut fault = sys::nb_extension_fault::default();
         // SAFETY: each slice is lent with its own length.
         let status = unsafe {
-            sys::nb_server_extend_interfaces(
+            sys::nb_server_merge_interfaces(
                 &mut self.place,
                 rows.text.as_ptr(),
                 rows.text.len(),
