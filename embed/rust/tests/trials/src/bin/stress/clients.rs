@@ -55,7 +55,7 @@ pub enum Fate {
     /// It left when it wanted to.
     Left,
     /// The server ended it.
-    Ended(#[allow(dead_code)] String),
+    Ended(String),
 }
 
 struct Failed(String);

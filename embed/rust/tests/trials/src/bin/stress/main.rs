@@ -98,7 +98,7 @@ fn check_clients(checks: &mut Checks, lived: &Lived, shared: &Shared) {
         &format!("clients died in {} ways", lived.ways.len()),
         lived.ways.len() == deaths::WAYS.len(),
     );
-    let (mut whole, mut ended, mut got) = (0, 0, clients::Got::default());
+    let (mut whole, mut ended, mut got) = (0, Vec::new(), clients::Got::default());
     for fate in &lived.fates {
         match fate {
             Fate::Whole(it) => {
@@ -106,17 +106,20 @@ fn check_clients(checks: &mut Checks, lived: &Lived, shared: &Shared) {
                 got.add(it);
             }
             Fate::Left => {}
-            Fate::Ended(_) => ended += 1,
+            Fate::Ended(why) => ended.push(why),
         }
     }
     checks.check(&format!("{whole} clients of wayland-client lived to their end"), whole > 0);
     checks.equal("nothing that they got was wrong", &got.wrong, &Vec::new());
     checks.check("they got keymaps and offers", got.keymaps > 0 && got.offers > 0);
-    let kills = shared.counts.kills.load(SeqCst);
+    let (kills, count) = (shared.counts.kills.load(SeqCst), ended.len());
     checks.check(
-        &format!("{ended} were ended by the server, of {kills}"),
-        ended <= kills && kills > 0,
+        &format!("{count} were ended by the server, of {kills} that it killed"),
+        count <= kills && kills > 0,
     );
+    if count > kills {
+        println!("       {ended:?}");
+    }
 }
 
 fn main() -> ExitCode {

@@ -8,10 +8,11 @@ use std::time::{Duration, Instant};
 use trials::process::file;
 use wayland_server::backend::DisconnectReason;
 use wayland_server::protocol::wl_callback::WlCallback;
+use wayland_server::protocol::wl_data_device::WlDataDevice;
 use wayland_server::protocol::wl_data_offer::WlDataOffer;
 use wayland_server::protocol::wl_keyboard;
 use wayland_server::protocol::wl_output::WlOutput;
-use wayland_server::{DisplayHandle, Resource};
+use wayland_server::{Client, DisplayHandle, Resource};
 
 use crate::server::{App, Own, Shared, When};
 
@@ -19,14 +20,22 @@ use crate::server::{App, Own, Shared, When};
 pub const KEYMAP: &str = "a keymap";
 
 /// Of so many offers one kills its client.
-const OFFERS_FOR_A_KILL: usize = 300;
+const OFFERS_FOR_A_KILL: usize = 150;
+
+/// Every other client is killed by an error.
+fn kill(handle: &DisplayHandle, device: &WlDataDevice, client: &Client, number: usize) {
+    if number % 2 == 0 {
+        handle.backend_handle().kill_client(client.id(), DisconnectReason::ConnectionClosed);
+    } else {
+        device.post_error(0u32, "an error");
+    }
+}
 
 /// Each device gets an offer, whose type is a number that grows. Now and then a client is killed.
 pub fn offers(handle: &mut DisplayHandle, shared: &Arc<Shared>) {
     let all = shared.devices.lock().unwrap().clone();
     for device in &all {
         let Some(client) = device.client() else { continue };
-        let count = shared.counts.made.load(SeqCst);
         let made = client.create_resource::<WlDataOffer, Own, App>(
             handle,
             device.version(),
@@ -37,15 +46,13 @@ pub fn offers(handle: &mut DisplayHandle, shared: &Arc<Shared>) {
             shared.counts.made.fetch_sub(1, SeqCst);
             continue;
         };
+        let number = shared.counts.offers.fetch_add(1, SeqCst) + 1;
         device.data_offer(&offer);
-        offer.offer(count.to_string());
+        offer.offer(number.to_string());
         device.selection(Some(&offer));
-        if count % OFFERS_FOR_A_KILL == 0 {
+        if number % OFFERS_FOR_A_KILL == 0 {
             shared.counts.kills.fetch_add(1, SeqCst);
-            handle.backend_handle().kill_client(client.id(), DisconnectReason::ConnectionClosed);
-        } else if count % OFFERS_FOR_A_KILL == 1 {
-            shared.counts.kills.fetch_add(1, SeqCst);
-            device.post_error(0u32, "an error");
+            kill(handle, device, &client, number / OFFERS_FOR_A_KILL);
         }
     }
     shared.devices.lock().unwrap().retain(Resource::is_alive);

@@ -48,6 +48,7 @@ pub struct Counts {
     pub destroyed: AtomicUsize,
     pub told_twice: AtomicUsize,
     pub after_end: AtomicUsize,
+    pub offers: AtomicUsize,
     pub kills: AtomicUsize,
 }
 
