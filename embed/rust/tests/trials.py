@@ -80,7 +80,7 @@ class Desktop:
         self.socket, self.log = f"{self.folder}/wayland-0", f"{self.folder}/log"
         with open(self.log, "wb") as log:
             self.process = subprocess.Popen([path, self.socket], stdin=subprocess.DEVNULL, stdout=log, stderr=log, env=environment)
-        self.is_there = wait_for(lambda: os.path.exists(self.socket), self.process)
+        self.is_there = wait_for(lambda: self.said().startswith("ready\n"), self.process)
 
     def said(self):
         with open(self.log, encoding="utf-8", errors="replace") as log:
@@ -268,7 +268,7 @@ def answers(path):
 
 def fuzz(crates):
     """Streams that are changed anywhere, to the desktop over the drop-in."""
-    count = 8000 if crates.is_whole else 600
+    count = 5000 if crates.is_whole else 600
     desktop = Desktop(program(crates, "ours", "desktop"), {**os.environ, "RUST_BACKTRACE": "0"})
     try:
         if not check("the desktop starts", desktop.is_there):

@@ -4,8 +4,8 @@
 //! desktop SOCKET
 //! ```
 //!
-//! It prints each request that comes. To a client's first surface that is shown it does what a user might: moves the pointer, presses
-//! keys, clicks, drags and drops. Then it answers some frames, and closes the surface.
+//! It prints that it is ready, and then each request that comes. To a client's first surface that is shown it does what a user
+//! might: moves the pointer, presses keys, clicks, drags and drops. Then it answers some frames, and closes the surface.
 
 mod input;
 mod requests;
@@ -74,6 +74,7 @@ fn main() {
     let mut display: Display<Desktop> = Display::new().expect("a display");
     let mut handle = display.handle();
     create_globals(&handle);
+    println!("ready");
     loop {
         wait_for(&[&socket, &display], -1);
         while let Ok(Some(stream)) = socket.accept() {

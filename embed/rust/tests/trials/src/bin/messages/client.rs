@@ -115,9 +115,20 @@ impl Objects<ObjectId> for OfClient<'_> {
     }
 }
 
+/// The path of a socket is there before the server listens.
+fn connected(path: &str) -> UnixStream {
+    for _ in 0..500 {
+        if let Ok(socket) = UnixStream::connect(path) {
+            return socket;
+        }
+        std::thread::sleep(std::time::Duration::from_millis(20));
+    }
+    panic!("no server listens at {path}");
+}
+
 impl Client {
     fn new(path: &str) -> Self {
-        let backend = Backend::connect(UnixStream::connect(path).unwrap()).unwrap();
+        let backend = Backend::connect(connected(path)).unwrap();
         let told = Arc::<Mutex<Told>>::default();
         let get = wayland_backend::message!(
             backend.display_id(),
