@@ -18,7 +18,7 @@ pub trait Objects<Id> {
     fn null(&self) -> Id;
     /// An object of this interface; `None` stands for an interface that a message leaves open.
     fn with(&self, interface: Option<&'static Interface>) -> Option<Id>;
-    fn new(&mut self, interface: &'static Interface) -> Id;
+    fn create(&mut self, interface: &'static Interface) -> Id;
 }
 
 pub struct Made<Id> {
@@ -40,7 +40,7 @@ pub fn made<Id>(
             ArgumentType::Object(null) => {
                 object(interfaces.next().copied(), *null, round, objects)?
             }
-            ArgumentType::NewId => Argument::NewId(objects.new(message.child_interface?)),
+            ArgumentType::NewId => Argument::NewId(objects.create(message.child_interface?)),
             ArgumentType::Fd => {
                 made.files.push(file(&format!("{} {round} {place}", message.name)));
                 Argument::Fd(made.files.last()?.as_raw_fd())

@@ -110,7 +110,7 @@ impl Objects<ObjectId> for OfClient<'_> {
         Some(self.client.bound[place][0].clone())
     }
 
-    fn new(&mut self, _: &'static Interface) -> ObjectId {
+    fn create(&mut self, _: &'static Interface) -> ObjectId {
         ObjectId::null()
     }
 }

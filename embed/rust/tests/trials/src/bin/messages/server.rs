@@ -124,7 +124,7 @@ impl Objects<ObjectId> for OfServer<'_> {
         Some(self.server.state.bound[place][0].clone())
     }
 
-    fn new(&mut self, interface: &'static Interface) -> ObjectId {
+    fn create(&mut self, interface: &'static Interface) -> ObjectId {
         let handle = self.server.backend.handle();
         let version =
             handle.object_info(self.sender.clone()).unwrap().version.min(interface.version);

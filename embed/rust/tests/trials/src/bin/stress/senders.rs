@@ -24,10 +24,10 @@ const OFFERS_FOR_A_KILL: usize = 150;
 
 /// Every other client is killed by an error.
 fn kill(handle: &DisplayHandle, device: &WlDataDevice, client: &Client, number: usize) {
-    if number % 2 == 0 {
-        handle.backend_handle().kill_client(client.id(), DisconnectReason::ConnectionClosed);
-    } else {
+    if number % 2 == 1 {
         device.post_error(0u32, "an error");
+    } else {
+        handle.backend_handle().kill_client(client.id(), DisconnectReason::ConnectionClosed);
     }
 }
 
@@ -50,9 +50,9 @@ pub fn offers(handle: &mut DisplayHandle, shared: &Arc<Shared>) {
         device.data_offer(&offer);
         offer.offer(number.to_string());
         device.selection(Some(&offer));
-        if number % OFFERS_FOR_A_KILL == 0 {
-            shared.counts.kills.fetch_add(1, SeqCst);
-            kill(handle, device, &client, number / OFFERS_FOR_A_KILL);
+        if number % OFFERS_FOR_A_KILL == 1 {
+            let kills = shared.counts.kills.fetch_add(1, SeqCst);
+            kill(handle, device, &client, kills);
         }
     }
     shared.devices.lock().unwrap().retain(Resource::is_alive);
