@@ -1,22 +1,24 @@
 //! A small Wayland compositor over `wayland-server`: it draws nothing, and lets clients believe that they are shown.
 //!
 //! ```text
-//! compositor [-v] SOCKET
+//! compositor [-v] [-k] SOCKET
 //! ```
 //!
-//! `SOCKET` is a path, or a name in `$XDG_RUNTIME_DIR`. With `-v` it says who comes, binds and goes. Surfaces get their
-//! configure events, frame callbacks and buffers back, the surface that was mapped last has the keyboard, and what one
-//! client copies another one can paste. That is enough for `wayland-info`, `weston-simple-shm`, `weston-terminal`,
-//! `wl-copy` and `wl-paste`.
+//! `SOCKET` is a path, or a name in `$XDG_RUNTIME_DIR`. With `-v` it says who comes, binds and goes. With `-k` it reads
+//! numbers of keys, one a line, from the standard input, and presses them (`linux/input-event-codes.h` has their numbers).
+//! Surfaces get their configure events, frame callbacks and buffers back, the surface that was mapped last has the
+//! keyboard, and what one client copies another one can paste. That is enough for `wayland-info`, `weston-simple-shm`,
+//! `weston-terminal`, `wl-copy` and `wl-paste`.
 
 use std::{
     fs::File,
-    io::Write,
+    io::{self, Write},
     os::fd::AsFd,
     sync::{
         atomic::{AtomicBool, Ordering},
-        Arc, Mutex,
+        mpsc, Arc, Mutex,
     },
+    thread,
     time::Instant,
 };
 
@@ -203,6 +205,18 @@ impl Compositor {
         if is_of_client_of(keyboard, focus) {
             keyboard.enter(serial, focus, Vec::new());
             keyboard.modifiers(serial, 0, 0, 0, 0);
+        }
+    }
+
+    /// The surface that has the keyboard is told that a key was pressed and released.
+    fn press(&mut self, key: u32) {
+        let Some(focus) = self.focus.clone() else { return };
+        let time = self.begin.elapsed().as_millis() as u32;
+        for state in [wl_keyboard::KeyState::Pressed, wl_keyboard::KeyState::Released] {
+            let serial = self.next_serial();
+            for keyboard in self.keyboards.iter().filter(|it| is_of_client_of(*it, &focus)) {
+                keyboard.key(serial, time, key, state);
+            }
         }
     }
 
@@ -472,14 +486,30 @@ requests! { WlDataOffer, WlDataSource, |state, offer, request, source, dh, init|
     }
 }}
 
+/// The numbers that the standard input says.
+fn numbers() -> mpsc::Receiver<u32> {
+    let (numbers, said) = mpsc::channel();
+    thread::spawn(move || {
+        for line in io::stdin().lines().map_while(Result::ok) {
+            let _ = line.trim().parse().map(|number| numbers.send(number));
+        }
+    });
+    said
+}
+
+/// Takes an option out of the arguments. Answers whether it was there.
+fn take_option(arguments: &mut Vec<String>, option: &str) -> bool {
+    let count = arguments.len();
+    arguments.retain(|it| it != option);
+    arguments.len() < count
+}
+
 fn main() {
     let mut arguments: Vec<String> = std::env::args().skip(1).collect();
-    if arguments.first().is_some_and(|it| it == "-v") {
-        arguments.remove(0);
-        IS_LOGGING.store(true, Ordering::Relaxed);
-    }
+    IS_LOGGING.store(take_option(&mut arguments, "-v"), Ordering::Relaxed);
+    let keys = take_option(&mut arguments, "-k").then(numbers);
     let [name] = arguments.as_slice() else {
-        eprintln!("usage: compositor [-v] SOCKET");
+        eprintln!("usage: compositor [-v] [-k] SOCKET");
         std::process::exit(2);
     };
     let socket = ListeningSocket::bind(name).expect("the socket can be bound");
@@ -503,6 +533,9 @@ fn main() {
             }
         }
         display.dispatch_clients(&mut compositor).expect("clients can be read");
+        for key in keys.iter().flat_map(|keys| keys.try_iter()) {
+            compositor.press(key);
+        }
         if last_frame.elapsed().as_millis() >= FRAME_MILLISECONDS as u128 {
             last_frame = Instant::now();
             compositor.show_frame();

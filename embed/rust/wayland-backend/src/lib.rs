@@ -15,21 +15,10 @@
 //! `WAYLAND_DEBUG=1`, or `client` or `server` in place of the 1, each message is printed to stderr.
 
 #![deny(unsafe_code)]
+#![deny(unsafe_op_in_unsafe_fn)]
 #![warn(missing_docs, missing_debug_implementations)]
 // `impl_downcast` writes such bounds.
 #![allow(clippy::multiple_bound_locations)]
-
-#[cfg(any(feature = "client_system", feature = "server_system"))]
-compile_error!(
-    "The features `client_system` and `server_system` of wayland-backend are for programs that share pointers with \
-     libwayland. The sessions of Numbyroga have none, so use the original crate there."
-);
-
-#[cfg(feature = "rwh_06")]
-compile_error!(
-    "The feature `rwh_06` of wayland-backend makes a window handle out of libwayland's pointer to the display. The \
-     sessions of Numbyroga have none, so use the original crate with `client_system` there."
-);
 
 #[cfg(feature = "log")]
 #[allow(unused_imports)]
@@ -73,6 +62,8 @@ mod data;
 mod debug;
 #[allow(unsafe_code)]
 mod library;
+#[cfg(not(all(feature = "client_system", feature = "server_system")))]
+mod mark;
 mod panics;
 mod socket;
 mod table;
@@ -81,6 +72,11 @@ mod types;
 pub mod client;
 pub mod protocol;
 pub mod server;
+
+// The functions that are unsafe in the original are declared so. None of them does what is unsafe.
+#[cfg(any(feature = "client_system", feature = "server_system"))]
+#[allow(unsafe_code)]
+pub mod sys;
 
 /// The two sides under the names that they have beside libwayland's in the original.
 pub mod rs {

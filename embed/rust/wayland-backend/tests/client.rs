@@ -1041,6 +1041,8 @@ fn an_object_keeps_the_static_that_it_was_made_with() {
     ));
 }
 
+// Where objects have pointers, an id of another connection is refused (`tests/pointers`).
+#[cfg(not(feature = "client_system"))]
 #[test]
 fn the_interface_of_an_object_is_its_own_whoever_asks() {
     static SAME_PART: Interface = interface("part", &[], &[]);

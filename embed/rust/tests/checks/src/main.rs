@@ -2,6 +2,7 @@
 //!
 //!     checks [TOPIC ..]
 
+mod counted;
 mod pair;
 #[allow(dead_code)]
 #[path = "../../scenarios/src/table.rs"]
@@ -11,32 +12,7 @@ mod topics;
 use std::panic::{catch_unwind, AssertUnwindSafe};
 use std::process::ExitCode;
 
-/// Counts what held and what did not.
-#[derive(Default)]
-pub struct Checks {
-    passed: u32,
-    failed: u32,
-}
-
-impl Checks {
-    pub fn check(&mut self, what: &str, holds: bool) {
-        println!("{} {what}", if holds { "ok    " } else { "FAILED" });
-        if holds {
-            self.passed += 1;
-        } else {
-            self.failed += 1;
-        }
-    }
-
-    /// Checks that two values are equal, and shows them if not.
-    pub fn equal<T: PartialEq + std::fmt::Debug>(&mut self, what: &str, found: T, wanted: T) {
-        let holds = found == wanted;
-        self.check(what, holds);
-        if !holds {
-            println!("       found {found:?}, wanted {wanted:?}");
-        }
-    }
-}
+pub use counted::Checks;
 
 /// Whether it panics.
 pub fn panics(call: impl FnOnce()) -> bool {
@@ -60,6 +36,5 @@ fn main() -> ExitCode {
             checks.check(&format!("{topic} panics: {text}"), false);
         }
     }
-    println!("{} passed, {} failed", checks.passed, checks.failed);
-    ExitCode::from(u8::from(checks.failed > 0))
+    checks.end()
 }

@@ -12,7 +12,7 @@ use super::session::{Failure, Leftovers, Refused, Session};
 use super::{InvalidId, ObjectData, ObjectId, WaylandError};
 use crate::debug;
 use crate::library::{Sent, Status};
-use crate::protocol::{Interface, Message, ObjectInfo};
+use crate::protocol::{Argument, Interface, Message, ObjectInfo};
 
 /// A connection to a server.
 pub(super) struct Connection {
@@ -65,11 +65,32 @@ impl Connection {
         self.lock().error()
     }
 
+    /// The error says that the id is another connection's. Without marks nobody can tell.
+    #[inline]
+    fn check(&self, id: &ObjectId) -> Result<(), InvalidId> {
+        match id.mark() == self.display.mark() {
+            true => Ok(()),
+            false => Err(InvalidId),
+        }
+    }
+
+    /// The same for the sender of a request, and for the objects among its arguments that are not null.
+    #[inline]
+    fn check_all(&self, message: &Message<ObjectId, RawFd>) -> Result<(), InvalidId> {
+        self.check(&message.sender_id)?;
+        message.args.iter().try_for_each(|argument| match argument {
+            Argument::Object(id) if !id.is_null() => self.check(id),
+            _ => Ok(()),
+        })
+    }
+
     pub(super) fn info(&self, id: &ObjectId) -> Result<ObjectInfo, InvalidId> {
+        self.check(id)?;
         self.lock().info(id).ok_or(InvalidId)
     }
 
     pub(super) fn get_data(&self, id: &ObjectId) -> Result<Arc<dyn ObjectData>, InvalidId> {
+        self.check(id)?;
         self.lock().get_data(id).ok_or(InvalidId)
     }
 
@@ -78,12 +99,14 @@ impl Connection {
         id: &ObjectId,
         data: Arc<dyn ObjectData>,
     ) -> Result<(), InvalidId> {
+        self.check(id)?;
         // The data that are not needed any more are dropped without the lock.
         let replaced = self.lock().set_data(id, data);
         replaced.map(drop).map_err(|_| InvalidId)
     }
 
     pub(super) fn destroy_object(&self, id: &ObjectId) -> Result<(), InvalidId> {
+        self.check(id)?;
         let mut leftovers = Leftovers::default();
         let mut session = self.lock();
         let raw = id.raw();
@@ -103,6 +126,9 @@ impl Connection {
         data: Option<Arc<dyn ObjectData>>,
         child_spec: Option<(&'static Interface, u32)>,
     ) -> Result<ObjectId, InvalidId> {
+        if self.check_all(message).is_err() {
+            return self.refuse(Refused::InvalidId, message, None);
+        }
         if data.is_some() || child_spec.is_some() || is_destructor(message) {
             return self.send_and_settle(message, data, child_spec);
         }
@@ -207,6 +233,13 @@ impl Connection {
     #[cfg(feature = "libwayland_client_1_23")]
     pub(super) fn set_max_buffer_size(&self, limit: Option<usize>) {
         self.lock().library.set_max_buffer_size(limit);
+    }
+}
+
+#[cfg(feature = "client_system")]
+impl Drop for Connection {
+    fn drop(&mut self) {
+        crate::sys::close_connection(self.display.mark());
     }
 }
 

@@ -14,7 +14,11 @@ use std::os::unix::net::UnixStream;
 use std::sync::{Arc, Weak};
 
 use crate::library::RawObjectId;
+#[cfg(not(feature = "client_system"))]
+use crate::mark::NoMark as Mark;
 use crate::protocol::{same_interface, Interface, Message, ObjectInfo, ANONYMOUS_INTERFACE};
+#[cfg(feature = "client_system")]
+use crate::sys::Address as Mark;
 
 mod connection;
 mod leaving;
@@ -75,6 +79,8 @@ pub struct ObjectId {
     serial: u64,
     number: u32,
     interface: &'static Interface,
+    /// Which connection it is of.
+    mark: Mark,
 }
 
 impl ObjectId {
@@ -92,6 +98,7 @@ impl ObjectId {
             serial: 0,
             number: 0,
             interface: &ANONYMOUS_INTERFACE,
+            mark: Mark::NONE,
         }
     }
 
@@ -118,12 +125,19 @@ impl ObjectId {
     }
 
     #[inline]
-    fn new(raw: &RawObjectId, interface: &'static Interface) -> ObjectId {
+    fn new(raw: &RawObjectId, interface: &'static Interface, mark: Mark) -> ObjectId {
         ObjectId {
             serial: raw.serial,
             number: raw.number,
             interface,
+            mark,
         }
+    }
+
+    /// Which connection it is of. The null id is of none.
+    #[inline]
+    pub(crate) fn mark(&self) -> Mark {
+        self.mark
     }
 }
 
@@ -131,6 +145,7 @@ impl PartialEq for ObjectId {
     fn eq(&self, other: &Self) -> bool {
         self.number == other.number
             && self.serial == other.serial
+            && self.mark == other.mark
             && same_interface(self.interface, other.interface)
     }
 }
@@ -189,9 +204,12 @@ impl WeakBackend {
 impl Backend {
     /// Makes a connection over a stream to a server. It never fails.
     pub fn connect(stream: UnixStream) -> Result<Self, NoWaylandLib> {
-        Ok(Backend {
+        let backend = Backend {
             connection: Arc::new(Connection::new(stream)),
-        })
+        };
+        #[cfg(feature = "client_system")]
+        crate::sys::open_connection(&backend);
+        Ok(backend)
     }
 
     /// A handle that does not keep the connection open.

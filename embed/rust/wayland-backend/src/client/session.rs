@@ -11,7 +11,7 @@ use rustix::io::Errno;
 use super::leaving::{ByNumber, Leaving};
 use super::reading::Readers;
 use super::unprinted::Unprinted;
-use super::{DisplayData, MissingData, ObjectData, ObjectId, WaylandError};
+use super::{DisplayData, Mark, MissingData, ObjectData, ObjectId, WaylandError};
 use crate::data::Slab;
 use crate::library::{
     Arguments, Client, Event, Outgoing, RawArgument, RawObjectId, Receipt, Request, SessionError,
@@ -33,6 +33,8 @@ struct Kept {
 #[derive(Debug)]
 pub(super) struct Session {
     pub(super) library: Client,
+    /// What the ids of its objects have of it.
+    mark: Mark,
     table: Table,
     data: Slab<Kept>,
     /// The event that was handed out last.
@@ -225,6 +227,7 @@ impl Session {
     pub(super) fn new(prints: bool) -> Session {
         let mut session = Session {
             library: Client::new(),
+            mark: Mark::next(),
             table: Table::new(),
             data: Slab::new(),
             event: Event::default(),
@@ -253,10 +256,14 @@ impl Session {
         session
     }
 
+    fn id(&self, raw: &RawObjectId, interface: &'static Interface) -> ObjectId {
+        ObjectId::new(raw, interface, self.mark)
+    }
+
     /// The id of the display.
     pub(super) fn display(&mut self) -> ObjectId {
         let display = self.library.display();
-        ObjectId::new(&display, self.table.interface(display.interface))
+        self.id(&display, self.table.interface(display.interface))
     }
 
     /// The session's error.
@@ -403,7 +410,7 @@ impl Session {
         let sent = self.send(message, &request);
         let created = match (sent, interface) {
             (Ok(created), Some(interface)) if created.number != 0 => {
-                let created = ObjectId::new(&created, interface);
+                let created = self.id(&created, interface);
                 if let Some(unprinted) = &mut self.unprinted {
                     unprinted.know(created.clone());
                 }
@@ -498,6 +505,7 @@ impl Session {
         }
         let Session {
             library,
+            mark,
             table,
             data,
             event,
@@ -505,7 +513,7 @@ impl Session {
             ..
         } = self;
         let next = library.next_event(event, args, |event, argument| {
-            argument_id(table, data, event, argument)
+            argument_id(table, data, event, argument, *mark)
         });
         if let Some(unprinted) = unprinted {
             match next {
@@ -513,7 +521,7 @@ impl Session {
                     unprinted.print_before(event.sender.number, event.opcode as u16);
                     if event.created.number != 0 {
                         let interface = child_interface(table, data, event);
-                        unprinted.know(ObjectId::new(&event.created, interface));
+                        unprinted.know(ObjectId::new(&event.created, interface, *mark));
                     }
                 }
                 Err(_) => unprinted.print_passed(library),
@@ -529,7 +537,7 @@ impl Session {
         };
         Ok(OpenEvent {
             data: receiver,
-            sender_id: ObjectId::new(&event.sender, interface),
+            sender_id: ObjectId::new(&event.sender, interface, *mark),
             opcode: event.opcode as u16,
         })
     }
@@ -591,7 +599,7 @@ impl Session {
         }
         let misuse = match answer {
             Some(_) => None,
-            None => Some(Misuse::NoData(ObjectId::new(&raw, interface))),
+            None => Some(Misuse::NoData(self.id(&raw, interface))),
         };
         let data = answer.unwrap_or_else(|| Arc::new(MissingData));
         let key = self.data.insert(Kept { data, interface });
@@ -620,7 +628,7 @@ impl Session {
             return;
         };
         if tells {
-            leftovers.end(kept.data.clone(), ObjectId::new(raw, kept.interface));
+            leftovers.end(kept.data.clone(), self.id(raw, kept.interface));
         }
         let serial = raw.serial;
         // One of that number that has left before it is gone.
@@ -666,6 +674,7 @@ fn argument_id(
     data: &Slab<Kept>,
     event: &Event,
     argument: &RawArgument,
+    mark: Mark,
 ) -> ObjectId {
     let raw = &argument.object;
     if raw.number == 0 {
@@ -677,7 +686,7 @@ fn argument_id(
         data.get(argument.data)
             .map_or_else(|| table.interface(raw.interface), |kept| kept.interface)
     };
-    ObjectId::new(raw, interface)
+    ObjectId::new(raw, interface, mark)
 }
 
 /// The interface of the object that an event made: the static that the sender's names.

@@ -6,7 +6,7 @@ use std::ffi::CString;
 use std::fmt;
 use std::os::unix::io::RawFd;
 
-use super::ObjectId;
+use super::{Mark, ObjectId};
 use crate::debug;
 use crate::library::Client;
 use crate::protocol::{Argument, ArgumentType, MessageDesc, ANONYMOUS_INTERFACE};
@@ -108,6 +108,7 @@ impl Unprinted {
                         serial,
                         number,
                         interface,
+                        mark: Mark::NONE,
                     });
                     Argument::NewId(self.known(number))
                 }

@@ -68,10 +68,13 @@ impl<D> Backend<D> {
         let poll = Arc::new(poll.map_err(|error| InitError::Io(error.into()))?);
         let ends = Arc::default();
         let state = Arc::new(Mutex::new(State::new(poll.clone(), Arc::clone(&ends))));
+        let handle = Handle {
+            state: state.clone(),
+        };
+        #[cfg(feature = "server_system")]
+        crate::sys::open_server(&handle);
         Ok(Backend {
-            handle: Handle {
-                state: state.clone(),
-            },
+            handle,
             state,
             poll,
             ends,

@@ -19,7 +19,7 @@ use smallvec::SmallVec;
 
 use super::{
     news::{News, Told},
-    ClientData, ClientId, Credentials, DisconnectReason, GlobalId, InvalidId, ObjectId,
+    ClientData, ClientId, Credentials, DisconnectReason, GlobalId, InvalidId, Mark, ObjectId,
 };
 use crate::{
     debug,
@@ -99,6 +99,8 @@ pub(super) struct Ended {
 /// The statics of interfaces, by the numbers that the library has for them.
 pub(super) struct Names {
     table: Table,
+    /// What ids of objects have of the server.
+    pub(super) mark: Mark,
     /// The interfaces of objects that were made with another static than the first of its name, by the objects' data.
     others: HashMap<u64, &'static Interface>,
 }
@@ -117,7 +119,7 @@ impl Names {
 
     #[inline]
     pub(super) fn id(&self, object: &RawObjectId, data: u64) -> ObjectId {
-        ObjectId::of(object, self.interface(object, data))
+        ObjectId::of(object, self.interface(object, data), self.mark)
     }
 
     /// The id of an object among the arguments of a request.
@@ -129,7 +131,7 @@ impl Names {
                 client: *client,
                 ..RawObjectId::default()
             };
-            return ObjectId::of(&null, &ANONYMOUS_INTERFACE);
+            return ObjectId::of(&null, &ANONYMOUS_INTERFACE, self.mark);
         }
         if object.number == action.created.number {
             return self.created_id(action);
@@ -144,7 +146,7 @@ impl Names {
         let request = sender.requests.get(action.opcode as usize);
         let named = request.and_then(|request| request.child_interface);
         let interface = named.filter(|named| same_interface(named, known));
-        ObjectId::of(&action.created, interface.unwrap_or(known))
+        ObjectId::of(&action.created, interface.unwrap_or(known), self.mark)
     }
 
     /// Notes which static an object was made with, if it is not the first of its name.
@@ -190,6 +192,7 @@ impl Core {
             server: Server::new(),
             names: Names {
                 table: Table::new(),
+                mark: Mark::next(),
                 others: HashMap::new(),
             },
             connections: Vec::new(),
@@ -204,6 +207,11 @@ impl Core {
             ends,
             is_logging: debug::is_on_for_servers(),
         }
+    }
+
+    /// The id of an object that was made with this static.
+    pub(super) fn id(&self, raw: &RawObjectId, interface: &'static Interface) -> ObjectId {
+        ObjectId::of(raw, interface, self.names.mark)
     }
 
     /// The number that the library has for an interface. It learns what it does not know yet.
@@ -785,6 +793,13 @@ impl Core {
         let event = sender_id.interface.events.get(usize::from(*opcode));
         let name = event.map_or("?", |event| event.name);
         debug::print_sent(Logged(sender_id), name, debug::List(args));
+    }
+}
+
+#[cfg(feature = "server_system")]
+impl Drop for Core {
+    fn drop(&mut self) {
+        crate::sys::close_server(self.names.mark);
     }
 }
 

@@ -70,6 +70,12 @@ impl Handle {
         }
     }
 
+    /// What ids of the server's objects have of it.
+    #[cfg(feature = "server_system")]
+    pub(crate) fn mark(&self) -> super::Mark {
+        lock(&*self.state).core().names.mark
+    }
+
     /// An object's number, interface and version.
     ///
     /// # Errors

@@ -5,6 +5,7 @@ use std::{
     hash::{Hash, Hasher},
 };
 
+use super::Mark;
 use crate::{
     library::{RawClientId, RawGlobalId, RawObjectId},
     protocol::{same_interface, Interface, ANONYMOUS_INTERFACE},
@@ -22,6 +23,8 @@ pub struct ObjectId {
     serial: u64,
     client_serial: u64,
     pub(super) interface: &'static Interface,
+    /// Which server it is of.
+    mark: Mark,
 }
 
 impl ObjectId {
@@ -41,6 +44,7 @@ impl ObjectId {
             serial: 0,
             client_serial: 0,
             interface: &ANONYMOUS_INTERFACE,
+            mark: Mark::NONE,
         }
     }
 
@@ -72,6 +76,7 @@ impl PartialEq for ObjectId {
         self.number == other.number
             && self.serial == other.serial
             && self.client() == other.client()
+            && self.mark == other.mark
             && same_interface(self.interface, other.interface)
     }
 }
@@ -171,13 +176,20 @@ impl ObjectId {
         }
     }
 
-    pub(super) fn of(raw: &RawObjectId, interface: &'static Interface) -> ObjectId {
+    pub(super) fn of(raw: &RawObjectId, interface: &'static Interface, mark: Mark) -> ObjectId {
         ObjectId {
             number: raw.number,
             client_slot: raw.client.slot,
             serial: raw.serial,
             client_serial: raw.client.serial,
             interface,
+            mark,
         }
+    }
+
+    /// Which server it is of.
+    #[cfg(feature = "server_system")]
+    pub(crate) fn mark(&self) -> Mark {
+        self.mark
     }
 }

@@ -11,7 +11,11 @@
 
 use std::{fmt, os::fd::OwnedFd, sync::Arc};
 
+#[cfg(not(feature = "server_system"))]
+use crate::mark::NoMark as Mark;
 use crate::protocol::Message;
+#[cfg(feature = "server_system")]
+use crate::sys::Address as Mark;
 pub use crate::types::server::{Credentials, DisconnectReason, GlobalInfo, InitError, InvalidId};
 
 mod backend;

@@ -205,7 +205,7 @@ impl<D> State<D> {
             return (Err(InvalidId), self.objects.remove(key));
         }
         self.core.names.keep(id.interface, info.interface, key);
-        self.is_given |= *id == ObjectId::of(&self.core.action.created, self.created);
+        self.is_given |= *id == self.core.id(&self.core.action.created, self.created);
         (Ok(()), None)
     }
 
@@ -228,7 +228,7 @@ impl<D> State<D> {
             .create_object(&client.raw(), row, version, key)
         {
             Ok(raw) => {
-                let id = ObjectId::of(&raw, interface);
+                let id = self.core.id(&raw, interface);
                 self.core.names.keep(interface, row, key);
                 return (Ok(id), None);
             }
@@ -357,7 +357,7 @@ impl<D> State<D> {
         let global = GlobalId::of(&action.global);
         let bound = self.global(&global);
         let object = match bound {
-            Some(bound) => ObjectId::of(&action.created, bound.interface),
+            Some(bound) => self.core.id(&action.created, bound.interface),
             None => self.core.names.id(&action.created, 0),
         };
         let handler = bound.map(|bound| bound.handler.clone());
@@ -431,7 +431,7 @@ impl<D> State<D> {
             let is_last = self.is_last();
             let finished = self.core.server.finish_request(client, None, is_last);
             if finished.is_err() {
-                let id = ObjectId::of(&self.core.action.created, self.created);
+                let id = self.core.id(&self.core.action.created, self.created);
                 self.give(client, Arc::new(NoData), is_told, unused);
                 return Some(Misuse::NoData(id));
             }
@@ -466,7 +466,7 @@ impl<D> State<D> {
             Ok(true) => names.keep(self.created, action.created.interface, key),
             _ if is_told => unused.extend(self.objects.remove(key)),
             _ => ended.push_back(Ended {
-                object: ObjectId::of(&action.created, self.created),
+                object: ObjectId::of(&action.created, self.created, names.mark),
                 data: key,
             }),
         }
