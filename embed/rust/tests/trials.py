@@ -51,7 +51,7 @@ def exchange(crates, server, client):
         command = [program(crates, server, "messages"), "serve", path]
         with subprocess.Popen(command, stdout=subprocess.PIPE, stderr=subprocess.STDOUT, text=True) as serving:
             wait_for(lambda: os.path.exists(path), serving)
-            status, asked = run(program(crates, client, "messages"), "ask", path)
+            status, asked = run(program(crates, client, "messages"), "ask", path, seconds=60)
             try:
                 served = serving.communicate(timeout=20)[0]
             except subprocess.TimeoutExpired:
