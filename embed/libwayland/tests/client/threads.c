@@ -120,6 +120,7 @@ static void *ask_for_another_thread(void *unused)
     for (int i = 0; i < rounds; i++) {
         wl_callback_add_listener(wl_display_sync(display), &any, NULL);
         wl_display_flush(display);
+        wl_display_dispatch_pending(display);
     }
     return NULL;
 }
