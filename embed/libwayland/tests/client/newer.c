@@ -79,6 +79,12 @@ static void wait_with_timeout(void)
     wl_event_queue_destroy(queue);
 }
 
+static void end(void)
+{
+    wl_display_disconnect(display);
+    close(server);
+}
+
 static unsigned long ask_until_it_fails(struct wl_proxy *kinds, unsigned long most)
 {
     unsigned long count = 0;
@@ -93,10 +99,12 @@ static unsigned long ask_until_it_fails(struct wl_proxy *kinds, unsigned long mo
 static void bound_what_waits(void)
 {
     unsigned long without, with;
+    end();
     begin();
     struct wl_proxy *kinds = wl_registry_bind(wl_display_get_registry(display), 1, &kinds_interface, 3);
     without = ask_until_it_fails(kinds, 300000);
     check("without a limit all waits", without == 300000 && wl_display_get_error(display) == 0);
+    end();
     begin();
     kinds = wl_registry_bind(wl_display_get_registry(display), 1, &kinds_interface, 3);
     wl_display_set_max_buffer_size(display, 100000);
@@ -122,6 +130,7 @@ int main(void)
     wait_with_timeout();
     bound_what_waits();
     has_fixes();
+    end();
     printf("%d passed, %d failed\n", passed, failed);
     return failed > 0;
 }
