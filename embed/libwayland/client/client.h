@@ -126,7 +126,9 @@ struct wl_display {
     uint8_t *text; /* of an event: its strings and arrays; or what is to be sent */
     size_t text_room;
     size_t unsent, most_unsent; /* bytes that wait to be sent, and how many may; 0 is no limit */
+    size_t send_above;          /* what waits is sent by itself before it is more than this */
     uint32_t unsent_descriptors;
+    bool is_full; /* the socket took no more */
     int socket;
     int last_error;  /* what the program is told */
     bool has_failed; /* the session has an error */

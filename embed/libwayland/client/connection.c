@@ -23,7 +23,8 @@ bool is_logging;
 
 /* ======== Sending */
 
-int send_waiting_locked(struct wl_display *display)
+/* Sends as much as the socket takes. */
+static int send_all(struct wl_display *display)
 {
     int32_t descriptors[NB_MOST_DESCRIPTORS];
     nb_counts counts;
@@ -50,15 +51,30 @@ int send_waiting_locked(struct wl_display *display)
     }
 }
 
+/* While the socket is full it is tried again whenever as much more waits as libwayland keeps. */
+int send_waiting_locked(struct wl_display *display)
+{
+    int sent = send_all(display);
+    display->is_full = sent < 0 && errno == EAGAIN;
+    display->send_above = display->is_full ? display->unsent + LIBWAYLAND_ROOM : LIBWAYLAND_ROOM;
+    return sent;
+}
+
+static bool is_too_much(const struct wl_display *display, size_t bytes)
+{
+    return display->most_unsent > 0 && display->unsent + bytes > display->most_unsent;
+}
+
 /* A server that does not read is no error: what it does not take waits, up to the limit that the program has set. */
 int make_room_locked(struct wl_display *display, size_t bytes, uint32_t descriptors)
 {
-    if (display->has_failed || (display->unsent + bytes <= LIBWAYLAND_ROOM &&
-                                display->unsent_descriptors + descriptors <= NB_MOST_DESCRIPTORS))
+    bool has_many = !display->is_full && display->unsent_descriptors + descriptors > NB_MOST_DESCRIPTORS;
+    if (display->has_failed || display->unsent == 0 ||
+        (display->unsent + bytes <= display->send_above && !has_many && !is_too_much(display, bytes)))
         return 0;
-    if (display->unsent > 0 && send_waiting_locked(display) < 0 && errno != EAGAIN)
+    if (send_waiting_locked(display) < 0 && errno != EAGAIN)
         return -1;
-    if (display->most_unsent == 0 || display->unsent == 0 || display->unsent + bytes <= display->most_unsent)
+    if (display->unsent == 0 || !is_too_much(display, bytes))
         return 0;
     errno = E2BIG;
     return -1;
@@ -274,6 +290,7 @@ EXPORT struct wl_display *wl_display_connect_to_fd(int fd)
         return NULL;
     }
     display->socket = fd;
+    display->send_above = LIBWAYLAND_ROOM;
     pthread_mutex_init(&display->lock, NULL);
     pthread_cond_init(&display->was_read, NULL);
     table_begin(&display->table, extend, &display->session);

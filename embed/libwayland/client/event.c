@@ -200,22 +200,48 @@ static void give_back_locked(struct event *event)
     }
 }
 
+static bool is_of_letter(uint32_t kind, char letter)
+{
+    switch (letter) {
+    case 'i': return kind == NB_INT;
+    case 'u': return kind == NB_UINT;
+    case 'f': return kind == NB_FIXED;
+    case 's': return kind == NB_STRING || kind == NB_NULL_STRING;
+    case 'o': return kind == NB_OBJECT;
+    case 'n': return kind == NB_NEW_ID;
+    case 'a': return kind == NB_ARRAY;
+    default: return kind == NB_DESCRIPTOR;
+    }
+}
+
+static bool has_form(const char *signature, const nb_argument *arguments, uint32_t count)
+{
+    char letter;
+    bool is_nullable;
+    uint32_t i = 0;
+    while ((signature = signature_next(signature, &letter, &is_nullable)))
+        if (i == count || !is_of_letter(arguments[i++].kind, letter))
+            return false;
+    return i == count;
+}
+
 /* The message of the sender's own struct; NULL if it has none of this form. The session knows the form of another
- * struct of the same name. */
-static const struct wl_message *message_of(const struct wl_proxy *sender, const nb_event *from)
+ * struct, where the program has made the object with one that its factory does not name. */
+static const struct wl_message *message_of(const struct wl_proxy *sender, const nb_event *from,
+                                           const nb_argument *arguments)
 {
     const struct wl_interface *interface = sender->object.interface;
-    if ((int)from->opcode < interface->event_count &&
-        signature_count(interface->events[from->opcode].signature) == from->arguments)
+    if (from->opcode < (uint32_t)interface->event_count &&
+        has_form(interface->events[from->opcode].signature, arguments, from->arguments))
         return &interface->events[from->opcode];
-    log_line("interface '%s' has no event %u\n", interface->name, from->opcode);
+    log_line("interface '%s' has no event %u of this form\n", interface->name, from->opcode);
     errno = EINVAL;
     return NULL;
 }
 
 bool put_event_locked(struct wl_proxy *sender, const nb_event *from, const nb_argument *arguments)
 {
-    const struct wl_message *message = message_of(sender, from);
+    const struct wl_message *message = message_of(sender, from, arguments);
     struct event *event = NULL;
     uint8_t *text;
     uint32_t objects = 0;

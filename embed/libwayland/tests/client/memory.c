@@ -4,9 +4,22 @@
  *   memory    the last line is `N refusals, 0 descriptors lost` */
 #include "kinds.h"
 
-extern void *__libc_malloc(size_t size);
-extern void *__libc_calloc(size_t count, size_t size);
-extern void *__libc_realloc(void *memory, size_t size);
+/* Built with WRAPPED it has the library in it, linked by --wrap, so that the sanitizers can watch. Else its malloc is
+ * that of the library, too. */
+#ifdef WRAPPED
+#define HERE(name)  __wrap_##name
+#define THERE(name) __real_##name
+#else
+#define HERE(name)  name
+#define THERE(name) __libc_##name
+#endif
+
+extern void *THERE(malloc)(size_t size);
+extern void *THERE(calloc)(size_t count, size_t size);
+extern void *THERE(realloc)(void *memory, size_t size);
+void *HERE(malloc)(size_t size);
+void *HERE(calloc)(size_t count, size_t size);
+void *HERE(realloc)(void *memory, size_t size);
 
 static unsigned long asked, refused_from, refused_to; /* numbers of allocations, from 1; 0 is none */
 
@@ -16,19 +29,19 @@ static bool is_refused(void)
     return asked >= refused_from && asked <= refused_to;
 }
 
-void *malloc(size_t size)
+void *HERE(malloc)(size_t size)
 {
-    return is_refused() ? NULL : __libc_malloc(size);
+    return is_refused() ? NULL : THERE(malloc)(size);
 }
 
-void *calloc(size_t count, size_t size)
+void *HERE(calloc)(size_t count, size_t size)
 {
-    return is_refused() ? NULL : __libc_calloc(count, size);
+    return is_refused() ? NULL : THERE(calloc)(count, size);
 }
 
-void *realloc(void *memory, size_t size)
+void *HERE(realloc)(void *memory, size_t size)
 {
-    return is_refused() ? NULL : __libc_realloc(memory, size);
+    return is_refused() ? NULL : THERE(realloc)(memory, size);
 }
 
 /* ======== The scenario */

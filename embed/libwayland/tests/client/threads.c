@@ -118,8 +118,11 @@ static void *ask_for_another_thread(void *unused)
     static const struct wl_callback_listener any = { take_any };
     (void)unused;
     for (int i = 0; i < rounds; i++) {
-        wl_callback_add_listener(wl_display_sync(display), &any, NULL);
+        struct wl_callback *callback = wl_display_sync(display);
         wl_display_flush(display);
+        usleep(i % 4 * 50);
+        wl_callback_add_listener(callback, &any, NULL);
+        wl_display_dispatch_pending(display);
     }
     return NULL;
 }
