@@ -57,16 +57,16 @@ module _ {Id : Type 0} (flat : Id → FlatObjectId) where
 
   all_allowed : (signature : List ArgumentType) (args : List (Argument Id Token)) (i : ℕ) → ((n : ℕ) → ¬ (IsForbiddenAt flat signature args n))
       → position_from (is_forbidden flat) i (zip signature args) ≡ None
-  all_allowed [] args i no = refl
-  all_allowed (type ∷ signature) [] i no = refl
-  all_allowed (type ∷ signature) (a ∷ args) i no =
-      rw (not_this (is_forbidden flat (type, a)) (no zero)) (all_allowed signature args (i + 1) (λ n here. no (suc n) here))
+  all_allowed [] args i allowed = refl
+  all_allowed (type ∷ signature) [] i allowed = refl
+  all_allowed (type ∷ signature) (a ∷ args) i allowed =
+      rw (not_this (is_forbidden flat (type, a)) (allowed zero)) (all_allowed signature args (i + 1) (λ n here. allowed (suc n) here))
 
   pub tells_null : (signature : List ArgumentType) (args : List (Argument Id Token)) → TellsNull flat signature args (forbidden_null flat signature args)
   tells_null signature args = record {
     none = (
       λ zero n. none_from signature args 0 n (sym (position_from-zero (is_forbidden flat) (zip signature args)) ∙ none_from_zero _ zero),
-      λ no. ap counted_from_one (position_from-zero (is_forbidden flat) (zip signature args) ∙ all_allowed signature args 0 no),
+      λ allowed. ap counted_from_one (position_from-zero (is_forbidden flat) (zip signature args) ∙ all_allowed signature args 0 allowed),
     );
     first = λ n is. ap counted_from_one (position_from-zero (is_forbidden flat) (zip signature args) ∙ first_from signature args 0 n n (omega arith) is.0 is.1);
   }

@@ -5,8 +5,7 @@ use crate::tests::rows::{KNOT, NOTE, TABLE};
 use crate::tests::session::Session;
 use crate::tests::told::{
     NO_ARGUMENT, NOBODY, NOTHING, NULL, bytes_of, tell_counts, tell_descriptor, tell_kept,
-    tell_lent, tell_numbers, tell_object, tell_objects, told, told_extension,
-    told_table,
+    tell_lent, tell_numbers, tell_object, tell_objects, told, told_extension, told_table,
 };
 use std::alloc::Global;
 use std::test::Fail;
