@@ -60,7 +60,8 @@ void numbers_end(struct numbers *numbers)
     free(numbers->slots[1]);
 }
 
-/* Both have happened: the session may use the number again. */
+/* Both have happened: the session may use the number again. If there is no memory to tell it, it never does, and that
+ * is all. */
 static void free_number_locked(struct wl_display *display, struct slot *slot, uint32_t number)
 {
     const uint32_t delete_id[3] = { 1, 12u << 16 | 1, number };

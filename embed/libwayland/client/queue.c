@@ -11,6 +11,7 @@
 #include "reading.h"
 #include <errno.h>
 #include <poll.h>
+#include <stdatomic.h>
 #include <stdlib.h>
 #include <string.h>
 #include <wayland-client-protocol.h>
@@ -350,10 +351,11 @@ EXPORT int wl_display_dispatch_timeout(struct wl_display *display, const struct 
 
 /* ======== Round trips */
 
+/* Another thread may dispatch the queue, too. */
 static void take_answer(void *is_done, struct wl_callback *callback, uint32_t serial)
 {
     (void)serial;
-    *(bool *)is_done = true;
+    atomic_store((atomic_bool *)is_done, true);
     wl_callback_destroy(callback);
 }
 
@@ -361,7 +363,7 @@ static const struct wl_callback_listener answer_listener = { take_answer };
 
 EXPORT int wl_display_roundtrip_queue(struct wl_display *display, struct wl_event_queue *queue)
 {
-    bool is_done = false;
+    atomic_bool is_done = false;
     int count = 0, part = 0;
     struct wl_display *wrapper = wl_proxy_create_wrapper(display);
     if (!wrapper)

@@ -177,6 +177,8 @@ void end_session_locked(struct wl_display *display)
 
 static void take_away(struct input *input, uint32_t descriptors)
 {
+    if (descriptors == 0)
+        return;
     input->descriptor_count -= descriptors;
     memmove(input->descriptors, input->descriptors + descriptors, input->descriptor_count * sizeof(int32_t));
 }
@@ -189,11 +191,10 @@ int feed_locked(struct wl_display *display, const uint8_t *bytes, size_t length,
         errno = ENOMEM;
         return -1;
     }
-    if (descriptors > 0) {
+    if (descriptors > 0)
         memcpy(display->input.lent, display->input.descriptors, descriptors * sizeof(int32_t));
-        display->input.lent_count = descriptors;
-        take_away(&display->input, descriptors);
-    }
+    display->input.lent_count = descriptors;
+    take_away(&display->input, descriptors);
     return take_events(display);
 }
 

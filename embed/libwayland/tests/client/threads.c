@@ -122,7 +122,6 @@ static void *ask_for_another_thread(void *unused)
         wl_display_flush(display);
         usleep(i % 4 * 50);
         wl_callback_add_listener(callback, &any, NULL);
-        wl_display_dispatch_pending(display);
     }
     return NULL;
 }

@@ -48,6 +48,7 @@ static void arrays(int which)
     array.size = 5;
     printf("  copied %d: %zu\n", wl_array_copy(&copy, &array), copy.size);
     printf("  nothing added at %td of %zu\n", (char *)wl_array_add(&array, 0) - (char *)array.data, array.size);
+    alarm(3); /* it may never come back */
     printf("  too much: %s\n", wl_array_add(&array, SIZE_MAX / 2) ? "taken" : "refused");
     wl_array_release(&array);
     printf("  released: %p\n", array.data);
