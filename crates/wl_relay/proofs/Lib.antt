@@ -1,5 +1,13 @@
+mod Came
+mod Gathered
+mod Held
 mod HexWords
+mod InputLines
+mod LastRow
 mod Numbers
+mod RowWords
+mod TableLines
+pub mod Answers
 pub mod Flows
 pub mod Lines
 pub mod OneSend

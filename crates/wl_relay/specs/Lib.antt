@@ -5,4 +5,7 @@ pub mod Log
 pub mod Flow
 pub mod Runs
 pub mod Words
+pub mod Rows
+pub mod Input
+pub mod Program
 pub mod Inside

@@ -11,8 +11,8 @@
 //! | what is handed on, dropped or lowered | `notes`, `follow` | `Announcements`, `Log`; `Inside/Passing` |
 //! | the relay | `relay` | `Flow`, `Log` |
 //! | calls one after another | `laws` | `Runs` |
-//! | the words of the program's lines | `words` | `Words` |
-//! | the program | `rows`, `commands`, `stop` | none |
+//! | the words of the program's lines, and its table | `words`, `rows` | `Words`, `Rows`; `Inside/Gathering` |
+//! | the program | `commands`, `stop` | `Input`, `Program`; `Inside/Reading` |
 #![tactic(auto)]
 
 mod commands;

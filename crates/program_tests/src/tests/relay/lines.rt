@@ -33,7 +33,7 @@ fn written(alloc: Global, lines: &str) -> Result<String, Fail> {
 
 /// Inputs, and what is written for them. The interfaces of their tables are `seat`, whose device makes offers, which take a
 /// descriptor.
-pub static ROWS: [Row; 30] = [
+pub static ROWS: [Row; 32] = [
     Row {
         name: "messages leave as they came",
         lines: "interface seat 5\nrequest get_device 1 - new:5\ninterface device 3\nrequest destroy 1 destructor\nevent offered 1 - new:6\nevent chosen 1 - object?:6\ninterface offer 3\nrequest take 1 - string fd\nrequest destroy 1 destructor\nevent kind 1 - string\nrelay\nclient 0100000001000c000200000002000000000020000100000005000000736561740000000005000000030000000300000000000c0004000000 -\nserver 0400000000000c00000000ff000000ff000018000b000000746578742f706c61696e00000400000001000c00000000ff -\nclient 000000ff00001b000b000000746578742f706c61696e0000010203 7\n",
@@ -162,6 +162,16 @@ pub static ROWS: [Row; 30] = [
     Row {
         name: "a version with a zero before it",
         lines: "interface a 5\ninterface b 05\nrelay\n",
+        written: "[line 2: bad line\n] 2",
+    },
+    Row {
+        name: "a word for no destructor that is none",
+        lines: "interface a 1\nrequest b 1 none\nrelay\n",
+        written: "[line 2: bad line\n] 2",
+    },
+    Row {
+        name: "an interface at a place with a zero before it",
+        lines: "interface a 1\nrequest b 1 - object:04\nrelay\n",
         written: "[line 2: bad line\n] 2",
     },
     Row {
