@@ -40,6 +40,7 @@ static _Thread_local struct wl_shm_pool *volatile accessed;
 static _Thread_local unsigned access_count;
 static _Thread_local volatile sig_atomic_t was_replaced;
 static struct sigaction action_before;
+static bool is_caught;
 
 static bool is_in(const struct wl_shm_pool *pool, const void *address)
 {
@@ -47,28 +48,39 @@ static bool is_in(const struct wl_shm_pool *pool, const void *address)
     return at >= begin && at - begin < pool->size;
 }
 
+/* What is not for this library is for the handler that was there before: of the program, or of another libwayland. */
 static void on_bus_error(int number, siginfo_t *info, void *context)
 {
     const struct wl_shm_pool *pool = accessed;
-    (void)context;
     if (pool && is_in(pool, info->si_addr) &&
         mmap(pool->data, pool->size, PROT_READ | PROT_WRITE, MAP_PRIVATE | MAP_FIXED | MAP_ANONYMOUS, -1, 0) !=
             MAP_FAILED) {
         was_replaced = 1;
-        return;
+    } else if (action_before.sa_flags & SA_SIGINFO) {
+        action_before.sa_sigaction(number, info, context);
+    } else if (action_before.sa_handler != SIG_DFL && action_before.sa_handler != SIG_IGN) {
+        action_before.sa_handler(number);
+    } else {
+        sigaction(SIGBUS, &action_before, NULL);
+        raise(number);
     }
-    sigaction(SIGBUS, &action_before, NULL);
-    raise(number);
 }
 
 static void catch_bus_errors(void)
 {
-    static bool is_caught;
     struct sigaction action = { .sa_sigaction = on_bus_error, .sa_flags = SA_SIGINFO | SA_NODEFER };
     if (is_caught)
         return;
     sigemptyset(&action.sa_mask);
     is_caught = sigaction(SIGBUS, &action, &action_before) == 0;
+}
+
+/* When the library is unloaded its code is gone, so no signal may find it. A handler that was set since then stays. */
+__attribute__((destructor)) static void stop_catching(void)
+{
+    struct sigaction now;
+    if (is_caught && sigaction(SIGBUS, NULL, &now) == 0 && now.sa_sigaction == on_bus_error)
+        sigaction(SIGBUS, &action_before, NULL);
 }
 
 EXPORT void wl_shm_buffer_begin_access(struct wl_shm_buffer *buffer)
