@@ -244,9 +244,9 @@ EXPORT struct wl_display *wl_display_connect(const char *name)
     return connection >= 0 ? wl_display_connect_to_fd(connection) : NULL;
 }
 
-static nb_status extend(void *session, const nb_table *rows, nb_table_fault *fault)
+static nb_status merge(void *session, const nb_table *rows, nb_extension_fault *fault)
 {
-    return nb_client_extend(session, rows, fault);
+    return nb_client_merge(session, rows, fault);
 }
 
 /* Its events are handled here. A program that looks sees a listener, and cannot add another one. */
@@ -293,7 +293,7 @@ EXPORT struct wl_display *wl_display_connect_to_fd(int fd)
     display->send_above = LIBWAYLAND_ROOM;
     pthread_mutex_init(&display->lock, NULL);
     pthread_cond_init(&display->was_read, NULL);
-    table_begin(&display->table, extend, &display->session);
+    table_begin(&display->table, merge, &display->session);
     display->table.is_of_client = true;
     begin_queues(display);
     if (begin_session(display))

@@ -231,10 +231,10 @@ static const struct wl_message *message_of(const struct wl_proxy *sender, const 
                                            const nb_argument *arguments)
 {
     const struct wl_interface *interface = sender->object.interface;
-    if (from->opcode < (uint32_t)interface->event_count &&
-        has_form(interface->events[from->opcode].signature, arguments, from->arguments))
+    const bool is_there = from->opcode < (uint32_t)interface->event_count;
+    if (is_there && has_form(interface->events[from->opcode].signature, arguments, from->arguments))
         return &interface->events[from->opcode];
-    log_line("interface '%s' has no event %u of this form\n", interface->name, from->opcode);
+    log_line("interface '%s' has no event %u%s\n", interface->name, from->opcode, is_there ? " of this form" : "");
     errno = EINVAL;
     return NULL;
 }

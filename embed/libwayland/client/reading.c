@@ -241,10 +241,13 @@ static bool read_head(const struct input *input, size_t at, struct head *head)
 
 static int lacks_descriptor(const struct wl_display *display, const struct head *head)
 {
-    const struct wl_proxy *proxy = numbers_proxy(&display->numbers, head->sender);
-    const struct wl_message *message = &proxy->object.interface->events[head->opcode];
-    log_line("file descriptor expected, object (%u), message %s(%s)\n", head->sender, message->name,
-             message->signature);
+    const struct wl_interface *interface = numbers_proxy(&display->numbers, head->sender)->object.interface;
+    if (head->opcode < (uint32_t)interface->event_count) {
+        const struct wl_message *message = &interface->events[head->opcode];
+        log_line("file descriptor expected, object (%u), message %s(%s)\n", head->sender, message->name,
+                 message->signature);
+    } else /* a longer struct of its name has it */
+        log_line("interface '%s' has no event %u\n", interface->name, head->opcode);
     errno = EINVAL;
     return -1;
 }

@@ -7,30 +7,30 @@
 #include <stdlib.h>
 #include <string.h>
 
-/* What is kept of an interface. `shapes` has a text for each message, requests first: its signature, and of each object
- * the name of its interface. */
+/* What is kept of an interface. A shape is a text: of a message its name and signature, and of each object the name of
+ * its interface. So what has one shape is the same for the session, too. */
 struct table_row {
-    const struct wl_interface *interface;
     char *name;
-    struct wl_array shapes;
-    uint8_t *descriptors; /* of each event, how many it has */
-    int version, requests, events;
+    struct wl_array requests, events; /* the shape of each */
+    struct wl_array descriptors;      /* of each event, how many it has, in a byte */
+    int version, request_count, event_count;
 };
 
 static const char *const names_beforehand[NB_INTERFACE_FIRST] = { "", "wl_display", "wl_registry", "wl_callback" };
 
-void table_begin(struct table *table, table_extend *extend, void *session)
+void table_begin(struct table *table, table_merge *merge, void *session)
 {
     memset(table, 0, sizeof *table);
-    table->extend = extend;
+    table->merge = merge;
     table->session = session;
 }
 
 static void row_end(struct table_row *row)
 {
     free(row->name);
-    free(row->descriptors);
-    free(row->shapes.data);
+    free(row->requests.data);
+    free(row->events.data);
+    free(row->descriptors.data);
 }
 
 void table_end(struct table *table)
@@ -49,23 +49,17 @@ static const struct table_row *row_of(const struct table *table, uint32_t number
                : NULL;
 }
 
-const struct wl_interface *table_interface(const struct table *table, uint32_t number)
-{
-    const struct table_row *row = row_of(table, number);
-    return row ? row->interface : NULL;
-}
-
 bool table_has_event(const struct table *table, uint32_t number, uint32_t event)
 {
     static const uint32_t events_beforehand[NB_INTERFACE_FIRST] = { 0, 2, 2, 1 };
     const struct table_row *row = row_of(table, number);
-    return event < (row ? (uint32_t)row->events : number < NB_INTERFACE_FIRST ? events_beforehand[number] : 0);
+    return event < (row ? (uint32_t)row->event_count : number < NB_INTERFACE_FIRST ? events_beforehand[number] : 0);
 }
 
 uint32_t table_event_descriptors(const struct table *table, uint32_t number, uint32_t event)
 {
     const struct table_row *row = row_of(table, number);
-    return row && event < (uint32_t)row->events ? row->descriptors[event] : 0;
+    return row && event < (uint32_t)row->event_count ? ((const uint8_t *)row->descriptors.data)[event] : 0;
 }
 
 static const char *name_of(const struct table *table, uint32_t number)
@@ -93,12 +87,12 @@ static bool append_shape(struct wl_array *shapes, const struct wl_message *messa
     const char *rest = message->signature;
     char letter;
     bool is_nullable;
-    if (!append(shapes, rest, strlen(rest)))
+    if (!append(shapes, message->name, strlen(message->name)) || !append(shapes, " ", 1) ||
+        !append(shapes, rest, strlen(rest)))
         return false;
     for (uint32_t i = 0; (rest = signature_next(rest, &letter, &is_nullable)); i++) {
         const struct wl_interface *type = is_object(letter) && message->types ? message->types[i] : NULL;
-        if (is_object(letter) &&
-            (!append(shapes, ":", 1) || (type && !append(shapes, type->name, strlen(type->name)))))
+        if (is_object(letter) && (!append(shapes, ":", 1) || (type && !append(shapes, type->name, strlen(type->name)))))
             return false;
     }
     return append(shapes, "", 1);
@@ -110,33 +104,49 @@ static const char *after(const char *shape)
     return shape + strlen(shape) + 1;
 }
 
-/* Whether messages have these shapes, as far as there are both; `*fit` is false if not. Answers where the shapes of the
- * row's next messages begin. */
-static const char *compare(const char *shape, int count, const struct wl_message *messages, int message_count,
-                           bool *fit)
+/* What is left of a shape that begins with a text; NULL if it does not. */
+static const char *past(const char *shape, const char *text)
 {
-    for (int i = 0; i < count; i++, shape = after(shape)) {
-        struct wl_array other = { 0 };
-        if (i < message_count)
-            *fit = *fit && append_shape(&other, &messages[i]) && strcmp(shape, other.data) == 0;
-        free(other.data);
-    }
-    return shape;
+    const size_t length = strlen(text);
+    return shape && strncmp(shape, text, length) == 0 ? shape + length : NULL;
+}
+
+static bool has_shape(const struct wl_message *message, const char *shape)
+{
+    const char *rest = message->signature;
+    char letter;
+    bool is_nullable;
+    shape = past(past(past(shape, message->name), " "), rest);
+    for (uint32_t i = 0; (rest = signature_next(rest, &letter, &is_nullable)); i++)
+        if (is_object(letter)) {
+            shape = past(shape, ":");
+            if (message->types && message->types[i])
+                shape = past(shape, message->types[i]->name);
+        }
+    return shape && !*shape;
+}
+
+/* Whether messages have these shapes, as far as there are both. */
+static bool agree(const struct wl_array *shapes, int count, const struct wl_message *messages, int message_count)
+{
+    const char *shape = shapes->data;
+    bool is_same = true;
+    for (int i = 0; is_same && i < count && i < message_count; i++, shape = after(shape))
+        is_same = has_shape(&messages[i], shape);
+    return is_same;
 }
 
 static bool fits(const struct table_row *row, const struct wl_interface *interface)
 {
-    bool fit = true;
-    const char *events =
-        compare(row->shapes.data, row->requests, interface->methods, interface->method_count, &fit);
-    compare(events, row->events, interface->events, interface->event_count, &fit);
-    return fit;
+    return agree(&row->requests, row->request_count, interface->methods, interface->method_count) &&
+           agree(&row->events, row->event_count, interface->events, interface->event_count);
 }
 
-/* Whether the row has each message of the struct. */
+/* Whether a struct that fits has nothing beyond the row. */
 static bool has_all(const struct table_row *row, const struct wl_interface *interface)
 {
-    return interface->method_count <= row->requests && interface->event_count <= row->events && fits(row, interface);
+    return interface->method_count <= row->request_count && interface->event_count <= row->event_count &&
+           interface->version <= row->version;
 }
 
 static uint8_t count_descriptors(const struct wl_message *message)
@@ -150,22 +160,43 @@ static uint8_t count_descriptors(const struct wl_message *message)
     return count;
 }
 
-static bool row_begin(struct table_row *row, const struct wl_interface *interface)
+static bool append_beyond(struct table_row *row, const struct wl_interface *interface)
 {
     bool is_well = true;
-    *row = (struct table_row){ .interface = interface,
-                               .name = strdup(interface->name),
-                               .descriptors = calloc((size_t)interface->event_count + 1, 1),
-                               .version = interface->version,
-                               .requests = interface->method_count,
-                               .events = interface->event_count };
-    for (int i = 0; i < interface->method_count; i++)
-        is_well = is_well && append_shape(&row->shapes, &interface->methods[i]);
-    for (int i = 0; i < interface->event_count; i++)
-        is_well = is_well && append_shape(&row->shapes, &interface->events[i]);
-    for (int i = 0; row->descriptors && i < interface->event_count; i++)
-        row->descriptors[i] = count_descriptors(&interface->events[i]);
-    if (row->name && row->descriptors && is_well)
+    for (int i = row->request_count; is_well && i < interface->method_count; i++)
+        is_well = append_shape(&row->requests, &interface->methods[i]);
+    for (int i = row->event_count; is_well && i < interface->event_count; i++) {
+        const uint8_t count = count_descriptors(&interface->events[i]);
+        is_well = append_shape(&row->events, &interface->events[i]) && append(&row->descriptors, &count, sizeof count);
+    }
+    return is_well;
+}
+
+static int greater(int one, int other)
+{
+    return one > other ? one : other;
+}
+
+/* Adds what the struct has beyond the row. Without memory the row is as before. */
+static bool row_extend(struct table_row *row, const struct wl_interface *interface)
+{
+    const size_t requests = row->requests.size, events = row->events.size, descriptors = row->descriptors.size;
+    if (!append_beyond(row, interface)) {
+        row->requests.size = requests;
+        row->events.size = events;
+        row->descriptors.size = descriptors;
+        return false;
+    }
+    row->version = greater(row->version, interface->version);
+    row->request_count = greater(row->request_count, interface->method_count);
+    row->event_count = greater(row->event_count, interface->event_count);
+    return true;
+}
+
+static bool row_begin(struct table_row *row, const struct wl_interface *interface)
+{
+    *row = (struct table_row){ .name = strdup(interface->name) };
+    if (row->name && row_extend(row, interface))
         return true;
     row_end(row);
     return false;
@@ -229,100 +260,83 @@ static uint32_t remembered(const struct table *table, const struct wl_interface 
         return 0;
     uint32_t number = table->numbers[place];
     const struct table_row *row = row_of(table, number);
-    if (strcmp(name_of(table, number), interface->name) != 0)
-        return 0;
-    return !row || row->interface != interface ||
-                   (row->requests == interface->method_count && row->events == interface->event_count)
-               ? number
-               : 0;
+    return strcmp(name_of(table, number), interface->name) == 0 && (!row || has_all(row, interface)) ? number : 0;
 }
 
-/* The first row of a client's table that has each message of the struct; 0 if there is none. */
-static uint32_t number_with_all(const struct table *table, const struct wl_interface *interface)
+/* The first number of a struct's name whose row it fits; 0 if there is none. If `whole`, the row has all that the
+ * struct has. */
+static uint32_t fitting(const struct table *table, const struct wl_interface *interface, bool whole)
 {
-    uint32_t number = 1, end = NB_INTERFACE_FIRST + table->count;
-    for (; number < end; number++)
+    for (uint32_t number = 1; number < NB_INTERFACE_FIRST + table->count; number++) {
+        const struct table_row *row = row_of(table, number);
         if (strcmp(name_of(table, number), interface->name) == 0 &&
-            (number < NB_INTERFACE_FIRST || has_all(row_of(table, number), interface)))
+            (!row || (fits(row, interface) && (!whole || has_all(row, interface)))))
             return number;
+    }
     return 0;
 }
 
-static uint32_t number_of_name(const struct table *table, const char *name)
+static bool is_name_known(const struct table *table, const char *name)
 {
     uint32_t number = 1, end = NB_INTERFACE_FIRST + table->count;
     while (number < end && strcmp(name_of(table, number), name) != 0)
         number++;
-    return number < end ? number : 0;
+    return number < end;
 }
 
-static void warn_of_more(const struct table_row *row, const struct wl_interface *interface)
-{
-    if (interface->method_count > row->requests || interface->event_count > row->events ||
-        interface->version > row->version)
-        log_line("interface %s is known at version %d: what version %d has beyond cannot be used\n", row->name,
-                 row->version, interface->version);
-}
+/* ======== Rows for the session */
 
-/* The number of an interface that is in the table; 0 if its name is not, or is that of an interface with other
- * messages, which `*is_refused` says. */
-static uint32_t known(struct table *table, const struct wl_interface *interface, bool *is_refused)
-{
-    uint32_t number = remembered(table, interface);
-    if (number)
-        return number;
-    number = table->is_of_client ? number_with_all(table, interface) : number_of_name(table, interface->name);
-    const struct table_row *row = row_of(table, number);
-    if (row && !fits(row, interface)) {
-        log_line("interface %s is there twice, with other messages\n", interface->name);
-        *is_refused = true;
-        return 0;
-    }
-    if (row)
-        warn_of_more(row, interface);
-    if (number)
-        remember(table, interface, number);
-    return number;
-}
-
-/* ======== Rows of new interfaces */
-
-/* What is added at once: the structs, and the rows made of them. */
+/* What is added at once: structs whose names are new, and those that have more than the row of their name. */
 struct addition {
     struct table *table;
-    struct wl_array found; /* of struct wl_interface pointers */
-    struct wl_array text, interfaces, messages, arguments;
+    struct wl_array found, longer; /* of struct wl_interface pointers */
     bool is_refused;
 };
 
-static uint32_t found_count(const struct addition *addition)
+static uint32_t count_of(const struct wl_array *structs)
 {
-    return (uint32_t)(addition->found.size / sizeof(struct wl_interface *));
+    return (uint32_t)(structs->size / sizeof(struct wl_interface *));
 }
 
-static const struct wl_interface *found_at(const struct addition *addition, uint32_t index)
+static const struct wl_interface *at(const struct wl_array *structs, uint32_t index)
 {
-    return ((const struct wl_interface *const *)addition->found.data)[index];
+    return ((const struct wl_interface *const *)structs->data)[index];
 }
 
-/* The index of an interface among those that were found, by its name, or of a client by its struct; their count if it is
- * not there. */
-static uint32_t index_of(const struct addition *addition, const struct wl_interface *interface)
+/* The index of a struct, or of one of its name if it is not `alone`; their count if there is none. */
+static uint32_t index_of(const struct wl_array *structs, const struct wl_interface *interface, bool alone)
 {
     uint32_t index = 0;
-    while (index < found_count(addition) && found_at(addition, index) != interface &&
-           (addition->table->is_of_client || strcmp(found_at(addition, index)->name, interface->name) != 0))
+    while (index < count_of(structs) && at(structs, index) != interface &&
+           (alone || strcmp(at(structs, index)->name, interface->name) != 0))
         index++;
     return index;
 }
 
+static void note(struct addition *addition, struct wl_array *structs, const struct wl_interface *interface, bool alone)
+{
+    if (index_of(structs, interface, alone) == count_of(structs) && !append(structs, &interface, sizeof interface))
+        addition->is_refused = true;
+}
+
+/* A struct is in the table, or has more than its row; or its name is new, or in a client's table that of others alone.
+ */
 static void find(struct addition *addition, const struct wl_interface *interface)
 {
-    if (addition->is_refused || known(addition->table, interface, &addition->is_refused) || addition->is_refused ||
-        index_of(addition, interface) < found_count(addition))
+    struct table *table = addition->table;
+    if (remembered(table, interface))
         return;
-    if (!append(&addition->found, &interface, sizeof interface))
+    const uint32_t number = fitting(table, interface, true);
+    if (number)
+        remember(table, interface, number);
+    else if (fitting(table, interface, false))
+        note(addition, &addition->longer, interface, false);
+    else if (table->is_of_client || !is_name_known(table, interface->name))
+        note(addition, &addition->found, interface, table->is_of_client);
+    else {
+        log_line("interface %s is there twice, with other messages\n", interface->name);
         addition->is_refused = true;
+    }
 }
 
 static void find_in(struct addition *addition, const struct wl_message *messages, int count)
@@ -330,19 +344,28 @@ static void find_in(struct addition *addition, const struct wl_message *messages
     for (int i = 0; i < count; i++) {
         uint32_t arguments = messages[i].types ? signature_count(messages[i].signature) : 0;
         for (uint32_t j = 0; j < arguments; j++)
-            if (messages[i].types[j])
+            if (messages[i].types[j] && !addition->is_refused)
                 find(addition, messages[i].types[j]);
     }
 }
 
-/* What an interface's messages name, what those of these do, and so on: the list grows while it is walked. */
-static void find_all(struct addition *addition, const struct wl_interface *interface)
+static void find_in_all(struct addition *addition, const struct wl_array *structs, uint32_t *from)
 {
-    find(addition, interface);
-    for (uint32_t i = 0; i < found_count(addition) && !addition->is_refused; i++) {
-        const struct wl_interface *one = found_at(addition, i);
+    for (; *from < count_of(structs) && !addition->is_refused; ++*from) {
+        const struct wl_interface *one = at(structs, *from);
         find_in(addition, one->methods, one->method_count);
         find_in(addition, one->events, one->event_count);
+    }
+}
+
+/* What an interface's messages name, what those of these do, and so on: the lists grow while they are walked. */
+static void find_all(struct addition *addition, const struct wl_interface *interface)
+{
+    uint32_t found = 0, longer = 0;
+    find(addition, interface);
+    while (!addition->is_refused && (found < count_of(&addition->found) || longer < count_of(&addition->longer))) {
+        find_in_all(addition, &addition->found, &found);
+        find_in_all(addition, &addition->longer, &longer);
     }
 }
 
@@ -360,86 +383,128 @@ static uint32_t kind_of(char letter)
     }
 }
 
-static uint32_t number_after(struct addition *addition, const struct wl_interface *interface)
+/* The number that an interface has once all is added. On a server what was found first stands for its name. */
+static uint32_t number_after(const struct addition *addition, const struct wl_interface *interface)
 {
-    uint32_t number = known(addition->table, interface, &addition->is_refused);
-    return number ? number : NB_INTERFACE_FIRST + addition->table->count + index_of(addition, interface);
+    const struct table *table = addition->table;
+    const uint32_t index = index_of(&addition->found, interface, table->is_of_client);
+    if (index < count_of(&addition->found))
+        return NB_INTERFACE_FIRST + table->count + index;
+    const uint32_t number = remembered(table, interface);
+    return number ? number : fitting(table, interface, false);
+}
+
+/* Rows as the session takes them. */
+struct rows {
+    struct wl_array text, interfaces, messages, arguments;
+};
+
+static void rows_end(struct rows *rows)
+{
+    free(rows->text.data);
+    free(rows->interfaces.data);
+    free(rows->messages.data);
+    free(rows->arguments.data);
 }
 
 /* The number in the row of an object argument. */
-static uint32_t number_of_type(struct addition *addition, char letter, const struct wl_interface *type)
+static uint32_t number_of_type(const struct addition *addition, char letter, const struct wl_interface *type)
 {
-    return !type || (letter == 'o' && addition->table->is_of_client) ? NB_INTERFACE_ANY
-                                                                     : number_after(addition, type);
+    return !type || (letter == 'o' && addition->table->is_of_client) ? NB_INTERFACE_ANY : number_after(addition, type);
 }
 
-static bool add_message(struct addition *addition, const struct wl_message *message)
+static bool add_message(const struct addition *addition, struct rows *rows, const struct wl_message *message)
 {
     const char *rest = message->signature;
     char letter;
     bool is_nullable;
-    nb_message_row row = { .name_at = (uint32_t)addition->text.size,
+    nb_message_row row = { .name_at = (uint32_t)rows->text.size,
                            .name_length = (uint32_t)strlen(message->name),
                            .since = signature_since(rest),
                            .arguments = signature_count(rest) };
-    if (row.arguments > MOST_ARGUMENTS || !append(&addition->text, message->name, row.name_length) ||
-        !append(&addition->messages, &row, sizeof row))
+    if (row.arguments > MOST_ARGUMENTS || !append(&rows->text, message->name, row.name_length) ||
+        !append(&rows->messages, &row, sizeof row))
         return false;
     for (uint32_t i = 0; (rest = signature_next(rest, &letter, &is_nullable)); i++) {
         nb_argument_row argument = { .kind = kind_of(letter), .is_nullable = is_nullable };
         if (is_object(letter) && message->types)
             argument.interface = number_of_type(addition, letter, message->types[i]);
-        if (!append(&addition->arguments, &argument, sizeof argument))
+        if (!append(&rows->arguments, &argument, sizeof argument))
             return false;
     }
     return true;
 }
 
-/* How many rows before the one at this index have its name: in a client's table alone there are such. */
-static uint32_t namesakes(const struct addition *addition, uint32_t index)
+/* The name of a row; behind it a number, which no interface has, if rows before it have that name: in a client's table
+ * alone there are such. */
+static bool add_name(const struct table *table, struct rows *rows, uint32_t number)
 {
-    const char *name = found_at(addition, index)->name;
-    uint32_t count = 0;
-    for (uint32_t i = 0; i < addition->table->count; i++)
-        count += strcmp(addition->table->rows[i].name, name) == 0;
-    for (uint32_t i = 0; i < index; i++)
-        count += strcmp(found_at(addition, i)->name, name) == 0;
-    return count;
+    char behind[16] = "";
+    const char *name = table->rows[number - NB_INTERFACE_FIRST].name;
+    uint32_t namesakes = 0;
+    for (uint32_t i = 0; i < number - NB_INTERFACE_FIRST; i++)
+        namesakes += strcmp(table->rows[i].name, name) == 0;
+    if (namesakes > 0)
+        snprintf(behind, sizeof behind, "'%u", namesakes + 1);
+    return append(&rows->text, name, strlen(name)) && append(&rows->text, behind, strlen(behind));
 }
 
-/* The name of a row; behind it a number, which no interface has, if rows before it have that name. */
-static bool add_name(struct addition *addition, uint32_t index)
+static bool add_interface(const struct addition *addition, struct rows *rows, const struct wl_interface *interface)
 {
-    char number[16] = "";
-    const char *name = found_at(addition, index)->name;
-    uint32_t count = namesakes(addition, index);
-    if (count > 0)
-        snprintf(number, sizeof number, "'%u", count + 1);
-    return append(&addition->text, name, strlen(name)) && append(&addition->text, number, strlen(number));
-}
-
-static bool add_interface(struct addition *addition, uint32_t index)
-{
-    const struct wl_interface *interface = found_at(addition, index);
-    nb_interface_row row = { .name_at = (uint32_t)addition->text.size,
+    nb_interface_row row = { .name_at = (uint32_t)rows->text.size,
                              .version = (uint32_t)interface->version,
                              .requests = (uint32_t)interface->method_count,
                              .events = (uint32_t)interface->event_count };
-    bool is_well = add_name(addition, index);
-    row.name_length = (uint32_t)addition->text.size - row.name_at;
-    is_well = is_well && append(&addition->interfaces, &row, sizeof row);
+    bool is_well = add_name(addition->table, rows, number_after(addition, interface));
+    row.name_length = (uint32_t)rows->text.size - row.name_at;
+    is_well = is_well && append(&rows->interfaces, &row, sizeof row);
     for (int i = 0; i < interface->method_count; i++)
-        is_well = is_well && add_message(addition, &interface->methods[i]);
+        is_well = is_well && add_message(addition, rows, &interface->methods[i]);
     for (int i = 0; i < interface->event_count; i++)
-        is_well = is_well && add_message(addition, &interface->events[i]);
+        is_well = is_well && add_message(addition, rows, &interface->events[i]);
     return is_well;
 }
 
-/* Rows of the table for what was found; none counts before the session has taken them all. */
-static bool prepare(struct addition *addition)
+static bool add_all(const struct addition *addition, struct rows *rows, const struct wl_array *structs)
 {
-    struct table *table = addition->table;
-    uint32_t needed = table->count + found_count(addition);
+    for (uint32_t i = 0; i < count_of(structs); i++)
+        if (!add_interface(addition, rows, at(structs, i))) {
+            log_line("interface %s has no place in the table\n", at(structs, i)->name);
+            return false;
+        }
+    return true;
+}
+
+/* Hands the rows of structs to the session. That they contradict a client's table is not said: see add. */
+static bool merge(const struct addition *addition, const struct wl_array *structs)
+{
+    const struct table *to = addition->table;
+    struct rows rows = { 0 };
+    nb_extension_fault fault = { 0 };
+    nb_status status = NB_OUT_OF_MEMORY;
+    if (count_of(structs) == 0)
+        return true;
+    if (add_all(addition, &rows, structs)) {
+        const nb_table table = { rows.text.data,       rows.text.size,
+                                 rows.interfaces.data, count_of(structs),
+                                 rows.messages.data,   rows.messages.size / sizeof(nb_message_row),
+                                 rows.arguments.data,  rows.arguments.size / sizeof(nb_argument_row) };
+        status = to->merge(to->session, &table, &fault);
+        if (status != NB_OK && !(to->is_of_client && fault.fault == NB_FAULT_CONTRADICTS))
+            log_line("interface %s: %s (fault %u)\n",
+                     fault.interface < count_of(structs) ? at(structs, fault.interface)->name : "?",
+                     nb_status_text(status), fault.fault);
+    }
+    rows_end(&rows);
+    return status == NB_OK;
+}
+
+/* ======== Adding to the table */
+
+/* Rows of the table for what was found; none counts before the session has taken them all. */
+static bool prepare(struct table *table, const struct wl_array *found)
+{
+    uint32_t needed = table->count + count_of(found);
     if (needed > table->room) {
         struct table_row *rows = realloc(table->rows, 2 * needed * sizeof *rows);
         if (!rows)
@@ -447,8 +512,8 @@ static bool prepare(struct addition *addition)
         table->rows = rows;
         table->room = 2 * needed;
     }
-    for (uint32_t i = 0; i < found_count(addition); i++)
-        if (!row_begin(&table->rows[table->count + i], found_at(addition, i))) {
+    for (uint32_t i = 0; i < count_of(found); i++)
+        if (!row_begin(&table->rows[table->count + i], at(found, i))) {
             while (i-- > 0)
                 row_end(&table->rows[table->count + i]);
             return false;
@@ -456,57 +521,64 @@ static bool prepare(struct addition *addition)
     return true;
 }
 
-static void commit(struct addition *addition)
+static bool add_found(struct addition *addition)
 {
     struct table *table = addition->table;
-    for (uint32_t i = 0; i < found_count(addition); i++, table->count++)
-        remember(table, found_at(addition, i), NB_INTERFACE_FIRST + table->count);
+    const uint32_t count = count_of(&addition->found);
+    if (!prepare(table, &addition->found))
+        return false;
+    if (!merge(addition, &addition->found)) {
+        for (uint32_t i = 0; i < count; i++)
+            row_end(&table->rows[table->count + i]);
+        return false;
+    }
+    for (uint32_t i = 0; i < count; i++, table->count++)
+        remember(table, at(&addition->found, i), NB_INTERFACE_FIRST + table->count);
+    addition->found.size = 0;
+    return true;
 }
 
+/* The rows that longer structs have grow. If there is no memory for one, the session has what this table lacks: it
+ * takes the same once more. */
+static bool extend_longer(struct addition *addition)
+{
+    struct table *table = addition->table;
+    if (!merge(addition, &addition->longer))
+        return false;
+    for (uint32_t i = 0; i < count_of(&addition->longer); i++) {
+        const struct wl_interface *interface = at(&addition->longer, i);
+        const uint32_t number = fitting(table, interface, false);
+        if (!row_extend(&table->rows[number - NB_INTERFACE_FIRST], interface))
+            return false;
+        remember(table, interface, number);
+    }
+    return true;
+}
+
+/* In a client's table a longer struct has a row of its own, too, if its objects make others than those of the row that
+ * it fits: others of one name, which the session tells apart. */
 static bool add(struct addition *addition)
 {
-    nb_table_fault fault = { 0 };
-    for (uint32_t i = 0; i < found_count(addition); i++)
-        if (!add_interface(addition, i)) {
-            log_line("interface %s has no place in the table\n", found_at(addition, i)->name);
-            return false;
-        }
-    const nb_table rows = { addition->text.data,
-                            addition->text.size,
-                            addition->interfaces.data,
-                            found_count(addition),
-                            addition->messages.data,
-                            addition->messages.size / sizeof(nb_message_row),
-                            addition->arguments.data,
-                            addition->arguments.size / sizeof(nb_argument_row) };
-    if (!prepare(addition))
+    if (!add_found(addition))
         return false;
-    nb_status status = addition->table->extend(addition->table->session, &rows, &fault);
-    if (status == NB_OK) {
-        commit(addition);
+    if (extend_longer(addition))
         return true;
-    }
-    for (uint32_t i = 0; i < found_count(addition); i++)
-        row_end(&addition->table->rows[addition->table->count + i]);
-    log_line("interface %s: %s (fault %u)\n",
-             fault.interface < found_count(addition) ? found_at(addition, fault.interface)->name : "?",
-             nb_status_text(status), fault.fault);
-    return false;
+    free(addition->found.data);
+    addition->found = addition->longer;
+    addition->longer = (struct wl_array){ 0 };
+    return addition->table->is_of_client && add_found(addition);
 }
 
 uint32_t table_number(struct table *table, const struct wl_interface *interface)
 {
     struct addition addition = { .table = table };
-    uint32_t number = known(table, interface, &addition.is_refused);
-    if (number || addition.is_refused)
+    uint32_t number = remembered(table, interface);
+    if (number)
         return number;
-    uint32_t next = NB_INTERFACE_FIRST + table->count;
     find_all(&addition, interface);
-    bool is_added = !addition.is_refused && add(&addition);
+    if (!addition.is_refused && add(&addition))
+        number = fitting(table, interface, true);
     free(addition.found.data);
-    free(addition.text.data);
-    free(addition.interfaces.data);
-    free(addition.messages.data);
-    free(addition.arguments.data);
-    return is_added ? next : 0;
+    free(addition.longer.data);
+    return number;
 }

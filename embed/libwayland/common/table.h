@@ -2,21 +2,22 @@
  *
  * An interface gets into the table when it is first named, with all that its messages name. A name has one row. Another
  * struct of the same name, as each module that was linked has its own, is the same interface if the messages that both
- * have are the same; if it has more messages, those cannot be used.
+ * have are the same; if it has more, the row grows.
  *
- * A client's table is not so strict, as libwayland-client is not. A struct that no row of its name fits has a row of its
- * own, under a name that nobody sees. Object arguments are of any interface: in a request the server judges them. */
+ * A client's table is not so strict, as libwayland-client is not. A struct that no row of its name fits has a row of
+ * its own, under a name that nobody sees. Object arguments are of any interface: in a request the server judges them.
+ */
 #ifndef TABLE_H
 #define TABLE_H
 
 #include "common.h"
 #include <numbyroga.h>
 
-/* nb_server_extend or nb_client_extend, for the session that `session` points to. */
-typedef nb_status table_extend(void *session, const nb_table *rows, nb_table_fault *fault);
+/* nb_server_merge or nb_client_merge, for the session that `session` points to. */
+typedef nb_status table_merge(void *session, const nb_table *rows, nb_extension_fault *fault);
 
 struct table {
-    table_extend *extend;
+    table_merge *merge;
     void *session;
     struct table_row *rows; /* those from NB_INTERFACE_FIRST on */
     uint32_t count, room;
@@ -26,7 +27,7 @@ struct table {
     bool is_of_client;
 };
 
-void table_begin(struct table *table, table_extend *extend, void *session);
+void table_begin(struct table *table, table_merge *merge, void *session);
 void table_end(struct table *table);
 
 /* The number of an interface, which is put into the session's table if it is not there. 0 if it cannot be, which is
@@ -38,8 +39,5 @@ bool table_has_event(const struct table *table, uint32_t number, uint32_t event)
 
 /* How many descriptors an event of this interface has; 0 if there is no such event. */
 uint32_t table_event_descriptors(const struct table *table, uint32_t number, uint32_t event);
-
-/* The struct by which a number got into the table; NULL for the three that are there beforehand. */
-const struct wl_interface *table_interface(const struct table *table, uint32_t number);
 
 #endif

@@ -40,15 +40,12 @@ static bool is_allowed(const struct request *request, const nb_action *action)
     return true;
 }
 
-/* Puts the resources in. False if an argument has none, or a string is null that may not be: the session lets that
- * pass, and a handler would take it. */
+/* Puts the resources in. False if an argument has none. */
 static bool complete(struct request *request, const nb_argument *arguments)
 {
     for (uint32_t i = 0; i < request->count; i++) {
         const nb_argument *argument = &arguments[i];
         union wl_argument *value = &request->arguments.values[i];
-        if (argument->kind == NB_NULL_STRING && !signature_is_nullable(request->message->signature, i))
-            return false;
         if (argument->kind != NB_OBJECT || nb_is_null(&argument->object))
             continue;
         struct wl_resource *resource = resource_of(request->client, &argument->object, argument->data);
@@ -88,7 +85,7 @@ static void hand_on(struct request *request, const nb_action *action, const nb_a
         return;
     }
     request->message = &request->resource->object.interface->methods[request->opcode];
-    if (!complete(request, arguments)) {
+    if (action->forbidden_null || !complete(request, arguments)) {
         client_post_error(request->client, WL_DISPLAY_ERROR_INVALID_METHOD, "invalid arguments for %s@%u.%s",
                           request->resource->object.interface->name, request->resource->object.id,
                           request->message->name);

@@ -17,9 +17,9 @@ static int wakes_up(int fd, uint32_t mask, void *data)
     return read(fd, &count, sizeof count) < 0 && errno != EAGAIN ? -1 : 1;
 }
 
-static nb_status extend(void *session, const nb_table *rows, nb_table_fault *fault)
+static nb_status merge(void *session, const nb_table *rows, nb_extension_fault *fault)
 {
-    return nb_server_extend(session, rows, fault);
+    return nb_server_merge(session, rows, fault);
 }
 
 static void begin_lists(struct wl_display *display)
@@ -75,7 +75,7 @@ EXPORT struct wl_display *wl_display_create(void)
     if (!display)
         return NULL;
     begin_lists(display);
-    table_begin(&display->table, extend, &display->core);
+    table_begin(&display->table, merge, &display->core);
     display->is_printing = print_is_asked("server");
     if (begin_parts(display))
         return display;

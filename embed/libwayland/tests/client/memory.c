@@ -98,12 +98,19 @@ static void send_some(void)
     TELL(3, TELL_OBJECTS, 3, 0xff000000);
 }
 
+/* A longer struct of a name that is there. */
+static const struct wl_message more_events[] = { { "release", "", NULL }, { "more", "h", NULL } };
+static const struct wl_interface longer = { "wl_buffer", 9, 0, NULL, 2, more_events };
+
 static void use(struct wl_proxy *registry)
 {
     struct wl_event_queue *queue = wl_display_create_queue(display);
     struct wl_proxy *kinds = handled(wl_registry_bind((struct wl_registry *)registry, 1, &kinds_interface, 3));
     struct wl_proxy *surfaces = wl_registry_bind((struct wl_registry *)registry, 2, &wl_compositor_interface, 4);
+    struct wl_proxy *buffer = wl_registry_bind((struct wl_registry *)registry, 3, &longer, 9);
     struct wl_array array = { 5, 0, "12345" };
+    if (buffer)
+        wl_proxy_destroy(buffer);
     if (kinds) {
         struct wl_proxy *wrapper = wl_proxy_create_wrapper(kinds);
         struct wl_proxy *made = handled(wl_proxy_marshal_flags(kinds, ASK_MAKE, &kinds_interface, 3, 0, NULL));

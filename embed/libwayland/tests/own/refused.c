@@ -164,6 +164,26 @@ static void ask_what_is_gone(void)
     dispatch_all();
 }
 
+/* A longer struct of a name that is there, and of one that its messages name. What was refused is there the next time. */
+static bool is_growing_well = true;
+static void grow(void)
+{
+    static const struct wl_message requests[] = {
+        { "destroy", "", NULL }, { "number", "i", NULL }, { "late", "2i", NULL }, { "more", "s", NULL }
+    };
+    static const struct wl_message events[] = { { "told_number", "i", NULL }, { "told_more", "h", NULL } };
+    static const struct wl_interface part = { "part", 6, 4, requests, 2, events };
+    static const struct wl_interface *types[] = { &part };
+    static const struct wl_message makes[] = { { "make", "n", types } };
+    static const struct wl_interface maker = { "maker", 1, 1, makes, 0, NULL };
+    if (!wl_global_create(display, &maker, 1, "maker", bind_part) &&
+        !wl_global_create(display, &maker, 1, "maker", bind_part))
+        is_growing_well = false;
+    if (!wl_global_create(display, &part, 6, "longer", bind_part) &&
+        !wl_global_create(display, &part, 6, "longer", bind_part))
+        is_growing_well = false;
+}
+
 static int on_timer(void *data)
 {
     (void)data;
@@ -198,6 +218,7 @@ static void live(void)
         wl_protocol_logger_destroy(logger);
     client_life();
     ask_what_is_gone();
+    grow();
     many();
     client_life();
     wl_display_destroy_clients(display);
@@ -219,7 +240,7 @@ static int open_count(void)
 }
 
 /* Lives once with the allocation refused, and once without. The status: 0, 4 if a descriptor is left, 5 if the second
- * life does not work, or that of a sanitizer. */
+ * life does not work, 6 if a row does not grow once there is memory, or that of a sanitizer. */
 static int try_one(long which)
 {
     if (!freopen("/dev/null", "w", stdout))
@@ -235,6 +256,8 @@ static int try_one(long which)
     countdown = -1;
     if (open_count() != before)
         return 4;
+    if (!is_growing_well)
+        return 6;
     descriptor_count = 0;
     live();
     return descriptor_count == 3 && open_count() == before ? 0 : 5;

@@ -133,6 +133,54 @@ static void two_structs(int which)
     show();
 }
 
+static const struct wl_message longer_requests[] = {
+    { "destroy", "", NULL }, { "number", "i", NULL }, { "late", "2i", NULL }, { "more", "i", NULL }
+};
+static const struct wl_message longer_events[] = { { "told_number", "i", NULL }, { "told_more", "i", NULL } };
+static const struct wl_interface longer_part = { "part", 6, 4, longer_requests, 2, longer_events };
+
+static void handle_more(struct wl_client *of, struct wl_resource *resource, int32_t number)
+{
+    (void)of;
+    printf("  more %d\n", number);
+    wl_resource_post_event(resource, 1, number + 1);
+}
+
+static const struct {
+    void (*others[3])(void);
+    void (*more)(struct wl_client *, struct wl_resource *, int32_t);
+} handlers_of_longer = { .more = handle_more };
+
+static void bind_longer(struct wl_client *of, void *data, uint32_t version, uint32_t id)
+{
+    printf("  bind %s version %u id %u\n", (const char *)data, version, id);
+    struct wl_resource *made = wl_resource_create(of, &longer_part, (int)version, id);
+    if (made)
+        wl_resource_set_implementation(made, &handlers_of_longer, NULL, NULL);
+}
+
+/* Objects of both structs, of which either may come first. What the longer one has is none of the shorter one's. */
+static void longer_struct(int which)
+{
+    begin();
+    if (which == 1)
+        wl_global_create(display, &longer_part, 6, "longer", bind_longer);
+    wl_global_create(display, &part_interface, 5, "shorter", bind_part);
+    if (which == 0)
+        wl_global_create(display, &longer_part, 6, "longer", bind_longer);
+    get_registry(2);
+    bind_global(2, which == 1 ? 3 : 2, "part", 5, 3);
+    bind_global(2, which == 1 ? 2 : 3, "part", 6, 4);
+    turn();
+    request(3, PART_NUMBER, "w", 7);
+    request(4, 3, "w", 8);
+    turn();
+    show();
+    request(3, 3, "w", 9);
+    turn();
+    show();
+}
+
 /* ======== The filter */
 
 static bool is_allowed = true;
@@ -217,6 +265,7 @@ const struct test global_tests[] = {
     { "bad-bind", bad_binds, 16 },      { "bad-bind", bad_binds, 17 },     { "bad-bind", bad_binds, 18 },
     { "sync-serial", sync_serial, 0 },  { "sync-serial", sync_serial, 3 },
     { "two-structs", two_structs, 0 },  { "two-structs", two_structs, 1 }, { "two-structs", two_structs, 2 },
+    { "longer-struct", longer_struct, 0 }, { "longer-struct", longer_struct, 1 },
     { "filter", filtered, 0 },          { "filter", filtered, 1 },         { "filter", filtered, 2 },
     { "filter", filtered, 3 },          { "filter-for-one", filtered_for_one, 0 },
     { "filter-for-one", filtered_for_one, 1 },
