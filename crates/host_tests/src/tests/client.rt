@@ -57,7 +57,7 @@ const MOVED: &[u32] = &[3, 0x000c0000, 0];
 const GLOBAL_NULL: &[u32] = &[2, 0x00140000, 1, 0, 1];
 
 /// The conversations, each of a new session.
-static ROWS: [Run<Act>; 6] = [
+static ROWS: [Run<Act>; 4] = [
     // `wl_display.sync` is sent, and `wl_callback.done` and `wl_display.delete_id` come back. The callback had data, so it is
     // noted.
     Run {
@@ -282,81 +282,6 @@ static ROWS: [Run<Act>; 6] = [
             (Act::Dropped, "WouldBlock"),
         ],
     },
-    // The place of the first null that is not allowed, an object or a string, is told, counted from 1; 0 if there is none. The
-    // number 0 is no null.
-    Run {
-        name: "forbidden nulls are told",
-        first: &[],
-        entries: &[
-            (Act::AddKnot, "Ok"),
-            (Act::Send(DISPLAY, 1, Some(1), NEW, &[]), "Ok 2@2 serial 1"),
-            (Act::BindPad(9), "Ok 4@3 serial 2"),
-            (Act::BindKnot(8), "Ok 5@4 serial 3"),
-            (Act::Received(TIED, &[]), "Ok"),
-            (
-                Act::Next(4, 1),
-                "Ok has_data 1 data 8 arguments 4 bytes 1 by 5@4 (4: 0) (4: 0 data 9 object 4@3) (8: 0) (3: 0 length 1) [ 78 ]",
-            ),
-            (Act::Finish, "Ok"),
-            (Act::Received(TIED_NULLS, &[]), "Ok"),
-            (
-                Act::Next(3, 0),
-                "TooSmall has_data 1 data 8 arguments 4 null 2 by 5@4 (0: 0) (0: 0) (0: 0)",
-            ),
-            (
-                Act::Next(4, 0),
-                "Ok has_data 1 data 8 arguments 4 null 2 by 5@4 (4: 0) (4: 0) (8: 0) (8: 0)",
-            ),
-            (Act::Finish, "Ok"),
-            (Act::Received(TIED_LAST_NULL, &[]), "Ok"),
-            (
-                Act::Next(4, 0),
-                "Ok has_data 1 data 8 arguments 4 null 4 by 5@4 (4: 0 data 9 object 4@3) (4: 0 data 9 object 4@3) (8: 0) (8: 0)",
-            ),
-            (Act::Finish, "Ok"),
-            (Act::Received(MOVED, &[]), "Ok"),
-            (
-                Act::Next(1, 0),
-                "Ok has_data 1 data 9 arguments 1 by 4@3 (0: 0)",
-            ),
-            (Act::Finish, "Ok"),
-            (Act::Received(GLOBAL_NULL, &[]), "Ok"),
-            (
-                Act::Next(3, 0),
-                "Ok has_data 1 data 1 arguments 3 null 2 by 2@2 (1: 1) (8: 0) (1: 1)",
-            ),
-            (Act::Finish, "Ok"),
-        ],
-    },
-    // A `pad` has its new request and its new event once longer rows have extended the table, and the rows that it began with
-    // change nothing then. Rows that contradict are refused.
-    Run {
-        name: "whole rows extend the table",
-        first: &[],
-        entries: &[
-            (
-                Act::Extend(OTHER_PAD),
-                "BadTable fault 9 event 1 opcode 1 version 2",
-            ),
-            (Act::Extend(PAD_TWICE), "BadTable interface 2 fault 3"),
-            (Act::Extend(LONG_PAD), "Ok"),
-            (Act::Extend(TABLE), "Ok"),
-            (Act::Send(DISPLAY, 1, Some(1), NEW, &[]), "Ok 2@2 serial 1"),
-            (Act::BindPad(9), "Ok 4@3 serial 2"),
-            (
-                Act::Send(BOUND, 4, Some(10), WRITE, b"hey"),
-                "Ok 5@4 serial 3",
-            ),
-            (Act::Received(&[3, 0x00080002], &[]), "Ok"),
-            (Act::Next(0, 0), "Ok opcode 2 has_data 1 data 9 by 4@3"),
-            (Act::Finish, "Ok"),
-            (
-                Act::Extend(OTHER_PAD),
-                "BadTable fault 9 event 1 opcode 1 version 3",
-            ),
-            (Act::Extend(BAD_NOTE), "BadTable fault 4"),
-        ],
-    },
 ];
 
 /// Each conversation tells what it has to.
@@ -366,4 +291,93 @@ fn rows(rt: HostRuntime) -> Result<(), Fail> {
         run_tells::<Client>(&rt, run, None, false)?;
     }
     Ok(())
+}
+
+/// The place of the first null that is not allowed, an object or a string, is told, counted from 1; 0 if there is none. The
+/// number 0 is no null.
+static NULLS: Run<Act> = Run {
+    name: "forbidden nulls are told",
+    first: &[],
+    entries: &[
+        (Act::AddKnot, "Ok"),
+        (Act::Send(DISPLAY, 1, Some(1), NEW, &[]), "Ok 2@2 serial 1"),
+        (Act::BindPad(9), "Ok 4@3 serial 2"),
+        (Act::BindKnot(8), "Ok 5@4 serial 3"),
+        (Act::Received(TIED, &[]), "Ok"),
+        (
+            Act::Next(4, 1),
+            "Ok has_data 1 data 8 arguments 4 bytes 1 by 5@4 (4: 0) (4: 0 data 9 object 4@3) (8: 0) (3: 0 length 1) [ 78 ]",
+        ),
+        (Act::Finish, "Ok"),
+        (Act::Received(TIED_NULLS, &[]), "Ok"),
+        (
+            Act::Next(3, 0),
+            "TooSmall has_data 1 data 8 arguments 4 null 2 by 5@4 (0: 0) (0: 0) (0: 0)",
+        ),
+        (
+            Act::Next(4, 0),
+            "Ok has_data 1 data 8 arguments 4 null 2 by 5@4 (4: 0) (4: 0) (8: 0) (8: 0)",
+        ),
+        (Act::Finish, "Ok"),
+        (Act::Received(TIED_LAST_NULL, &[]), "Ok"),
+        (
+            Act::Next(4, 0),
+            "Ok has_data 1 data 8 arguments 4 null 4 by 5@4 (4: 0 data 9 object 4@3) (4: 0 data 9 object 4@3) (8: 0) (8: 0)",
+        ),
+        (Act::Finish, "Ok"),
+        (Act::Received(MOVED, &[]), "Ok"),
+        (
+            Act::Next(1, 0),
+            "Ok has_data 1 data 9 arguments 1 by 4@3 (0: 0)",
+        ),
+        (Act::Finish, "Ok"),
+        (Act::Received(GLOBAL_NULL, &[]), "Ok"),
+        (
+            Act::Next(3, 0),
+            "Ok has_data 1 data 1 arguments 3 null 2 by 2@2 (1: 1) (8: 0) (1: 1)",
+        ),
+        (Act::Finish, "Ok"),
+    ],
+};
+
+/// It tells what it has to.
+#[test]
+fn nulls(rt: HostRuntime) -> Result<(), Fail> {
+    run_tells::<Client>(&rt, &NULLS, None, false)
+}
+
+/// A `pad` has its new request and its new event once longer rows have extended the table, and the rows that it began with
+/// change nothing then. Rows that contradict are refused.
+static WHOLE_ROWS: Run<Act> = Run {
+    name: "whole rows extend the table",
+    first: &[],
+    entries: &[
+        (
+            Act::Extend(OTHER_PAD),
+            "BadTable fault 9 event 1 opcode 1 version 2",
+        ),
+        (Act::Extend(PAD_TWICE), "BadTable interface 2 fault 3"),
+        (Act::Extend(LONG_PAD), "Ok"),
+        (Act::Extend(TABLE), "Ok"),
+        (Act::Send(DISPLAY, 1, Some(1), NEW, &[]), "Ok 2@2 serial 1"),
+        (Act::BindPad(9), "Ok 4@3 serial 2"),
+        (
+            Act::Send(BOUND, 4, Some(10), WRITE, b"hey"),
+            "Ok 5@4 serial 3",
+        ),
+        (Act::Received(&[3, 0x00080002], &[]), "Ok"),
+        (Act::Next(0, 0), "Ok opcode 2 has_data 1 data 9 by 4@3"),
+        (Act::Finish, "Ok"),
+        (
+            Act::Extend(OTHER_PAD),
+            "BadTable fault 9 event 1 opcode 1 version 3",
+        ),
+        (Act::Extend(BAD_NOTE), "BadTable fault 4"),
+    ],
+};
+
+/// It tells what it has to.
+#[test]
+fn whole_rows(rt: HostRuntime) -> Result<(), Fail> {
+    run_tells::<Client>(&rt, &WHOLE_ROWS, None, false)
 }
