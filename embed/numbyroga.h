@@ -338,7 +338,8 @@ typedef struct {
     uint32_t kind;       /* one of the above; the fields that it does not use are 0 */
     int32_t value;       /* NB_INT, NB_UINT, NB_FIXED: the number. NB_DESCRIPTOR: the descriptor */
     uint32_t at, length; /* NB_STRING, NB_ARRAY: where it stands in the bytes that are lent beside. A string has no zero
-                            in it, and none at its end */
+                            in it. Out: it is followed by one, which `length` does not count, and `at` is a multiple of
+                            eight. In: neither has to be so */
     nb_object_id object; /* NB_OBJECT, NB_NEW_ID: the object; null if its number is 0 */
     uint64_t data;       /* out: the data of that object; 0 if it has none. Not read */
 } nb_argument;
@@ -355,7 +356,7 @@ typedef struct {
     uint64_t data;           /* of the sender, or of the global */
     nb_object_id created;    /* the object that was made or bound; null if none was */
     uint32_t version;        /* of `created`; 0 if none was */
-    uint32_t bytes;          /* how many bytes its strings and arrays take */
+    uint32_t bytes;          /* how many bytes its strings and arrays take, with the zeros behind each */
     nb_global_id global;     /* of a bind */
     uint32_t forbidden_null; /* of a request: 0, or the place, counted from 1, of the first argument that is null where
                                 the table allows no null: refuse it ("Nulls" at the head of this file) */
@@ -366,7 +367,7 @@ typedef struct {
     uint32_t opcode;         /* its index among the events of the sender's interface */
     uint32_t arguments;      /* how many */
     uint32_t is_destructor;  /* whether finishing it ends its sender (0 or 1) */
-    uint32_t bytes;          /* how many bytes its strings and arrays take */
+    uint32_t bytes;          /* how many bytes its strings and arrays take, with the zeros behind each */
     nb_object_id sender;     /* the object that it was sent to */
     uint64_t data;           /* of the sender; 0 if it has none */
     nb_object_id created;    /* the object that the event made; null if none was */
@@ -577,7 +578,9 @@ nb_status nb_server_send_failed(nb_server *place, const nb_client_id *client);
  * itself, as is each request that breaks the protocol. The action is open, and no other of this client comes, until it
  * is finished.
  *
- * The arguments are written into `arguments`, and their strings and arrays into `bytes`. Its descriptors are yours.
+ * The arguments are written into `arguments`, and their strings and arrays into `bytes`: each at a multiple of eight,
+ * and each string with a zero behind it. So if `bytes` begins at a multiple of eight, C can take them where they are. Its
+ * descriptors are yours.
  *
  * Statuses; an action that was kept comes before any but NB_INVALID_ID, whatever became of its client since:
  *
@@ -823,7 +826,8 @@ nb_status nb_client_send_failed(nb_client *place, int32_t number);
 /* ======== A client's session: events and requests */
 
 /* Hands out the next event. It is open, and no other comes, until it is finished. Events of the display the session
- * handles by itself, and those for an object that the client has destroyed it drops. Its descriptors are yours.
+ * handles by itself, and those for an object that the client has destroyed it drops. The arguments are written as by
+ * nb_server_next_action. Its descriptors are yours.
  *
  * Statuses; an event that was kept comes before any:
  *

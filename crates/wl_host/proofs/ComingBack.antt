@@ -1,5 +1,5 @@
 -- Arguments that are handed out as flat structs and passed in again are the same.
-use Rattle.std.proofs.Common.{◌≡◌, ℕ, ◌+◌, ◌^◌, ◌++◌, ◌<◌, true, List, [], ◌∷◌, Option, None, Some, length, refl, ap, arith, append_assoc, le-leb}
+use Rattle.std.proofs.Common.{◌≡◌, ℕ, ◌+◌, ◌^◌, ◌++◌, ◌<◌, true, List, [], ◌∷◌, Option, None, Some, length, replicate, refl, ap, arith, append_assoc, le-leb}
 use Rattle.std.proofs.lemmas.List.{length-append}
 use Rattle.std.proofs.Math.Seq.{drop-append_seam, take-append_seam}
 use Rattle.std.proofs.lemmas.Bool.Decides.{nat_tests}
@@ -10,13 +10,13 @@ use Rattle.std.specs.Prelude.{nat_le}
 use Rattle.wl_wire.specs.declared.argument.Argument.{Argument}
 use Rattle.wl_wire.specs.declared.argument.Argument.TheVariants as arg
 use Rattle.wl_wire.specs.declared.argument.Token.{Token}
-use Rattle.wl_host.specs.Arguments.{ComesBack, all_bytes, argument_of, arguments_of, before_others, bytes_of, descriptor_given, flat_argument, flat_arguments, moved, part_of, queue_after, told, with_token}
+use Rattle.wl_host.specs.Arguments.{ComesBack, all_bytes, argument_of, arguments_of, before_others, bytes_of, descriptor_given, flat_argument, flat_arguments, moved, part_of, queue_after, told, with_token, zeros_behind_array, zeros_behind_string}
 use Rattle.wl_host.specs.Descriptors.{Descriptors, put_in, token_after}
 use Rattle.wl_host.specs.Flat.{count_number, flat_bytes}
 use Rattle.wl_host.specs.Kinds as kinds
 use Rattle.wl_host.specs.declared.flat.FlatObjectId.{FlatObjectId}
 
-small_count : (n : ℕ) → n < 2 ^ 32 → count_number n ≡ n
+pub small_count : (n : ℕ) → n < 2 ^ 32 → count_number n ≡ n
 small_count n h = grind (arith, nat_tests)
 
 -- the part that stands there
@@ -39,10 +39,16 @@ module _ {Id : Type 0} (flat : Id → FlatObjectId) (user_data : Id → ℕ) (st
   one_back t q before behind (arg.Uint value) c h = ap (λ v. Some (arg.Uint v)) (of_z-to_z w32 value c)
   one_back t q before behind (arg.Fixed value) c h = refl
   one_back t q before behind (arg.Str None) c h = refl
-  one_back t q before behind (arg.Str (Some text)) c h = rw (part_there kinds.string before text behind h, c) refl
+  one_back t q before behind (arg.Str (Some text)) c h =
+      let zeros = replicate (zeros_behind_string (length text)) 0 in
+      let n = length-append text zeros in
+      rw (append_assoc text zeros behind, part_there kinds.string before text (zeros ++ behind) (omega arith), c) refl
   one_back t q before behind (arg.Object id) c h = ap (λ i. Some (arg.Object i)) c
   one_back t q before behind (arg.NewId id) c h = ap (λ i. Some (arg.NewId i)) c
-  one_back t q before behind (arg.Array bytes) c h = rw (part_there kinds.array before bytes behind h) refl
+  one_back t q before behind (arg.Array bytes) c h =
+      let zeros = replicate (zeros_behind_array (length bytes)) 0 in
+      let n = length-append bytes zeros in
+      rw (append_assoc bytes zeros behind, part_there kinds.array before bytes (zeros ++ behind) (omega arith)) refl
   one_back t q before behind (arg.Fd own) c h = refl
 
   told_given : (q : Descriptors) (at : ℕ) (a : Argument Id Token) → descriptor_given (flat_argument flat user_data q at a) ≡ told q a

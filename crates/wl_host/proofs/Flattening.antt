@@ -57,6 +57,23 @@ part_more at part memory rest all h e =
     let t = front_of (at + length part) (take at memory ++ part) (drop (at + length part) memory) l in
     let a = append_assoc (take at memory) part rest in cc
 
+-- what is written behind a part is written with it
+pub written_behind : (at : ℕ) (part more memory : List ℕ) → at + length (part ++ more) ≤ length memory
+    → written_at (at + length part) more (written_at at part memory) ≡ written_at at (part ++ more) memory
+written_behind at part more memory h =
+    let n = length-append part more in
+    let front = take at memory ++ part in
+    let behind = drop (at + length part) memory in
+    let l : length front ≡ at + length part = length-append (take at memory) part ∙ ap (λ k. k + length part) (length-take-le at memory (omega arith)) in
+    let a = append_assoc (take at memory) part behind in
+    let f = front_of (at + length part) front behind l in
+    let b = append_assoc front more (drop (at + length part + length more) memory) in
+    let c = append_assoc (take at memory) part more in
+    let d = drop-drop (length more) (at + length part) (front ++ behind) in
+    let r = rest_of (at + length part) front behind l in
+    let e = drop-drop (length more) (at + length part) memory in
+    cc
+
 pub part_behind : (at : ℕ) (part memory old : List ℕ) → at + length part ≤ length memory → drop at memory ≡ drop at old → drop (at + length part) (written_at at part memory) ≡ drop (at + length part) old
 part_behind at part memory old h e =
     let l : length (take at memory ++ part) ≡ at + length part = length-append (take at memory) part ∙ ap (λ k. k + length part) (length-take-le at memory (omega arith)) in

@@ -1,5 +1,5 @@
 -- The arguments of a message as flat structs, and the arguments that flat structs stand for.
-use Rattle.std.specs.Prelude.{◌≡◌, ◌<◌, ◌^◌, ℕ, ◌+◌, ◌==◌, ℤ, pos, negsuc, List, [], ◌∷◌, ◌++◌, ◌⊎◌, length, take, drop, nat_le, nat_eq, Bool, false, if◌then◌else◌, Option, None, Some, unwrap_or, option_to_list, true}
+use Rattle.std.specs.Prelude.{◌≡◌, ◌<◌, ◌^◌, ℕ, ◌+◌, ◌-◌, ◌%◌, ◌==◌, ℤ, pos, negsuc, List, [], ◌∷◌, ◌++◌, ◌⊎◌, length, take, drop, replicate, nat_le, nat_eq, Bool, false, if◌then◌else◌, Option, None, Some, slice_get, unwrap_or, option_to_list, true}
 use Rattle.std.specs.Int.{w32, cast_signed, cast_unsigned}
 use Rattle.std.specs.List.{list_any}
 use Rattle.wl_wire.specs.declared.argument.Argument.{Argument}
@@ -15,11 +15,20 @@ use Rattle.wl_host.specs.declared.status.Status.TheVariants as status
 
 -- ---- out
 
+-- how many zeros follow a string of n bytes: up to the next multiple of eight, and one at least
+abbrev pub zeros_behind_string : ℕ → ℕ
+zeros_behind_string n = 8 - n % 8
+
+-- how many follow an array of n bytes
+abbrev pub zeros_behind_array : ℕ → ℕ
+zeros_behind_array n = (8 - n % 8) % 8
+
 module _ {Id : Type 0} where
-  -- the bytes of a string or an array
+  -- The bytes that are lent for a string or an array. With the zeros behind them they are a multiple of eight, so each begins at
+  -- one.
   abbrev pub bytes_of : Argument Id Token → List ℕ
-  bytes_of (arg.Str (Some text)) = text
-  bytes_of (arg.Array bytes) = bytes
+  bytes_of (arg.Str (Some text)) = text ++ replicate (zeros_behind_string (length text)) 0
+  bytes_of (arg.Array bytes) = bytes ++ replicate (zeros_behind_array (length bytes)) 0
   bytes_of _ = []
 
   -- the bytes of all of them, behind each other
@@ -74,6 +83,11 @@ module _ {Id : Type 0} (flat : Id → FlatObjectId) (user_data : Id → ℕ) whe
   abbrev pub flat_arguments : Descriptors → ℕ → List (Argument Id Token) → List FlatArgument
   flat_arguments q at [] = []
   flat_arguments q at (a ∷ args) = flat_argument q at a ∷ flat_arguments (queue_after q a) (at + length (bytes_of a)) args
+
+-- What C reads where it is: a zero follows a string, and both begin at a multiple of eight of the bytes.
+pub record IsReadInPlace (bytes : List ℕ) (a : FlatArgument) : Type 0 where
+  pub string : a.kind ≡ kinds.string → (a.at % 8 ≡ 0) × (slice_get bytes (a.at + a.length) ≡ Some 0)
+  pub array : a.kind ≡ kinds.array → a.at % 8 ≡ 0
 
 -- ---- in
 

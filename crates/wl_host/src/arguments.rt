@@ -1,9 +1,9 @@
 //! Arguments of messages, from flat structs and into memory that the host lends.
 
-ghost use Rattle.std.specs.Prelude.{◌≡◌, ◌+◌, ◌≤◌, ◌↔◌, ◌⊎◌, ◌∷◌, [], Some, IfErr, IfOk, IsTrue, OnErr, OnOk, false, length, min, true};
+ghost use Rattle.std.specs.Prelude.{◌≡◌, ◌+◌, ◌≤◌, ◌↔◌, ◌⊎◌, ◌∷◌, ◌++◌, [], Some, IfErr, IfOk, IsTrue, OnErr, OnOk, false, length, min, replicate, true};
 ghost use Rattle.std.specs.List.{count_by};
 ghost use Rattle.wl_host.specs.declared.status.Status.TheVariants as status;
-ghost use Rattle.wl_host.specs.Arguments.{IsUnread, all_bytes, argument_of, arguments_of, array_in, bytes_of, descriptor_given, descriptors_given, flat_argument, flat_arguments, has_zero, is_descriptor, part_of, queue_after, queue_after_all, string_in, written_at};
+ghost use Rattle.wl_host.specs.Arguments.{IsUnread, all_bytes, argument_of, arguments_of, array_in, bytes_of, descriptor_given, descriptors_given, flat_argument, flat_arguments, has_zero, is_descriptor, part_of, queue_after, queue_after_all, string_in, written_at, zeros_behind_array, zeros_behind_string};
 ghost use Rattle.wl_host.specs.Descriptors.{IsLonger, put_in, token_after};
 ghost use Rattle.wl_host.specs.Flat.{count_number, flat_bytes, flat_object, over_front};
 
@@ -55,7 +55,7 @@ pub trait FromFlat: Sized {
 pub struct Needs {
     /// How many arguments there are.
     pub arguments: usize,
-    /// How many bytes the strings and arrays have together. It saturates at `usize::MAX`.
+    /// How many bytes the strings and arrays take together, with the zeros behind them. It saturates at `usize::MAX`.
     pub bytes: usize,
 }
 
@@ -83,15 +83,36 @@ impl Needs {
     }
 }
 
-/// How many bytes of a string or an array the argument has.
-fn length_of<Id>(arg: &Argument<Id, Token>) -> usize
-    ensures { result ≡ length (bytes_of arg.now) }
+/// How many zeros follow a string of that length: up to the next multiple of eight, and one at least.
+fn zeros_behind_string(length: usize) -> usize
+    ensures { result ≡ zeros_behind_string length }
 {
-    match arg {
-        Argument::Str(Some(text)) => text.as_bytes().len(),
-        Argument::Array(array) => array.as_slice().len(),
-        _ => 0,
-    }
+    8 - length % 8
+}
+
+/// How many zeros follow an array of that length: up to the next multiple of eight.
+fn zeros_behind_array(length: usize) -> usize
+    ensures { result ≡ zeros_behind_array length }
+{
+    (8 - length % 8) % 8
+}
+
+/// How many bytes the argument takes, if it is a string or an array, with the zeros behind it. It saturates at `usize::MAX`.
+fn length_of<Id>(arg: &Argument<Id, Token>) -> usize
+    ensures { result ≡ min (length (bytes_of arg.now)) usize.MAX }
+{
+    let (length, zeros) = match arg {
+        Argument::Str(Some(text)) => {
+            let length = text.as_bytes().len();
+            (length, zeros_behind_string(length))
+        }
+        Argument::Array(array) => {
+            let length = array.as_slice().len();
+            (length, zeros_behind_array(length))
+        }
+        _ => (0, 0),
+    };
+    length.saturating_add(zeros)
 }
 
 /// Whether the argument is a descriptor.
@@ -108,14 +129,16 @@ pub fn descriptor_count<Id>(args: &[Argument<Id, Token>]) -> usize
     args.iter().filter(|arg| is_descriptor(*arg)).count()
 }
 
-/// Copies the bytes of a string or an array to the place `at` of the lent bytes, which have room for them.
-fn write_bytes(number: u32, from: &[u8], bytes: &mut [u8], at: usize) -> FlatArgument
-    requires { at + length from.now ≤ length bytes.old }
+/// Copies the bytes of a string or an array to the place `at` of the lent bytes, with so many zeros behind them. There is room
+/// for all of it.
+fn write_bytes(number: u32, from: &[u8], zeros: usize, bytes: &mut [u8], at: usize) -> FlatArgument
+    requires { at + length (from.now ++ replicate zeros 0) ≤ length bytes.old }
     ensures flat { result ≡ flat_bytes number (count_number at) (count_number (length from.now)) }
-    ensures bytes { bytes.new ≡ written_at at from.now bytes.old }
+    ensures bytes { bytes.new ≡ written_at at (from.now ++ replicate zeros 0) bytes.old }
 {
     let end = at + from.len();
     bytes[at..end].copy_from_slice(from);
+    bytes[end..end + zeros].fill(0);
     FlatArgument::of_bytes(number, count_number(at), count_number(from.len()))
 }
 
@@ -146,10 +169,16 @@ fn flat_argument<Id, O: Objects<Id>>(
         Argument::Uint(value) => FlatArgument::of_number(kind::UINT, value.cast_signed()),
         Argument::Fixed(value) => FlatArgument::of_number(kind::FIXED, *value),
         Argument::Str(None) => FlatArgument::of_number(kind::NULL_STRING, 0),
-        Argument::Str(Some(text)) => write_bytes(kind::STRING, text.as_bytes(), bytes, at),
+        Argument::Str(Some(text)) => {
+            let from = text.as_bytes();
+            write_bytes(kind::STRING, from, zeros_behind_string(from.len()), bytes, at)
+        }
         Argument::Object(id) => flat_object(objects, kind::OBJECT, id),
         Argument::NewId(id) => flat_object(objects, kind::NEW_ID, id),
-        Argument::Array(array) => write_bytes(kind::ARRAY, array.as_slice(), bytes, at),
+        Argument::Array(array) => {
+            let from = array.as_slice();
+            write_bytes(kind::ARRAY, from, zeros_behind_array(from.len()), bytes, at)
+        }
         Argument::Fd(token) => {
             let descriptor = descriptors.take_out(*token).unwrap_or(NO_DESCRIPTOR);
             FlatArgument::of_number(kind::DESCRIPTOR, descriptor)

@@ -95,9 +95,10 @@ pub struct FlatArgument {
     pub kind: u32,
     /// A number, or a descriptor.
     pub value: i32,
-    /// Where a string or an array begins in the bytes that are lent beside the arguments. No zero ends a string.
+    /// Where a string or an array begins in the bytes that are lent beside the arguments. Where it is handed out, that is a
+    /// multiple of eight.
     pub at: u32,
-    /// How many bytes it has.
+    /// How many bytes it has. Where it is handed out, zeros follow, and behind a string one at least.
     pub length: u32,
     /// An object.
     pub object: FlatObjectId,
@@ -125,7 +126,7 @@ pub struct FlatAction {
     pub created: FlatObjectId,
     /// The version of that object; 0 if there is none.
     pub version: u32,
-    /// How many bytes the strings and arrays have together.
+    /// How many bytes the strings and arrays take together, with the zeros behind each.
     pub bytes: u32,
     /// The global of a bind.
     pub global: FlatGlobalId,
@@ -144,7 +145,7 @@ pub struct FlatEvent {
     pub arguments: u32,
     /// 1 if the event is a destructor, which ends its sender; else 0.
     pub is_destructor: u32,
-    /// How many bytes the strings and arrays have together.
+    /// How many bytes the strings and arrays take together, with the zeros behind each.
     pub bytes: u32,
     /// The object that sends it.
     pub sender: FlatObjectId,

@@ -12,7 +12,7 @@ ghost use Rattle.wl_wire.specs.declared.argument.Argument.{Argument};
 ghost use Rattle.wl_wire.specs.declared.argument.ArgumentType.{ArgumentType};
 ghost use Rattle.wl_wire.specs.declared.argument.Token.{Token};
 ghost use Rattle.wl_host.specs.Actions.{EndsBind, EndsRequest, Lent, NextAction};
-ghost use Rattle.wl_host.specs.Arguments.{ComesBack, all_bytes, arguments_of, flat_arguments, moved};
+ghost use Rattle.wl_host.specs.Arguments.{ComesBack, IsReadInPlace, all_bytes, arguments_of, flat_arguments, moved};
 ghost use Rattle.wl_host.specs.Calls.{CreatesGlobal, CreatesObject, InsertsClient, SetsObjectData, world};
 ghost use Rattle.wl_host.specs.Clients.{SetsRoom, inserted};
 ghost use Rattle.wl_host.specs.Descriptors.{Descriptors};
@@ -34,11 +34,18 @@ ghost use Rattle.wl_host.specs.declared.rows.TableFault.{TableFault};
 ghost use Rattle.wl_host.specs.declared.status.Status.{Status};
 
 /// Arguments that are handed out as flat structs and passed in again are the same arguments, in a server's session and in a
-/// client's. Their descriptors get the tokens that come next where they go in. The bytes of the strings and arrays are fewer
-/// than 2³² together.
+/// client's. Their descriptors get the tokens that come next where they go in. The strings and arrays take fewer than 2³² bytes
+/// together.
 pub fn flat_arguments_come_back()
     ensures server { (user_data : IdParts → ℕ) (out_of into : Descriptors) (args : List (Argument IdParts Token)) → AllByRecursion (ComesBack flat_resource resource_of) args → length (all_bytes args) < 2 ^ 32 → arguments_of resource_of (all_bytes args) into (flat_arguments flat_resource user_data out_of 0 args) ≡ Some (moved out_of into args) }
     ensures client { (user_data : ProxyParts → ℕ) (out_of into : Descriptors) (args : List (Argument ProxyParts Token)) → AllByRecursion (ComesBack flat_proxy proxy_of) args → length (all_bytes args) < 2 ^ 32 → arguments_of proxy_of (all_bytes args) into (flat_arguments flat_proxy user_data out_of 0 args) ≡ Some (moved out_of into args) }
+{}
+
+/// A zero follows each string that is handed out, and each string and array begins at a multiple of eight of the bytes that are
+/// lent. They take fewer than 2³² bytes together.
+pub fn strings_and_arrays_are_read_in_place()
+    ensures server { (user_data : IdParts → ℕ) (out_of : Descriptors) (args : List (Argument IdParts Token)) → length (all_bytes args) < 2 ^ 32 → AllByRecursion (IsReadInPlace (all_bytes args)) (flat_arguments flat_resource user_data out_of 0 args) }
+    ensures client { (user_data : ProxyParts → ℕ) (out_of : Descriptors) (args : List (Argument ProxyParts Token)) → length (all_bytes args) < 2 ^ 32 → AllByRecursion (IsReadInPlace (all_bytes args)) (flat_arguments flat_proxy user_data out_of 0 args) }
 {}
 
 /// What an action of a server's session, and an event of a client's, tells of nulls is 0 if no argument is null where the signature

@@ -14,11 +14,6 @@
 
 /* ======== Making */
 
-static size_t aligned(size_t size)
-{
-    return (size + 7) & ~(size_t)7;
-}
-
 /* An event without arguments, and with room for so many, for their objects, and for their text, which is where `*text`
  * says. */
 static struct event *event_new(enum event_kind kind, struct wl_proxy *sender, uint32_t count, uint32_t objects,
@@ -123,43 +118,17 @@ static bool fill_new(struct event *event, uint32_t i, const nb_argument *from, c
     return true;
 }
 
-/* A string ends in a zero. An array is a struct, and behind it what it has. Answers how much of the text that takes. */
-static size_t fill_text(union wl_argument *to, const nb_argument *from, const uint8_t *bytes, uint8_t *text)
-{
-    if (from->kind == NB_STRING) {
-        memcpy(text, bytes + from->at, from->length);
-        text[from->length] = 0;
-        to->s = (const char *)text;
-        return aligned((size_t)from->length + 1);
-    }
-    struct wl_array *array = (struct wl_array *)(void *)text;
-    *array = (struct wl_array){ from->length, 0, text + aligned(sizeof *array) };
-    memcpy(array->data, bytes + from->at, from->length);
-    to->a = array;
-    return aligned(sizeof *array) + aligned(from->length);
-}
-
-static size_t text_of(const nb_argument *argument)
-{
-    switch (argument->kind) {
-    case NB_STRING: return aligned((size_t)argument->length + 1);
-    case NB_ARRAY: return aligned(sizeof(struct wl_array)) + aligned(argument->length);
-    default: return 0;
-    }
-}
-
-/* `count` of the event is how many of its arguments are there, so that those can be given back. */
-static bool fill(struct event *event, const nb_argument *arguments, uint32_t count, uint8_t *text)
+/* `count` of the event is how many of its arguments are there, so that those can be given back. The text is as the session
+ * wrote it, and `arrays` has a struct for each array. */
+static bool fill(struct event *event, const nb_argument *arguments, uint32_t count, uint8_t *text,
+                 struct wl_array *arrays)
 {
     const struct wl_interface **types = event->message->types;
-    const uint8_t *bytes = sender_of(event)->display->text;
     for (uint32_t i = 0; i < count; i++) {
         const nb_argument *from = &arguments[i];
         bool is_well = true;
         event->kinds[i] = (uint8_t)from->kind;
         switch (from->kind) {
-        case NB_STRING:
-        case NB_ARRAY: text += fill_text(&event->arguments[i], from, bytes, text); break;
         case NB_NULL_STRING:
             event->arguments[i].s = NULL;
             is_well = signature_is_nullable(event->message->signature, i) ||
@@ -167,7 +136,8 @@ static bool fill(struct event *event, const nb_argument *arguments, uint32_t cou
             break;
         case NB_OBJECT: is_well = fill_object(event, i, from, types ? types[i] : NULL); break;
         case NB_NEW_ID: is_well = fill_new(event, i, from, types ? types[i] : NULL); break;
-        default: event->arguments[i].i = from->value;
+        case NB_ARRAY: unpack(&event->arguments[i], from, text, arrays++); break;
+        default: unpack(&event->arguments[i], from, text, NULL);
         }
         if (!is_well)
             return false;
@@ -245,20 +215,23 @@ bool put_event_locked(struct wl_proxy *sender, const nb_event *from, const nb_ar
     struct event *event = NULL;
     uint8_t *text;
     uint32_t objects = 0;
-    size_t length = 0;
+    size_t arrays = 0;
     for (uint32_t i = 0; i < from->arguments; i++) {
         objects += arguments[i].kind == NB_OBJECT || arguments[i].kind == NB_NEW_ID;
-        length += text_of(&arguments[i]);
+        arrays += arguments[i].kind == NB_ARRAY;
     }
     if (message)
-        event = event_new(EVENT_OF_OBJECT, sender, from->arguments, objects, length, &text);
+        event = event_new(EVENT_OF_OBJECT, sender, from->arguments, objects,
+                          from->bytes + arrays * sizeof(struct wl_array), &text);
     if (!event) {
         close_descriptors(arguments, from->arguments);
         return false;
     }
     event->message = message;
     event->opcode = from->opcode;
-    if (fill(event, arguments, from->arguments, text)) {
+    if (from->bytes > 0)
+        memcpy(text, sender->display->text, from->bytes);
+    if (fill(event, arguments, from->arguments, text, (struct wl_array *)(void *)(text + from->bytes))) {
         queues_put(&event->queued);
         return true;
     }

@@ -24,65 +24,19 @@ void arguments_from_list(const char *signature, va_list list, union wl_argument 
 
 /* ======== From a session to the program */
 
-static size_t aligned(size_t at)
+void unpack(union wl_argument *to, const nb_argument *from, uint8_t *bytes, struct wl_array *array)
 {
-    return (at + 7) & ~(size_t)7;
-}
-
-/* How many bytes an argument takes of the text: a string has a zero behind it. */
-static size_t taken_by(const nb_argument *argument)
-{
-    switch (argument->kind) {
-    case NB_STRING: return aligned((size_t)argument->length + 1);
-    case NB_ARRAY: return aligned(argument->length);
-    default: return 0;
-    }
-}
-
-static void unpack_one(struct unpacked *to, uint32_t i, const nb_argument *from, const uint8_t *bytes, uint8_t *text)
-{
-    union wl_argument *value = &to->values[i];
     switch (from->kind) {
-    case NB_STRING:
-        memcpy(text, bytes + from->at, from->length);
-        text[from->length] = 0;
-        value->s = (const char *)text;
-        break;
+    case NB_STRING: to->s = (const char *)bytes + from->at; break;
     case NB_ARRAY:
-        memcpy(text, bytes + from->at, from->length);
-        to->arrays[i] = (struct wl_array){ from->length, 0, text };
-        value->a = &to->arrays[i];
+        *array = (struct wl_array){ from->length, 0, bytes + from->at };
+        to->a = array;
         break;
-    case NB_NULL_STRING: value->s = NULL; break;
-    case NB_OBJECT: value->o = NULL; break;
-    case NB_NEW_ID: value->n = from->object.number; break;
-    default: value->i = from->value;
+    case NB_NULL_STRING: to->s = NULL; break;
+    case NB_OBJECT: to->o = NULL; break;
+    case NB_NEW_ID: to->n = from->object.number; break;
+    default: to->i = from->value;
     }
-}
-
-bool unpack(struct unpacked *to, const nb_argument *from, uint32_t count, const uint8_t *bytes)
-{
-    size_t size = 0, at = 0;
-    for (uint32_t i = 0; i < count; i++)
-        size += taken_by(&from[i]);
-    to->many = NULL;
-    to->text = to->few;
-    if (size > sizeof to->few) {
-        to->many = malloc(size);
-        if (!to->many)
-            return false;
-        to->text = to->many;
-    }
-    for (uint32_t i = 0; i < count; i++) {
-        unpack_one(to, i, &from[i], bytes, to->text + at);
-        at += taken_by(&from[i]);
-    }
-    return true;
-}
-
-void unpacked_end(struct unpacked *unpacked)
-{
-    free(unpacked->many);
 }
 
 void close_descriptors(const nb_argument *arguments, uint32_t count)

@@ -11,25 +11,17 @@ void arguments_from_list(const char *signature, va_list list, union wl_argument 
 
 /* ---- from a session to the program */
 
-enum { FEW_BYTES = 1024 };
-
-/* What came in a message, as a handler takes it: strings end in a zero, and arrays begin at multiples of eight. */
-struct unpacked {
-    union wl_argument values[MOST_ARGUMENTS];
-    struct wl_array arrays[MOST_ARGUMENTS];
-    uint8_t *text, *many;
-    _Alignas(8) uint8_t few[FEW_BYTES];
-};
-
-/* Copies what the session wrote. An object is left NULL, and a new id is its number: the caller knows what they stand
- * for. False if there was no memory; else unpacked_end is due. */
-bool unpack(struct unpacked *to, const nb_argument *from, uint32_t count, const uint8_t *bytes);
-void unpacked_end(struct unpacked *unpacked);
+/* Makes of an argument that the session wrote what a handler takes. A string and an array stay where they are in `bytes`,
+ * which begin at a multiple of eight; `array` is the struct of an array. An object is left NULL, and a new id is its
+ * number: the caller knows what they stand for. */
+void unpack(union wl_argument *to, const nb_argument *from, uint8_t *bytes, struct wl_array *array);
 
 /* Closes the descriptors among arguments that nobody takes. */
 void close_descriptors(const nb_argument *arguments, uint32_t count);
 
 /* ---- from the program to a session */
+
+enum { FEW_BYTES = 1024 };
 
 /* Arguments as a session takes them. `fault` says in words why they cannot be sent, and is empty else; so does
  * errno. */

@@ -10,7 +10,8 @@ struct request {
     struct wl_resource *resource;
     uint32_t opcode, count;
     const struct wl_message *message;
-    struct unpacked arguments;
+    union wl_argument values[MOST_ARGUMENTS];
+    struct wl_array arrays[MOST_ARGUMENTS];
 };
 
 /* Looks at what the session does not: the version that the program gave the resource, which may be below that of the
@@ -45,13 +46,12 @@ static bool complete(struct request *request, const nb_argument *arguments)
 {
     for (uint32_t i = 0; i < request->count; i++) {
         const nb_argument *argument = &arguments[i];
-        union wl_argument *value = &request->arguments.values[i];
         if (argument->kind != NB_OBJECT || nb_is_null(&argument->object))
             continue;
         struct wl_resource *resource = resource_of(request->client, &argument->object, argument->data);
         if (!resource)
             return false;
-        value->o = &resource->object;
+        request->values[i].o = &resource->object;
     }
     return true;
 }
@@ -60,7 +60,7 @@ static void call_handler(struct request *request)
 {
     struct wl_resource *resource = request->resource;
     const struct wl_object *object = &resource->object;
-    union wl_argument *values = request->arguments.values;
+    union wl_argument *values = request->values;
     if (!lent_core(resource) && resource->dispatcher) {
         resource->dispatcher(object->implementation, resource, request->opcode, request->message, values);
         return;
@@ -92,7 +92,7 @@ static void hand_on(struct request *request, const nb_action *action, const nb_a
         close_descriptors(arguments, request->count);
         return;
     }
-    trace_request(request->resource, request->opcode, request->arguments.values);
+    trace_request(request->resource, request->opcode, request->values);
     call_handler(request);
 }
 
@@ -119,14 +119,16 @@ static bool finish(struct wl_client *client, const nb_action *action)
     return nb_server_finish_request_with(core, &client->id, 0, &is_kept) == NB_OK;
 }
 
-void dispatch(struct wl_client *client, const nb_action *action, nb_argument *arguments)
+void dispatch(struct wl_client *client, const nb_action *action, const nb_argument *arguments, uint8_t *text)
 {
     struct request request;
     const uint32_t count = action->kind == NB_BIND ? 0 : action->arguments;
-    for (uint32_t i = 0; i < count; i++)
+    for (uint32_t i = 0; i < count; i++) {
         client->unread -= arguments[i].kind == NB_DESCRIPTOR;
+        unpack(&request.values[i], &arguments[i], text, &request.arrays[i]);
+    }
     client->created = action->created;
-    if (!unpack(&request.arguments, arguments, count, client->display->buffer) || !finish(client, action)) {
+    if (!finish(client, action)) {
         close_descriptors(arguments, count);
         wl_client_post_no_memory(client);
         client_fail(client);
@@ -140,5 +142,4 @@ void dispatch(struct wl_client *client, const nb_action *action, nb_argument *ar
         bind(client, action);
     else
         hand_on(&request, action, arguments);
-    unpacked_end(&request.arguments);
 }

@@ -155,21 +155,44 @@ void display_settle(struct wl_display *display)
 
 enum { MOST_HELD = 1024 /* descriptors of a client that are in no request yet */ };
 
+/* The text of an action, which lives as long as its handler may use it: in `few`, or in `many`, which is the heap's. */
+struct text {
+    uint8_t *many;
+    _Alignas(8) uint8_t few[1024];
+};
+
+/* The next action of the client. It is kept in the session where there is no memory for its text. */
+static nb_status next_action(struct wl_client *client, nb_action *action, nb_argument *arguments, struct text *text)
+{
+    nb_server *core = &client->display->core;
+    nb_status status = nb_server_next_action(core, &client->id, action, arguments, MOST_ARGUMENTS, text->few,
+                                             sizeof text->few);
+    text->many = NULL;
+    if (status != NB_TOO_SMALL)
+        return status;
+    text->many = malloc(action->bytes);
+    if (!text->many)
+        return NB_OUT_OF_MEMORY;
+    return nb_server_next_action(core, &client->id, action, arguments, MOST_ARGUMENTS, text->many, action->bytes);
+}
+
 /* Takes the client's actions and calls the program for each, until there is no whole message, or it has an error. */
 static void take_actions(struct wl_client *client)
 {
     struct wl_display *display = client->display;
     nb_argument arguments[MOST_ARGUMENTS];
     nb_action action;
+    struct text text;
     nb_status status = NB_OK;
     while (!client->has_error && !client->is_condemned) {
-        status = nb_server_next_action(&display->core, &client->id, &action, arguments, MOST_ARGUMENTS,
-                                       display->buffer, NB_MOST_WAITING);
+        status = next_action(client, &action, arguments, &text);
         if (trace_is_on(display) && (status == NB_OK || status == NB_WOULD_BLOCK))
             trace_read(client, status == NB_OK);
+        if (status == NB_OK)
+            dispatch(client, &action, arguments, text.many ? text.many : text.few);
+        free(text.many);
         if (status != NB_OK)
             break;
-        dispatch(client, &action, arguments);
     }
     if (status != NB_OK && status != NB_WOULD_BLOCK)
         client_fail(client);

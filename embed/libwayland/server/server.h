@@ -168,7 +168,7 @@ const nb_object_id *core_of(const struct wl_resource *resource);
 void client_post_error(struct wl_client *client, uint32_t code, const char *format, ...) WL_PRINTF(3, 4);
 
 /* dispatch.c */
-void dispatch(struct wl_client *client, const nb_action *action, nb_argument *arguments);
+void dispatch(struct wl_client *client, const nb_action *action, const nb_argument *arguments, uint8_t *text);
 
 /* trace.c */
 bool trace_is_on(const struct wl_display *display);

@@ -60,7 +60,8 @@ fn hand_out(
 }
 
 impl Client {
-    /// Hands out the next event: what it is in `out`, its arguments in `arguments`, and their strings and arrays in `bytes`.
+    /// Hands out the next event: what it is in `out`, its arguments in `arguments`, and their strings and arrays in `bytes`, each
+    /// at a multiple of eight, and a string with a zero behind it.
     /// It is *open* until `finish_event` or `finish_event_with` ends it.
     ///
     /// The descriptors among the arguments are the host's from then on. The data of each object stand beside it; 0 if it has

@@ -280,7 +280,8 @@ impl Server {
     /// Reads the next action of the client (`wl_server::Backend::next_action`) into the lent memory. It is open until it is
     /// finished.
     ///
-    /// The bytes of strings and arrays go to `bytes`, behind each other. The status is
+    /// The bytes of strings and arrays go to `bytes`, each at a multiple of eight, and a string with a zero behind it. The status
+    /// is
     ///
     /// - `InvalidId` if the client is not stored;
     /// - `TooSmall` if `arguments` or `bytes` has no room for the action. Then `out` says how much is needed, and the action is
