@@ -40,13 +40,13 @@ module _ {Id : Type 0} (flat : Id → FlatObjectId) (user_data : Id → ℕ) (st
   one_back t q before behind (arg.Fixed value) c h = refl
   one_back t q before behind (arg.Str None) c h = refl
   one_back t q before behind (arg.Str (Some text)) c h =
-      let zeros = replicate (zeros_behind_string (length text)) 0 in
+      let zeros : List ℕ = replicate {A = ℕ} (zeros_behind_string (length text)) 0 in
       let n = length-append text zeros in
       rw (append_assoc text zeros behind, part_there kinds.string before text (zeros ++ behind) (omega arith), c) refl
   one_back t q before behind (arg.Object id) c h = ap (λ i. Some (arg.Object i)) c
   one_back t q before behind (arg.NewId id) c h = ap (λ i. Some (arg.NewId i)) c
   one_back t q before behind (arg.Array bytes) c h =
-      let zeros = replicate (zeros_behind_array (length bytes)) 0 in
+      let zeros : List ℕ = replicate {A = ℕ} (zeros_behind_array (length bytes)) 0 in
       let n = length-append bytes zeros in
       rw (append_assoc bytes zeros behind, part_there kinds.array before bytes (zeros ++ behind) (omega arith)) refl
   one_back t q before behind (arg.Fd own) c h = refl

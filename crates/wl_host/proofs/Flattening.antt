@@ -62,6 +62,7 @@ pub written_behind : (at : ℕ) (part more memory : List ℕ) → at + length (p
     → written_at (at + length part) more (written_at at part memory) ≡ written_at at (part ++ more) memory
 written_behind at part more memory h =
     let n = length-append part more in
+    let k : at + length part ≤ length memory = omega arith in
     let front = take at memory ++ part in
     let behind = drop (at + length part) memory in
     let l : length front ≡ at + length part = length-append (take at memory) part ∙ ap (λ k. k + length part) (length-take-le at memory (omega arith)) in
@@ -72,6 +73,8 @@ written_behind at part more memory h =
     let d = drop-drop (length more) (at + length part) (front ++ behind) in
     let r = rest_of (at + length part) front behind l in
     let e = drop-drop (length more) (at + length part) memory in
+    let g = append_assoc (take at memory) (part ++ more) (drop (at + length part + length more) memory) in
+    let s : at + length (part ++ more) ≡ at + length part + length more = omega arith in
     cc
 
 pub part_behind : (at : ℕ) (part memory old : List ℕ) → at + length part ≤ length memory → drop at memory ≡ drop at old → drop (at + length part) (written_at at part memory) ≡ drop (at + length part) old

@@ -12,28 +12,38 @@ use Rattle.wl_host.specs.Descriptors.{Descriptors}
 use Rattle.wl_host.specs.declared.flat.FlatObjectId.{FlatObjectId}
 use Rattle.wl_host.proofs.ComingBack.{small_count}
 
+length_zeros : (n : ℕ) → length (replicate {A = ℕ} n 0) ≡ n
+length_zeros n = length-replicate n 0
+
 -- a zero follows the string
 zero_there : (before text behind : List ℕ) → slice_get (before ++ ((text ++ replicate (zeros_behind_string (length text)) 0) ++ behind)) (length before + length text) ≡ Some 0
 zero_there before text behind =
-    let zeros = replicate (zeros_behind_string (length text)) 0 in
-    let part = (text ++ zeros) ++ behind in
-    let z = length-replicate (zeros_behind_string (length text)) 0 in
-    let n = length-append before part in
-    let m = length-append (text ++ zeros) behind in
-    let k = length-append text zeros in
+    let zeros : List ℕ = replicate {A = ℕ} (zeros_behind_string (length text)) 0 in
+    let part : List ℕ = (text ++ zeros) ++ behind in
+    let z : length zeros ≡ zeros_behind_string (length text) = length_zeros (zeros_behind_string (length text)) in
+    let n : length (before ++ part) ≡ length before + length part = length-append before part in
+    let m : length part ≡ length (text ++ zeros) + length behind = length-append (text ++ zeros) behind in
+    let k : length (text ++ zeros) ≡ length text + length zeros = length-append text zeros in
+    let p : 0 < zeros_behind_string (length text) = omega arith in
+    let p' : 0 < length zeros = omega arith in
+    let h : length before + length text < length (before ++ part) = omega arith in
     let a = get_or-append-add before part (length text) 0 in
     let b = append_assoc text zeros behind in
     let e : length text + 0 ≡ length text = omega arith in
     let c = get_or-append-add text (zeros ++ behind) 0 0 in
-    let d = get_or_append_left zeros behind 0 0 (omega arith) in
-    let f = get_or-replicate (zeros_behind_string (length text)) 0 0 0 (omega arith) in
-    let g = slice_get-get_or (before ++ part) (length before + length text) 0 (omega arith) in
+    let d = get_or_append_left zeros behind 0 0 p' in
+    let f = get_or-replicate {A = ℕ} (zeros_behind_string (length text)) 0 0 0 p in
+    let g = slice_get-get_or (before ++ part) (length before + length text) 0 h in
     cc
 
 -- the length of each part is a multiple of eight
 whole_eights : {Id : Type 0} (a : Argument Id Token) → length (bytes_of a) % 8 ≡ 0
-whole_eights (arg.Str (Some text)) = let n = length-append text (replicate (zeros_behind_string (length text)) 0) in let z = length-replicate (zeros_behind_string (length text)) 0 in omega arith
-whole_eights (arg.Array bytes) = let n = length-append bytes (replicate (zeros_behind_array (length bytes)) 0) in let z = length-replicate (zeros_behind_array (length bytes)) 0 in omega arith
+whole_eights (arg.Str (Some text)) =
+    let n = length-append text (replicate {A = ℕ} (zeros_behind_string (length text)) 0) in
+    let z = length_zeros (zeros_behind_string (length text)) in omega arith
+whole_eights (arg.Array bytes) =
+    let n = length-append bytes (replicate {A = ℕ} (zeros_behind_array (length bytes)) 0) in
+    let z = length_zeros (zeros_behind_array (length bytes)) in omega arith
 whole_eights (arg.Str None) = refl
 whole_eights (arg.Int value) = refl
 whole_eights (arg.Uint value) = refl
@@ -46,7 +56,7 @@ module _ {Id : Type 0} (flat : Id → FlatObjectId) (user_data : Id → ℕ) whe
   one_in_place : (q : Descriptors) (before behind : List ℕ) (a : Argument Id Token) → length before % 8 ≡ 0 → length before + length (bytes_of a) < 2 ^ 32
       → IsReadInPlace (before ++ (bytes_of a ++ behind)) (flat_argument flat user_data q (length before) a)
   one_in_place q before behind (arg.Str (Some text)) e h =
-      let n = length-append text (replicate (zeros_behind_string (length text)) 0) in
+      let n = length-append text (replicate {A = ℕ} (zeros_behind_string (length text)) 0) in
       let s = small_count (length before) (omega arith) in
       let t = small_count (length text) (omega arith) in
       record { string = λ _. rw (s, t) (e, zero_there before text behind); array = λ k. absurd (cc) }
