@@ -3,7 +3,7 @@
 --
 -- A row and the interface of its name in the table agree if the one's messages are a front of the other's. In a row the number of
 -- an interface is that of the table, where a name has one number: so to compare the numbers is to compare the names.
-use Rattle.std.specs.Prelude.{◌≡◌, ◌⊎◌, ℕ, ◌+◌, ◌<◌, List, [], ◌∷◌, ◌++◌, length, map, take, drop, Bool, true, false, not, ◌==◌, ◌&&◌, ◌||◌, nat_lt, if◌then◌else◌, Option, None, Some, option_map, Result, Ok, Err, MatchResult, slice_get, unwrap_or}
+use Rattle.std.specs.Prelude.{◌≡◌, ◌⊎◌, ℕ, ◌+◌, ◌<◌, List, [], ◌∷◌, ◌++◌, length, map, take, drop, Bool, true, false, ◌==◌, ◌&&◌, ◌||◌, nat_lt, if◌then◌else◌, Option, None, Some, option_map, Result, Ok, Err, MatchResult, slice_get, unwrap_or}
 use Rattle.std.specs.List.{position_from}
 use Rattle.std.specs.Option.{option_and_then}
 use Rattle.std.specs.Str.{bytes_eq}
@@ -220,3 +220,13 @@ module _ {S : Type 0} (Grows : S → Growth → Result (Unit {0}) TableError →
       ((fault : ExtensionFault) × IsFirstFaultOfRows table rows fault × (result ≡ Err fault) × (after ≡ before))
       ⊎ (Agrees table rows × (result ≡ Err (fault_as_told (fault_of error.OutOfMemory))) × (after ≡ before))
       ⊎ (Agrees table rows × Takes before (parts_of table rows) result after)
+
+-- ---- what the table has then
+
+-- The table has what the row says: an interface of its name, whose messages begin with those of the row, and whose version is not
+-- lower.
+pub record HasRow (table : List InterfaceRow) (said : InterfaceRow) : Type 0 where
+  pub there : InterfaceRow
+  pub found : interface_there table said.name ≡ Some there
+  pub agrees : difference there said ≡ None
+  pub whole : has_more there said ≡ false

@@ -1,6 +1,6 @@
 //! What follows from the definitions alone. Each function has a law as its contract, and does nothing.
 
-ghost use Rattle.std.specs.Prelude.{◌≡◌, ◌<◌, ◌^◌, ℕ, ℤ, Bool, Err, List, Option, Result, Some, length, true};
+ghost use Rattle.std.specs.Prelude.{◌≡◌, ◌<◌, ◌^◌, ℕ, ℤ, Bool, Err, List, Ok, Option, Result, Some, length, true};
 ghost use Rattle.std.specs.List.{AllByRecursion};
 ghost use Rattle.wl_client.specs.ObjectId.{IdParts as ProxyParts};
 ghost use Rattle.wl_link.specs.declared.mailbox.Ending.{Ending};
@@ -11,18 +11,22 @@ ghost use Rattle.wl_server.specs.declared.runs.step.Step.TheVariants as step;
 ghost use Rattle.wl_wire.specs.declared.argument.Argument.{Argument};
 ghost use Rattle.wl_wire.specs.declared.argument.ArgumentType.{ArgumentType};
 ghost use Rattle.wl_wire.specs.declared.argument.Token.{Token};
+ghost use Rattle.wl_wire.specs.Table.{InterfaceRow};
 ghost use Rattle.wl_host.specs.Actions.{EndsBind, EndsRequest, Lent, NextAction};
 ghost use Rattle.wl_host.specs.Arguments.{ComesBack, IsReadInPlace, all_bytes, arguments_of, flat_arguments, moved};
-ghost use Rattle.wl_host.specs.Calls.{CreatesGlobal, CreatesObject, InsertsClient, SetsObjectData, world};
+ghost use Rattle.wl_host.specs.Calls.{CoreState, CreatesGlobal, CreatesObject, InsertsClient, SetsObjectData, world};
+ghost use Rattle.wl_host.specs.Client.{ClientCore};
 ghost use Rattle.wl_host.specs.Clients.{SetsRoom, inserted};
 ghost use Rattle.wl_host.specs.Descriptors.{Descriptors};
 ghost use Rattle.wl_host.specs.Events.{Passed, PostsError, SendsEvent};
+ghost use Rattle.wl_host.specs.Extending.{HasRow};
 ghost use Rattle.wl_host.specs.Flat.{flat_proxy, flat_resource, proxy_of, resource_of};
 ghost use Rattle.wl_host.specs.Killed.{IsSettled, KnowsEnd, StaysSettled};
 ghost use Rattle.wl_host.specs.Notes.{NextNote};
 ghost use Rattle.wl_host.specs.Nulls.{TellsNull, forbidden_null};
+ghost use Rattle.wl_host.specs.Rows.{said_by};
 ghost use Rattle.wl_host.specs.Server.{CleansUp, Ends, NextWritable, Received, Sent, ServerState};
-ghost use Rattle.wl_host.specs.Tables.{AddsInterfaces, ExtendsInterfaces, IsNewServer};
+ghost use Rattle.wl_host.specs.Tables.{AddsInterfaces, ExtendsClient, ExtendsInterfaces, IsNewServer};
 ghost use Rattle.wl_host.specs.declared.extending.ExtensionFault.{ExtensionFault};
 ghost use Rattle.wl_host.specs.declared.flat.FlatArgument.{FlatArgument};
 ghost use Rattle.wl_host.specs.declared.flat.FlatClientId.{FlatClientId};
@@ -53,6 +57,13 @@ pub fn strings_and_arrays_are_read_in_place()
 pub fn a_forbidden_null_is_told()
     ensures server { (signature : List ArgumentType) (args : List (Argument IdParts Token)) → TellsNull flat_resource signature args (forbidden_null flat_resource signature args) }
     ensures client { (signature : List ArgumentType) (args : List (Argument ProxyParts Token)) → TellsNull flat_proxy signature args (forbidden_null flat_proxy signature args) }
+{}
+
+/// After whole rows were taken, the table of a session has what each of them says: an interface of its name, whose messages
+/// begin with those of the row, and whose version is not lower.
+pub fn whole_rows_are_there()
+    ensures server { (rows : Rows) (before after : CoreState) → ExtendsInterfaces rows before (Ok tt) after → (interfaces : List InterfaceRow) × (said_by rows ≡ Ok interfaces) × AllByRecursion (HasRow after.server.offer.table) interfaces }
+    ensures client { (rows : Rows) (before after : ClientCore) → ExtendsClient rows before (Ok tt) after → (interfaces : List InterfaceRow) × (said_by rows ≡ Ok interfaces) × AllByRecursion (HasRow after.session.table) interfaces }
 {}
 
 /// While the next `cleanup` of a server's session would not look for killed clients, nobody is killed: a new session is so, and
