@@ -149,13 +149,13 @@ static void events(void)
     HOLDS(is_kept == 1);
     /* Too little memory: the event is kept. */
     memset(&event, 0, sizeof event);
-    IS(nb_client_next_event(&session, &event, arguments, 2, bytes, 4), NB_TOO_SMALL);
-    HOLDS(event.arguments == 3 && event.bytes == 4);
+    IS(nb_client_next_event(&session, &event, arguments, 2, bytes, 8), NB_TOO_SMALL);
+    HOLDS(event.arguments == 3 && event.bytes == 8);
     IS(nb_client_finish_event(&session), NB_NOT_OPEN);
-    IS(nb_client_next_event(&session, &event, arguments, 3, bytes, 3), NB_TOO_SMALL);
-    OK(nb_client_next_event(&session, &event, arguments, 3, bytes, 4));
+    IS(nb_client_next_event(&session, &event, arguments, 3, bytes, 7), NB_TOO_SMALL);
+    OK(nb_client_next_event(&session, &event, arguments, 3, bytes, 8));
     HOLDS(event.sender.number == 2 && event.data == 60 && arguments[1].length == 4 &&
-          memcmp(bytes + arguments[1].at, "quad", 4) == 0);
+          strcmp((const char *)bytes + arguments[1].at, "quad") == 0);
     OK(nb_client_finish_event(&session));
     IS(next_event(), NB_WOULD_BLOCK);
     /* A destructor event. */

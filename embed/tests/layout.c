@@ -127,11 +127,11 @@ int main(void)
           action.is_destructor == 0);
     HOLDS(nb_same_object(&action.sender, &object) && action.data == 77 && nb_is_null(&action.created) &&
           action.version == 0);
-    HOLDS(action.bytes == 9 && action.forbidden_null == 0);
-    HOLDS(arguments[0].kind == NB_STRING && arguments[0].length == 4 &&
-          memcmp(bytes + arguments[0].at, "text", 4) == 0);
-    HOLDS(arguments[1].kind == NB_ARRAY && arguments[1].length == 5 &&
-          memcmp(bytes + arguments[1].at, "array", 5) == 0);
+    HOLDS(action.bytes == 16 && action.forbidden_null == 0);
+    HOLDS(arguments[0].kind == NB_STRING && arguments[0].at == 0 && arguments[0].length == 4 &&
+          strcmp((const char *)bytes, "text") == 0);
+    HOLDS(arguments[1].kind == NB_ARRAY && arguments[1].at == 8 && arguments[1].length == 5 &&
+          memcmp(bytes + 8, "array\0\0\0", 8) == 0);
     HOLDS(arguments[2].kind == NB_DESCRIPTOR && arguments[2].value == 61);
     OK(nb_server_finish_request(&server, &client));
     OK(next_action());

@@ -242,14 +242,14 @@ static void limits(void)
     put(3, NB_QUAD_REQUEST_GIVE, "sa", "some text", "\1\2\3", 3);
     OK(arrive(NULL, 0));
     for (int i = 0; i < 3; i++) {
-        const size_t rooms[3][2] = { { 0, 0 }, { 3, 11 }, { 2, 12 } };
+        const size_t rooms[3][2] = { { 0, 0 }, { 3, 23 }, { 2, 24 } };
         memset(&action, 0, sizeof action);
         IS(nb_server_next_action(&server, &client, &action, arguments, rooms[i][0], bytes, rooms[i][1]), NB_TOO_SMALL);
-        HOLDS(action.arguments == 3 && action.bytes == 12);
+        HOLDS(action.arguments == 3 && action.bytes == 24);
         IS(nb_server_finish_request(&server, &client), NB_NOT_OPEN);
         IS(nb_server_finish_bind(&server, &client, 1, &kept), NB_NOT_OPEN);
     }
-    OK(nb_server_next_action(&server, &client, &action, arguments, 3, bytes, 12));
+    OK(nb_server_next_action(&server, &client, &action, arguments, 3, bytes, 24));
     HOLDS(arguments[0].length == 9 && memcmp(bytes + arguments[0].at, "some text", 9) == 0);
     HOLDS(arguments[1].length == 3 && memcmp(bytes + arguments[1].at, "\1\2\3", 3) == 0);
     HOLDS(arguments[2].value == 100);

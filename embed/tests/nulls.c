@@ -116,7 +116,7 @@ static void refused(void)
     nb_object_id object = begin();
     give_null();
     IS(nb_server_next_action(&server, &client, &action, arguments, 0, bytes, sizeof bytes), NB_TOO_SMALL);
-    HOLDS(action.arguments == 3 && action.bytes == 5 && action.forbidden_null == 0);
+    HOLDS(action.arguments == 3 && action.bytes == 8 && action.forbidden_null == 0);
     OK(next_action());
     HOLDS(action.opcode == NB_QUAD_REQUEST_GIVE && action.arguments == 3 && action.forbidden_null == 1);
     HOLDS(arguments[0].kind == NB_NULL_STRING && arguments[0].at == 0 && arguments[0].length == 0);

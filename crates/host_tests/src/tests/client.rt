@@ -305,8 +305,9 @@ static NULLS: Run<Act> = Run {
         (Act::BindKnot(8), "Ok 5@4 serial 3"),
         (Act::Received(TIED, &[]), "Ok"),
         (
-            Act::Next(4, 1),
-            "Ok has_data 1 data 8 arguments 4 bytes 1 by 5@4 (4: 0) (4: 0 data 9 object 4@3) (8: 0) (3: 0 length 1) [ 78 ]",
+            Act::Next(4, 8),
+            "Ok has_data 1 data 8 arguments 4 bytes 8 by 5@4 (4: 0) (4: 0 data 9 object 4@3) (8: 0) (3: 0 length 1) \
+             [ 78 00 00 00 00 00 00 00 ]",
         ),
         (Act::Finish, "Ok"),
         (Act::Received(TIED_NULLS, &[]), "Ok"),

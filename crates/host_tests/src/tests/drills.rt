@@ -77,9 +77,10 @@ static ARGUMENTS: Run<Act> = Run {
         (Act::Sent(FIRST, 32), "Ok"),
         (Act::Received(FIRST, TELL, &[42]), "Ok"),
         (
-            Act::Next(FIRST, 10, 6),
-            "Ok kind 1 data 55 version 1 arguments 10 bytes 6 by 5@4278190081 made 4@2 (0: -5) (1: -1) (2: 384) (3: 0 length 3) \
-             (8: 0) (4: 0 data 33 object 4@4278190080) (4: 0) (5: 0 object 4@2) (6: 0 at 3 length 3) (7: 42) [ 68 65 79 01 02 03 ]",
+            Act::Next(FIRST, 10, 16),
+            "Ok kind 1 data 55 version 1 arguments 10 bytes 16 by 5@4278190081 made 4@2 (0: -5) (1: -1) (2: 384) (3: 0 length 3) \
+             (8: 0) (4: 0 data 33 object 4@4278190080) (4: 0) (5: 0 object 4@2) (6: 0 at 8 length 3) (7: 42) \
+             [ 68 65 79 00 00 00 00 00 01 02 03 00 00 00 00 00 ]",
         ),
         (Act::FinishWith(FIRST, 44), "Ok kept true"),
         (Act::Received(FIRST, &[2, 0x00080002], &[43]), "Ok"),
@@ -225,9 +226,9 @@ static CLIENT: Run<ClientAct> = Run {
             "Ok",
         ),
         (
-            ClientAct::Next(5, 6),
-            "Ok has_data 1 data 9 arguments 5 bytes 6 by 5@3 (3: 0 length 3) (6: 0 at 3 length 3) (2: 384) (7: 50) (1: 7) \
-             [ 68 65 79 61 62 63 ]",
+            ClientAct::Next(5, 16),
+            "Ok has_data 1 data 9 arguments 5 bytes 16 by 5@3 (3: 0 length 3) (6: 0 at 8 length 3) (2: 384) (7: 50) (1: 7) \
+             [ 68 65 79 00 00 00 00 00 61 62 63 00 00 00 00 00 ]",
         ),
         (ClientAct::Finish, "Ok"),
         (ClientAct::Destroy(BOUND_PAD), "Ok"),

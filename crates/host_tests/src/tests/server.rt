@@ -141,20 +141,20 @@ static REQUESTS: [Run<Act>; 4] = [
             (Act::FinishWith(FIRST, 1), "UnexpectedData"),
             (Act::Finish(FIRST), "Ok"),
             (
-                Act::Next(FIRST, 1, 2),
-                "TooSmall arguments 1 bytes 3 (0: 0) [ 00 00 ]",
+                Act::Next(FIRST, 1, 7),
+                "TooSmall arguments 1 bytes 8 (0: 0) [ 00 00 00 00 00 00 00 ]",
             ),
             (
-                Act::Next(FIRST, 1, 3),
-                "Ok kind 1 opcode 1 data 33 arguments 1 bytes 3 by 4@3 (3: 0 length 3) [ 68 65 79 ]",
+                Act::Next(FIRST, 1, 8),
+                "Ok kind 1 opcode 1 data 33 arguments 1 bytes 8 by 4@3 (3: 0 length 3) [ 68 65 79 00 00 00 00 00 ]",
             ),
             (Act::FinishBind(FIRST, 1), "WrongKind"),
             (Act::Finish(FIRST), "Ok"),
             (Act::Finish(FIRST), "NotOpen"),
         ],
     },
-    // A request with each kind of argument is handed out in flat structs, with its strings and its array behind each other in the
-    // bytes. Where it finds no room for one of its arguments, or for one of its bytes, the lent memory is as it was, and it is
+    // A request with each kind of argument is handed out in flat structs. Its strings, with a zero behind each, and its array begin
+    // at multiples of eight of the bytes. Where it finds no room for one of its arguments, or for one of its bytes, the lent memory is as it was, and it is
     // handed out later.
     Run {
         name: "arguments are read",
@@ -166,27 +166,28 @@ static REQUESTS: [Run<Act>; 4] = [
             (Act::Create(FIRST, 5, 55), "Ok 5@4278190081"),
             (Act::Received(FIRST, TELL, &[42]), "Ok"),
             (
-                Act::Next(FIRST, 9, 6),
-                "TooSmall arguments 10 bytes 6 (0: 0) (0: 0) (0: 0) (0: 0) (0: 0) \
-                 (0: 0) (0: 0) (0: 0) (0: 0) [ 00 00 00 00 00 00 ]",
+                Act::Next(FIRST, 9, 16),
+                "TooSmall arguments 10 bytes 16 (0: 0) (0: 0) (0: 0) (0: 0) (0: 0) \
+                 (0: 0) (0: 0) (0: 0) (0: 0) [ 00 00 00 00 00 00 00 00 00 00 00 00 00 00 00 00 ]",
             ),
             (
-                Act::Next(FIRST, 10, 5),
-                "TooSmall arguments 10 bytes 6 (0: 0) (0: 0) (0: 0) (0: 0) (0: 0) \
-                 (0: 0) (0: 0) (0: 0) (0: 0) (0: 0) [ 00 00 00 00 00 ]",
+                Act::Next(FIRST, 10, 15),
+                "TooSmall arguments 10 bytes 16 (0: 0) (0: 0) (0: 0) (0: 0) (0: 0) \
+                 (0: 0) (0: 0) (0: 0) (0: 0) (0: 0) [ 00 00 00 00 00 00 00 00 00 00 00 00 00 00 00 ]",
             ),
             (
-                Act::Next(FIRST, 11, 8),
-                "Ok kind 1 data 55 version 1 arguments 10 bytes 6 by 5@4278190081 made 4@2 (0: -5) (1: -1) (2: 384) (3: 0 length 3) \
-                 (8: 0) (4: 0 data 33 object 4@4278190080) (4: 0) (5: 0 object 4@2) (6: 0 at 3 length 3) (7: 42) (0: 0) \
-                 [ 68 65 79 01 02 03 00 00 ]",
+                Act::Next(FIRST, 11, 18),
+                "Ok kind 1 data 55 version 1 arguments 10 bytes 16 by 5@4278190081 made 4@2 (0: -5) (1: -1) (2: 384) (3: 0 length 3) \
+                 (8: 0) (4: 0 data 33 object 4@4278190080) (4: 0) (5: 0 object 4@2) (6: 0 at 8 length 3) (7: 42) (0: 0) \
+                 [ 68 65 79 00 00 00 00 00 01 02 03 00 00 00 00 00 00 00 ]",
             ),
             (Act::FinishWith(FIRST, 44), "Ok kept true"),
             (Act::Received(FIRST, TELL_MORE, &[43]), "Ok"),
             (
-                Act::Next(FIRST, 10, 1),
-                "Ok kind 1 data 55 version 1 arguments 10 bytes 1 by 5@4278190081 made 4@3 (0: 7) (1: 8) (2: -256) (3: 0) \
-                 (3: 0 length 1) (4: 0 data 44 object 4@2) (4: 0 data 33 object 4@4278190080) (5: 0 object 4@3) (6: 0 at 1) (7: 43) [ 78 ]",
+                Act::Next(FIRST, 10, 16),
+                "Ok kind 1 data 55 version 1 arguments 10 bytes 16 by 5@4278190081 made 4@3 (0: 7) (1: 8) (2: -256) (3: 0) \
+                 (3: 0 at 8 length 1) (4: 0 data 44 object 4@2) (4: 0 data 33 object 4@4278190080) (5: 0 object 4@3) (6: 0 at 16) (7: 43) \
+                 [ 00 00 00 00 00 00 00 00 78 00 00 00 00 00 00 00 ]",
             ),
             (Act::FinishWith(FIRST, 45), "Ok kept true"),
             (Act::Next(FIRST, 10, 1), "WouldBlock"),
@@ -242,8 +243,8 @@ static NULLS: [Run<Act>; 1] = [
             (Act::Create(FIRST, 5, 55), "Ok 5@4278190080"),
             (Act::Received(FIRST, LABEL, &[]), "Ok"),
             (
-                Act::Next(FIRST, 1, 3),
-                "Ok kind 1 opcode 1 data 33 arguments 1 bytes 3 by 4@3 (3: 0 length 3) [ 68 65 79 ]",
+                Act::Next(FIRST, 1, 8),
+                "Ok kind 1 opcode 1 data 33 arguments 1 bytes 8 by 4@3 (3: 0 length 3) [ 68 65 79 00 00 00 00 00 ]",
             ),
             (Act::Finish(FIRST), "Ok"),
             (Act::Received(FIRST, LABEL_NULL, &[]), "Ok"),
@@ -254,24 +255,25 @@ static NULLS: [Run<Act>; 1] = [
             (Act::Finish(FIRST), "Ok"),
             (Act::Received(FIRST, TIE, &[]), "Ok"),
             (
-                Act::Next(FIRST, 3, 2),
-                "Ok kind 1 data 55 arguments 3 bytes 2 by 5@4278190080 (8: 0) (3: 0 length 1) (3: 0 at 1 length 1) [ 61 62 ]",
+                Act::Next(FIRST, 3, 16),
+                "Ok kind 1 data 55 arguments 3 bytes 16 by 5@4278190080 (8: 0) (3: 0 length 1) (3: 0 at 8 length 1) \
+                 [ 61 00 00 00 00 00 00 00 62 00 00 00 00 00 00 00 ]",
             ),
             (Act::Finish(FIRST), "Ok"),
             (Act::Received(FIRST, TIE_NULLS, &[]), "Ok"),
             (
                 Act::Next(FIRST, 3, 0),
-                "TooSmall arguments 3 bytes 1 (0: 0) (0: 0) (0: 0)",
+                "TooSmall arguments 3 bytes 8 (0: 0) (0: 0) (0: 0)",
             ),
             (
-                Act::Next(FIRST, 3, 1),
-                "Ok kind 1 data 55 arguments 3 bytes 1 null 2 by 5@4278190080 (3: 0 length 1) (8: 0) (8: 0) [ 61 ]",
+                Act::Next(FIRST, 3, 8),
+                "Ok kind 1 data 55 arguments 3 bytes 8 null 2 by 5@4278190080 (3: 0 length 1) (8: 0) (8: 0) [ 61 00 00 00 00 00 00 00 ]",
             ),
             (Act::Finish(FIRST), "Ok"),
             (Act::Received(FIRST, TIE_LAST_NULL, &[]), "Ok"),
             (
-                Act::Next(FIRST, 3, 0),
-                "Ok kind 1 data 55 arguments 3 null 3 by 5@4278190080 (8: 0) (3: 0) (8: 0)",
+                Act::Next(FIRST, 3, 8),
+                "Ok kind 1 data 55 arguments 3 bytes 8 null 3 by 5@4278190080 (8: 0) (3: 0) (8: 0) [ 00 00 00 00 00 00 00 00 ]",
             ),
             (Act::PostError(KNOT, 1, b"null"), "Ok"),
             (Act::Finish(FIRST), "Ok"),
