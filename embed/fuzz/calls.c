@@ -193,8 +193,12 @@ static void check_arguments(uint32_t count, size_t room, uint32_t length, size_t
         must(argument->kind <= NB_NULL_STRING, "a kind");
         if (argument->kind == NB_STRING || argument->kind == NB_ARRAY)
             must(argument->at <= length && argument->length <= length - argument->at, "a range within the bytes");
+        if (argument->kind == NB_STRING || argument->kind == NB_ARRAY)
+            must(argument->at % 8 == 0, "a multiple of eight");
         if (argument->kind == NB_STRING)
-            must(memchr(bytes + argument->at, 0, argument->length) == NULL, "no zero in a string");
+            must(argument->length < length - argument->at &&
+                     memchr(bytes + argument->at, 0, argument->length + 1) == bytes + argument->at + argument->length,
+                 "no zero in a string, and one behind it");
         if (argument->kind == NB_DESCRIPTOR)
             came_back(argument->value);
         if (argument->kind == NB_OBJECT || argument->kind == NB_NEW_ID)
