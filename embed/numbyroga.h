@@ -61,8 +61,7 @@
  *   - Between to_send and sent make no other call for that client, and no nb_server_cleanup; of a client's session no
  *     other call at all. sent counts all descriptors that wait as sent, and another call may have added some.
  *   - nb_server_end and nb_client_end forget those that are left. So before the end kill all clients, clean up, and
- *     empty next_gone and next_dropped. Of a client's session: finish the event that is open, call
- *     nb_client_receive_failed, take and finish events until NB_FAILED, and empty nb_client_next_dropped.
+ *     empty next_gone and next_dropped. Of a client's session: call nb_client_fail, and empty nb_client_next_dropped.
  *   - Actions and events that you do not care for may have descriptors, too. Close them.
  *
  * Bounds. The session bounds how many bytes wait for a client (nb_server_set_default_max_buffer_size). It bounds
@@ -822,6 +821,11 @@ nb_status nb_client_receive_failed(nb_client *place, int32_t number);
 
 /* sendmsg failed with this errno, which is not EAGAIN, EWOULDBLOCK or EINTR. The next flush answers NB_FAILED. */
 nb_status nb_client_send_failed(nb_client *place, int32_t number);
+
+/* Ends the session at once, for a reason of yours: unless it has an error, its error is NB_IO_ERROR with this errno. No
+ * event comes any more, also none that was kept, and one that is open is closed: an object that it made has no data. All
+ * descriptors that the session has come by nb_client_next_dropped. It takes no memory. */
+nb_status nb_client_fail(nb_client *place, int32_t number);
 
 /* ======== A client's session: events and requests */
 

@@ -588,6 +588,7 @@ static void call_of_client(void)
         case 0: see(nb_client_received_end(&session)); break;
         case 1: see(nb_client_receive_failed(&session, take())); break;
         case 2: see(nb_client_send_failed(&session, take())); break;
+        case 3: see(nb_client_fail(&session, take())); break;
         default: see(nb_client_set_room(&session, take())); break;
         }
         break;

@@ -237,6 +237,19 @@ static void ends(void)
     OK(nb_client_last_error(&session, &error, bytes, sizeof bytes));
     HOLDS(error.kind == NB_ERROR_OF_IO);
     OK(nb_client_end(&session));
+    /* The host ends the session: an event that is open is closed, and the first error stays. */
+    connect_session();
+    put(3, NB_QUAD_EVENT_MOVED, "u", 1);
+    OK(come(NULL, 0));
+    OK(next_event());
+    OK(nb_client_fail(&session, 71));
+    IS(nb_client_finish_event(&session), NB_NOT_OPEN);
+    IS(next_event(), NB_FAILED);
+    IS(nb_client_flush(&session), NB_FAILED);
+    OK(nb_client_fail(&session, 72));
+    OK(nb_client_last_error(&session, &error, bytes, sizeof bytes));
+    HOLDS(error.kind == NB_ERROR_OF_IO && error.status == NB_IO_ERROR && error.number == 71);
+    OK(nb_client_end(&session));
     /* As long as so many bytes wait, no more come. */
     connect_session();
     OK(nb_client_set_room(&session, 12));

@@ -341,6 +341,46 @@ static void of_a_client(void)
     OK(nb_client_end(&session));
 }
 
+/* A session that the host ends gives each one back at once: those of a request that waits, and those that came, also
+ * where an event is open or kept. */
+static void of_a_failed_client(int is_kept)
+{
+    static nb_client session;
+    nb_object_id display, registry, object, none;
+    nb_event event;
+    int32_t number;
+    OK(nb_client_start(&session, &quad, &fault));
+    OK(nb_client_display(&session, &display));
+    nb_argument given[] = { nb_placeholder(), nb_string(0, 4), nb_uint(3), nb_placeholder() };
+    nb_request request = { display, 1, 1, 1, 0, 0, 0, 0 };
+    OK(nb_client_send_request(&session, &request, given, 1, NULL, 0, &registry));
+    given[0] = nb_uint(1);
+    request = (nb_request){ registry, 0, 1, 1, 1, NB_QUAD, 3, 0 };
+    OK(nb_client_send_request(&session, &request, given, 4, (const uint8_t *)"quad", 4, &object));
+    const int32_t first = next_number;
+    nb_argument give[] = { nb_string(0, 4), nb_array(0, 0), nb_descriptor(fresh(1)[0]) };
+    request = (nb_request){ object, NB_QUAD_REQUEST_GIVE, 0, 0, 0, 0, 0, 0 };
+    OK(nb_client_send_request(&session, &request, give, 3, (const uint8_t *)"quad", 4, &none));
+    put(3, NB_QUAD_EVENT_MOVED, "u", 1);
+    OK(nb_client_received(&session, wire, wire_length, fresh(5), 5));
+    wire_length = 0;
+    IS(nb_client_next_event(&session, &event, arguments, is_kept ? 0 : 16, bytes, sizeof bytes),
+       is_kept ? NB_TOO_SMALL : NB_OK);
+    IS(nb_client_next_dropped(&session, &number), NB_WOULD_BLOCK);
+    OK(nb_client_fail(&session, 5));
+    for (int i = 0; i < 6; i++) {
+        OK(nb_client_next_dropped(&session, &number));
+        came_back(&number, 1);
+    }
+    IS(nb_client_next_dropped(&session, &number), NB_WOULD_BLOCK);
+    IS(nb_client_next_event(&session, &event, arguments, 16, bytes, sizeof bytes), NB_FAILED);
+    int wrong = 0;
+    for (int32_t i = first; i < next_number; i++)
+        wrong += seen[i] != 1;
+    HOLDS(wrong == 0);
+    OK(nb_client_end(&session));
+}
+
 /* Events with descriptors for a client, of an interface of their own. The protocol says whose each is: they come in the
  * order of the events that take them. So those of an event for a live object come out with it, and those of one for an
  * object that the client destroyed come back as dropped as soon as the event was read. */
@@ -516,6 +556,8 @@ int main(void)
     sent();
     at_random();
     of_a_client();
+    of_a_failed_client(0);
+    of_a_failed_client(1);
     of_events();
     return tell();
 }

@@ -80,6 +80,7 @@ static void client_calls(void)
     NONE(nb_client_received(&session, bytes, 8, descriptors, 1));
     NONE(nb_client_received_end(&session));
     NONE(nb_client_receive_failed(&session, 5));
+    NONE(nb_client_fail(&session, 5));
     NONE(nb_client_send_failed(&session, 5));
     NONE(nb_client_next_event(&session, &event, arguments, 16, bytes, sizeof bytes));
     NONE(nb_client_finish_event(&session));

@@ -1,5 +1,5 @@
 -- What a client session holds, and the look-ups that its calls share.
-use Rattle.std.specs.Prelude.{◌≡◌, ℕ, List, [], Bool, false, Option, None, Some, if◌then◌else◌, ◌++◌, ◌∷◌}
+use Rattle.std.specs.Prelude.{◌≡◌, ℕ, List, [], Bool, false, Option, None, Some, unwrap_or, if◌then◌else◌, ◌++◌, ◌∷◌}
 use Rattle.wl_wire.specs.declared.interface.InterfaceId.{InterfaceId}
 use Rattle.wl_wire.specs.Table.{InterfaceRow, anonymous_id, display_id}
 use Rattle.wl_link.specs.declared.object.Object.{Object}
@@ -141,6 +141,10 @@ module _ {T U : Type 0} where
   -- the session with another value of its transport
   abbrev pub over_transport : SessionState T U → T → SessionState T U
   over_transport s transport = record s { link = with_transport s.link transport }
+
+  -- the session with the error that it had, or else with this one; no event is open
+  abbrev pub failed_by : SessionState T U → WaylandError → SessionState T U
+  failed_by s e = record s { error = Some (unwrap_or s.error e); open_event = None }
 
   -- a session over the transport in which nothing has happened
   abbrev pub IsConnected : List InterfaceRow → T → SessionState T U → Type 0

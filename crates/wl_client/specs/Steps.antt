@@ -28,7 +28,7 @@ use Rattle.wl_client.specs.Finish.{Finishes, SessionFlushed}
 use Rattle.wl_client.specs.Objects.{DataSet, DestroyedBy}
 use Rattle.wl_client.specs.Reading.{NextEvent, event_content}
 use Rattle.wl_client.specs.Requests.{Requested, session_content}
-use Rattle.wl_client.specs.Session.{SessionState}
+use Rattle.wl_client.specs.Session.{SessionState, failed_by}
 
 -- ---- whether memory was refused, by the answer
 
@@ -98,6 +98,7 @@ module _ {T U : Type 0} where
       (r : _) × (answer ≡ reply.DestroyObject r) × (refused ≡ refused_destroy r) × DestroyedBy before id r after
   LocalCall before (step.FinishEvent u) answer refused after =
       (r : _) × (answer ≡ reply.FinishEvent r) × (refused ≡ refused_finish r) × Finishes before u r after
+  LocalCall before (step.Fail e) answer refused after = (answer ≡ reply.Fail) × (refused ≡ false) × (after ≡ failed_by before e)
   LocalCall before step.DispatchInnerQueue answer refused after =
       (answer ≡ reply.DispatchInnerQueue (Ok 0)) × (refused ≡ false) × (after ≡ before)
   LocalCall before (step.SetMaxBufferSize limit) answer refused after =

@@ -7,8 +7,8 @@ ghost use Rattle.wl_wire.specs.Table.{AnswersExtension, AnswersGrowth, IsAccepte
 ghost use Rattle.wl_link.specs.Link.{LinkState, LimitSet};
 ghost use Rattle.wl_link.specs.Store.{empty_store, stored};
 ghost use Rattle.wl_client.specs.Accounts.{CallsLocally, IsGrowth};
-ghost use Rattle.wl_client.specs.Plain.Calls.{AddsInterfaces, ExtendsInterface, SetsLimit, TakesNotes};
-ghost use Rattle.wl_client.specs.Session.{IsConnected, display_object};
+ghost use Rattle.wl_client.specs.Plain.Calls.{AddsInterfaces, ExtendsInterface, FailsBy, SetsLimit, TakesNotes};
+ghost use Rattle.wl_client.specs.Session.{IsConnected, display_object, failed_by};
 ghost use Rattle.wl_client.specs.Steps.{CallOf};
 ghost use Rattle.wl_client.specs.declared.step.Reply.TheVariants as reply;
 ghost use Rattle.wl_client.specs.declared.step.Step.TheVariants as step;
@@ -189,6 +189,23 @@ impl<T: Drop, U: Drop> Backend<T, U> {
         ensures value { result.now ≡ self.old.session.link.transport }
     {
         self.socket.transport_mut()
+    }
+
+    /// Ends the session with this error, unless it has one. It reads and flushes no more (`last_error`).
+    ///
+    /// An event that is open is closed, as no other call does: an object that it made gets no user data, and an event that ends its
+    /// sender leaves that alive. It allocates nothing.
+    pub fn fail(&mut self, error: WaylandError)
+        ensures call { CallsLocally self.old (step.Fail error) reply.Fail self.new }
+        ensures plain { FailsBy self.old.session error self.new.session }
+        ensures failed { self.new.session ≡ failed_by self.old.session error }
+        ensures refused { self.new.refused ≡ false }
+    {
+        self.refused = false;
+        self.open_event = None;
+        if self.error.is_none() {
+            self.error = Some(error);
+        }
     }
 
     /// Takes the notes, the oldest first. A *note* says that an object which had user data was destroyed. It allocates

@@ -94,6 +94,10 @@ impl<U: Drop> Backend<Memory, U> {
             Step::Flush => Reply::Flush(self.flush()),
             Step::NextEvent => Reply::NextEvent(self.next_event()),
             Step::FinishEvent(user_data) => Reply::FinishEvent(self.finish_event(user_data)),
+            Step::Fail(error) => {
+                self.fail(error);
+                Reply::Fail
+            }
             Step::DispatchInnerQueue => Reply::DispatchInnerQueue(self.dispatch_inner_queue()),
             Step::SetMaxBufferSize(max_buffer_size) => {
                 self.set_max_buffer_size(max_buffer_size);

@@ -27,6 +27,8 @@ pub enum Step<U> {
     NextEvent,
     /// `Backend::finish_event`, with the user data of the object that the event made.
     FinishEvent(Option<U>),
+    /// `Backend::fail`, with the error.
+    Fail(WaylandError),
     /// `Backend::dispatch_inner_queue`.
     DispatchInnerQueue,
     /// `Backend::set_max_buffer_size`, with the limit in bytes.
@@ -66,6 +68,8 @@ pub enum Reply<U> {
     NextEvent(Result<Message<ObjectId, Token>, EventError>),
     /// The answer to `Step::FinishEvent`.
     FinishEvent(Result<(), FinishRefused<U>>),
+    /// The answer to `Step::Fail`, which returns nothing.
+    Fail,
     /// The answer to `Step::DispatchInnerQueue`.
     DispatchInnerQueue(Result<usize, WaylandError>),
     /// The answer to `Step::SetMaxBufferSize`, which returns nothing.

@@ -1,5 +1,6 @@
 -- No call of a client's session loses a descriptor or hands one out twice.
-use Rattle.std.proofs.Common.{◌≡◌, ℕ, ℤ, ◌+◌, ◌-◌, ◌++◌, ◌<◌, ◌≤◌, ◌∙◌, drop, min, inl, inr, List, [], ◌∷◌, Bool, true, false, Option, None, Some, Result, refl, ap, arith, length, take, if◌then◌else◌}
+use Rattle.std.proofs.Common.{◌≡◌, ℕ, ℤ, ◌+◌, ◌-◌, ◌++◌, ◌<◌, ◌≤◌, ◌∙◌, drop, min, inl, inr, List, [], ◌∷◌, Bool, true, false, Option, None, Some, Result, refl, sym, ap, arith, length, take, if◌then◌else◌}
+use Rattle.std.proofs.lemmas.Bool.{false≢true}
 use Rattle.std.proofs.lemmas.List.{append-nil, length-append}
 use Rattle.std.proofs.Math.Seq.{take-append_seam}
 use Rattle.std.specs.Prelude.{◌==◌, ◌^◌, ◌%◌, IfErr, is_some, option_to_list}
@@ -11,7 +12,7 @@ use Rattle.wl_client.specs.Requests.{SessionMessage}
 use Rattle.wl_link.specs.Mailbox.{MailboxState}
 use Rattle.wl_host.specs.Arguments.{descriptor_in, descriptors_out, queue_after, queue_after_all}
 use Rattle.wl_host.specs.Arrivals.{Arrives}
-use Rattle.wl_host.specs.Client.{ConservesClient, Drops, HandsDropped, HasNoneDropped, HostedClient, Receives, all_passed, awaited, brought, has_failed, let_go, mailbox_of, sent, sent_descriptors, taken_in, told, with_mailbox, without_dropped}
+use Rattle.wl_host.specs.Client.{ConservesClient, Drops, HandsDropped, HasNoneDropped, HoldsNone, HostedClient, Receives, all_passed, awaited, brought, has_failed, let_go, mailbox_of, sent, sent_descriptors, taken_in, told, with_mailbox, without_dropped}
 use Rattle.wl_host.specs.Descriptors.{Conserves, Descriptors, given_up, kept_in, last_held, put_in}
 use Rattle.wl_host.specs.declared.status.Status.{Status}
 use Rattle.wl_host.specs.Sending.{all_taken_out, came_out, descriptors_of, mailbox_after, queue_after as queue_after_send, sent_of, some_of}
@@ -115,6 +116,31 @@ none_dropped before answer after h =
     let few = few_held before (has_failed before) in
     let still = awaited_still before (has_failed before) in
     none_left s.arrivals.passed s.departures.passed s answer after refl refl (omega (arith, few, still)) h
+
+-- a session that has failed holds none, unless an event is kept
+lets_all_go : (s : HostedClient) (failed : Bool) → failed ≡ true → (if failed then let_go s else s).kept ≡ None
+    → ((if failed then let_go s else s).arrivals.held ≡ []) × ((if failed then let_go s else s).departures.held ≡ [])
+lets_all_go s true f e = (ap (λ k. (if is_some k then s.arrivals else given_up s.arrivals).held) e, refl)
+lets_all_go s false f e = absurd (false≢true f)
+
+same_failure : (s : HostedClient) (failed : Bool) → has_failed (if failed then let_go s else s) ≡ has_failed s
+same_failure s true = refl
+same_failure s false = refl
+
+all_passed_holds_none : (before : HostedClient) → HoldsNone (all_passed before)
+all_passed_holds_none before f e =
+    lets_all_go (without_dropped before) (has_failed before) (sym (same_failure (without_dropped before) (has_failed before)) ∙ f) e
+
+nothing_held : (arrived departed : List ℤ) (s : HostedClient) (answer : Result ℤ Status) (after : HostedClient)
+    → HoldsNone s → HandsDropped arrived departed s answer after → IfErr answer (λ _. HoldsNone after)
+nothing_held (d ∷ arrived) departed s answer after none h = rw h.0 tt
+nothing_held [] (d ∷ departed) s answer after none h = rw h.0 tt
+nothing_held [] [] s answer after none h = rw (h.0, h.1) none
+
+pub none_held : (before : HostedClient) (answer : Result ℤ Status) (after : HostedClient)
+    → Drops before answer after → IfErr answer (λ _. HoldsNone after)
+none_held before answer after h =
+    let s = all_passed before in nothing_held s.arrivals.passed s.departures.passed s answer after (all_passed_holds_none before) h
 
 -- ---- what is sent
 

@@ -24,7 +24,7 @@ use Rattle.wl_client.specs.ObjectId.{IdParts}
 use Rattle.wl_client.specs.Objects.{DataSet, DestroyedBy, info_of, user_data_of}
 use Rattle.wl_client.specs.Reading.{NextEvent}
 use Rattle.wl_client.specs.Requests.{Requested, SessionMessage, Spec, session_content}
-use Rattle.wl_client.specs.Session.{ClientState, SessionState, null_parts}
+use Rattle.wl_client.specs.Session.{ClientState, SessionState, failed_by, null_parts}
 use Rattle.wl_client.specs.Steps.{refused_destroy, refused_finish, refused_flush, refused_request}
 use Rattle.wl_host.specs.declared.client.notes.DestroyedObject.{DestroyedObject}
 use Rattle.wl_host.specs.declared.flat.FlatArgument.{FlatArgument}
@@ -34,6 +34,8 @@ use Rattle.wl_host.specs.declared.flat.FlatObjectInfo.{FlatObjectInfo}
 use Rattle.wl_host.specs.declared.flat.FlatRequest.{FlatRequest}
 use Rattle.wl_host.specs.declared.status.Status.{Status}
 use Rattle.wl_host.specs.declared.status.Status.TheVariants as status
+use Rattle.wl_client.specs.declared.error.WaylandError.TheVariants.{Io}
+use Rattle.wl_wire.specs.declared.error.IoFault.TheVariants as fault
 use Rattle.wl_host.specs.Arguments.{all_bytes, arguments_of, descriptors_given, descriptors_out, flat_arguments, is_descriptor, queue_after_all}
 use Rattle.wl_host.specs.Arrivals.{Arrives}
 use Rattle.wl_host.specs.Calls.{flattened}
@@ -106,6 +108,17 @@ let_go s = record s {
 
 abbrev pub has_failed : HostedClient → Bool
 has_failed s = is_some s.core.session.error
+
+-- The host ends the session by an error with this number of the system, unless it has one. No event is open or kept.
+abbrev pub failed : HostedClient → ℤ → HostedClient
+failed s number = record s {
+  core = record { session = failed_by s.core.session (Io (fault.Other number)); refused = false };
+  kept = None;
+}
+
+-- of a session that has failed nothing is held any more, unless an event is kept
+abbrev pub HoldsNone : HostedClient → Type 0
+HoldsNone s = has_failed s ≡ true → s.kept ≡ None → (s.arrivals.held ≡ []) × (s.departures.held ≡ [])
 
 -- Of these that were passed over, on either side, the first comes out; or there is none.
 abbrev pub HandsDropped : List ℤ → List ℤ → HostedClient → Result ℤ Status → HostedClient → Type 0

@@ -161,14 +161,8 @@ static int take_events(struct wl_display *display)
 
 void end_session_locked(struct wl_display *display)
 {
-    nb_event event;
-    nb_argument arguments[MOST_ARGUMENTS];
     display->has_failed = true;
-    nb_client_receive_failed(&display->session, EPIPE);
-    while (next_event(display, &event, arguments) == NB_OK) {
-        close_descriptors(arguments, event.arguments);
-        finish(display, &event);
-    }
+    nb_client_fail(&display->session, EPIPE);
     close_dropped_locked(display);
     drop_notes_locked(display);
 }

@@ -3,7 +3,7 @@
 use crate::kit::values::{Object, Request, message};
 use std::alloc::Global;
 use std::test::Fail;
-use wl_client::Step;
+use wl_client::{Step, WaylandError};
 use wl_wire::IoFault;
 
 /// A step of a client whose objects have numbers as their data.
@@ -21,6 +21,8 @@ pub enum Call {
     Next,
     /// `Step::FinishEvent`.
     Finish(Option<u32>),
+    /// `Step::Fail`, with a fault of the transport.
+    Fail(IoFault),
     /// `Step::DispatchInnerQueue`.
     Dispatch,
     /// `Step::SetMaxBufferSize`.
@@ -61,6 +63,7 @@ fn step(alloc: Global, call: Call) -> Result<Step<u32>, Fail> {
         Call::Flush => Ok(Step::Flush),
         Call::Next => Ok(Step::NextEvent),
         Call::Finish(data) => Ok(Step::FinishEvent(data)),
+        Call::Fail(fault) => Ok(Step::Fail(WaylandError::Io(fault))),
         Call::Dispatch => Ok(Step::DispatchInnerQueue),
         Call::Limit(limit) => Ok(Step::SetMaxBufferSize(limit)),
         Call::Notes => Ok(Step::TakeNotes),

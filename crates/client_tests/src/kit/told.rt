@@ -213,6 +213,7 @@ pub fn write_reply(log: &mut String, reply: &Reply<u32>) -> Result<(), AllocErro
         Reply::NextEvent(answer) => write_read(log, answer),
         Reply::FinishEvent(answer) => write_finished(log, answer),
         Reply::DispatchInnerQueue(answer) => write_dispatched(log, answer),
+        Reply::Fail => writeln!(log, "failed"),
         Reply::SetMaxBufferSize => writeln!(log, "limit set"),
         Reply::TakeNotes(notes) => write_notes(log, notes.as_slice()),
         Reply::Arrive(answer) => write_done(log, "done", answer),

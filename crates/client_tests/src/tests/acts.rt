@@ -11,7 +11,7 @@ use std::test::Fail;
 use test_kit::cuts::{Cut, Stream};
 use test_kit::log::row_tells;
 use test_kit::quad::{destructor, messages, plain, push_interface, quad_table};
-use wl_client::{Backend, EventError};
+use wl_client::{Backend, EventError, WaylandError};
 use wl_link::Memory;
 use wl_wire::{InterfaceId, IoFault, Token};
 
@@ -39,6 +39,8 @@ pub enum Act {
     Serve,
     /// Finishes the open event, with these data for the object that it made.
     Finish(Option<u32>),
+    /// Ends the session by this fault of the system.
+    Fail(i32),
     /// Gives an object these data.
     SetData(Object, u32),
     /// Adds to the data of an object where they stand.
@@ -169,6 +171,13 @@ fn next(alloc: Global, client: &mut Client, log: &mut String, way: Way) -> Resul
 fn finish(client: &mut Client, log: &mut String, data: Option<u32>) -> Result<(), Fail> {
     let answer = client.finish_event(data);
     let written = write_finished(log, &answer);
+    told(client, written)
+}
+
+/// Ends the session by this fault of the system.
+fn fail(client: &mut Client, log: &mut String, number: i32) -> Result<(), Fail> {
+    client.fail(WaylandError::Io(IoFault::Other(number)));
+    let written = writeln!(log, "failed");
     told(client, written)
 }
 
@@ -402,6 +411,7 @@ fn perform(
         Act::Next => next(alloc, client, log, way),
         Act::Serve => serve(alloc, client, log, way),
         Act::Finish(data) => finish(client, log, data),
+        Act::Fail(number) => fail(client, log, number),
         Act::AddToData(object, more) => add_to_data(client, log, object, more),
         Act::Notes => notes(client, log),
         Act::Add(name) => add(alloc, client, log, name),

@@ -1,7 +1,8 @@
 //! Faults and wants of memory of the transport, and what is too long for it.
 
 use super::acts::{Act, Cue, Look, Row, rows_tell};
-use crate::kit::values::Request;
+use crate::kit::steps::Call;
+use crate::kit::values::{Object, Request};
 use std::test::Fail;
 use test_kit::cuts::{Cut, Stream};
 use wl_wire::IoFault;
@@ -154,6 +155,65 @@ static ROWS: [Row; 9] = [
 #[test]
 fn rows(rt: HostRuntime) -> Result<(), Fail> {
     rows_tell(&rt, &ROWS)
+}
+
+/// `wl_callback.done` of 0, by object 2, and an event of the display that no session reads after it has failed.
+const DONE_AND_MORE: &[u8] = &[
+    2, 0, 0, 0, 0, 0, 12, 0, 0, 0, 0, 0, 1, 0, 0, 0, 1, 0, 12, 0, 2, 0, 0, 0,
+];
+
+/// Sessions that the program ends, and what they tell.
+static ENDED: [Row; 3] = [
+    // The open event is closed, and its sender lives on, though the event ends it. The first error stays. Other calls go on.
+    Row {
+        name: "ended while an event is open",
+        acts: &[
+            Act::Send(Request::Sync),
+            Act::Script(Cue::Arrive(DONE_AND_MORE)),
+            Act::Next,
+            Act::Fail(5),
+            Act::Finish(None),
+            Act::SetData(Object::Callback, 6),
+            Act::Next,
+            Act::Flush,
+            Act::Fail(7),
+            Act::Look(Look::LastError),
+            Act::Send(Request::Sync),
+            Act::Destroy(Object::Callback),
+            Act::Notes,
+        ],
+        told: "sent: 2, 1\nevent 0 of 2: 0\nfailed\nno event is open\ndone\nthe session failed\nthe session failed\nfailed\nIo error: os error 5\nsent: 3, 2\ndestroyed\nnotes: 2, 1\n",
+    },
+    // A fault that came first stays the error.
+    Row {
+        name: "ended after a fault",
+        acts: &[
+            Act::Script(Cue::ArriveFault(IoFault::Other(3))),
+            Act::Next,
+            Act::Fail(5),
+            Act::Look(Look::LastError),
+        ],
+        told: "the session failed\nfailed\nIo error: os error 3\n",
+    },
+    // So a step of a run ends it.
+    Row {
+        name: "ended in a run",
+        acts: &[
+            Act::Replay(&[
+                Call::Send(Request::Sync),
+                Call::Fail(IoFault::Other(5)),
+                Call::Next,
+            ]),
+            Act::Look(Look::LastError),
+        ],
+        told: "sent: 2, 1\nfailed\nthe session failed\nrefused: false\nIo error: os error 5\n",
+    },
+];
+
+/// Each session that the program ends tells what it has to.
+#[test]
+fn ended(rt: HostRuntime) -> Result<(), Fail> {
+    rows_tell(&rt, &ENDED)
 }
 
 /// The arrivals of a message of 5000 bytes, which is longer than the buffer of what was received is at first.

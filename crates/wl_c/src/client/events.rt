@@ -3,7 +3,7 @@
 ghost use Rattle.std.specs.Prelude.{IsSome, List, None, Some, [], ℤ, ◌≡◌, ◌≢◌};
 ghost use Rattle.wl_c.specs.Calls.{Did, Gave, GaveFlag};
 ghost use Rattle.wl_host.specs.Arguments.{descriptors_given};
-ghost use Rattle.wl_host.specs.Client.{ConservesClient, EndsEvent, EndsEventWith, HandsNext, Receives, Sends, given_with, mailbox_of, taken_in, with_mailbox};
+ghost use Rattle.wl_host.specs.Client.{ConservesClient, EndsEvent, EndsEventWith, HandsNext, Receives, Sends, failed, given_with, mailbox_of, taken_in, with_mailbox};
 ghost use Rattle.wl_host.specs.declared.status.Status.TheVariants as status;
 ghost use Rattle.wl_link.specs.declared.mailbox.Ending.TheVariants as ending;
 ghost use Rattle.wl_wire.specs.declared.error.IoFault.TheVariants as fault;
@@ -68,6 +68,23 @@ pub extern "C" fn nb_client_receive_failed(
         return Status::NoSession.code();
     };
     let status = session.receive_failed(number);
+    place.put(session);
+    status.code()
+}
+
+/// Ends the session, for a reason of the host's own.
+#[unsafe(no_mangle)]
+pub extern "C" fn nb_client_fail(alloc: Global, place: &mut ClientPlace, number: i32) -> u32
+    ensures none { place.old.kept.held ≡ None → (result ≡ 1) × (place.new.kept.held ≡ None) }
+    ensures stays { IsSome place.old.kept.held → IsSome place.new.kept.held }
+    ensures failed { Did place.old.kept.held result place.new.kept.held (λ s status t. t ≡ failed s number) }
+    ensures descriptors { Did place.old.kept.held result place.new.kept.held (λ s status t. ConservesClient s [] [] t) }
+    ensures answer { IsSome place.old.kept.held → result ≡ 0 }
+{
+    let Some(mut session) = place.take(alloc) else {
+        return Status::NoSession.code();
+    };
+    let status = session.fail(number);
     place.put(session);
     status.code()
 }

@@ -640,6 +640,8 @@ module _ {T U : Type 0} where
     call_moves sends receives step.NextEvent reply refused after (r, is, h) =
         by_moves reply (event_ids (event_content r)) after (ap ids_in is) (ap notes_in is) (next_event sends receives s (event_content r) refused after h)
     call_moves sends receives (step.FinishEvent u) reply refused after (r, is, no_memory, h) = by_moves reply [] after (ap ids_in is) (ap notes_in is) (finishes s u r after h)
+    call_moves sends receives (step.Fail e) reply refused after (is, no_memory, same) =
+        by_quiet reply _ after (ap ids_in is) (ap notes_in is) same (still (holding s), λ failed. refl)
     call_moves sends receives step.DispatchInnerQueue reply refused after (is, no_memory, same) = by_quiet reply _ after (ap ids_in is) (ap notes_in is) same (idle s)
     call_moves sends receives (step.SetMaxBufferSize limit) reply refused after (is, no_memory, (link, set, same)) =
         by_quiet reply _ after (ap ids_in is) (ap notes_in is) same (idle s)
@@ -664,6 +666,7 @@ module _ {U : Type 0} (s : SessionState Script U) where
   step_moves step.Flush reply refused after h = call_moves s ScriptSends ScriptReceives step.Flush reply refused after h
   step_moves step.NextEvent reply refused after h = call_moves s ScriptSends ScriptReceives step.NextEvent reply refused after h
   step_moves (step.FinishEvent u) reply refused after h = call_moves s ScriptSends ScriptReceives (step.FinishEvent u) reply refused after h
+  step_moves (step.Fail e) reply refused after h = call_moves s ScriptSends ScriptReceives (step.Fail e) reply refused after h
   step_moves step.DispatchInnerQueue reply refused after h = call_moves s ScriptSends ScriptReceives step.DispatchInnerQueue reply refused after h
   step_moves (step.SetMaxBufferSize limit) reply refused after h = call_moves s ScriptSends ScriptReceives (step.SetMaxBufferSize limit) reply refused after h
   step_moves step.TakeNotes reply refused after h = call_moves s ScriptSends ScriptReceives step.TakeNotes reply refused after h

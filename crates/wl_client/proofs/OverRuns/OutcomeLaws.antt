@@ -194,6 +194,7 @@ module _ {T U : Type 0} (sends : T → Queue → Result ℕ IoFault → T → Ty
   call_one s x y (step.FinishEvent u) p q (a, is, unasked, h) (b, is', unasked', g) =
       let one = finishes_one s u a b x y unasked unasked' h g in
       (same_reply p q _ _ is is' (ap reply.FinishEvent one.answer), one.after)
+  call_one s x y (step.Fail e) p q (is, unasked, same) (is', unasked', same') = (same_reply p q reply.Fail reply.Fail is is' refl, same ∙ sym same')
   call_one s x y step.DispatchInnerQueue p q (is, unasked, same) (is', unasked', same') =
       (same_reply p q (reply.DispatchInnerQueue (Ok 0)) (reply.DispatchInnerQueue (Ok 0)) is is' refl, same ∙ sym same')
   call_one s x y (step.SetMaxBufferSize limit) p q (is, unasked, (link, set, same)) (is', unasked', (link', set', same')) = (
@@ -219,6 +220,7 @@ module _ {U : Type 0} where
   step_one s x y step.Flush p q h g = call_one ScriptSends ScriptReceives script_sends_function script_receives_function s x y step.Flush p q h g
   step_one s x y step.NextEvent p q h g = call_one ScriptSends ScriptReceives script_sends_function script_receives_function s x y step.NextEvent p q h g
   step_one s x y (step.FinishEvent u) p q h g = call_one ScriptSends ScriptReceives script_sends_function script_receives_function s x y (step.FinishEvent u) p q h g
+  step_one s x y (step.Fail e) p q h g = call_one ScriptSends ScriptReceives script_sends_function script_receives_function s x y (step.Fail e) p q h g
   step_one s x y step.DispatchInnerQueue p q h g = call_one ScriptSends ScriptReceives script_sends_function script_receives_function s x y step.DispatchInnerQueue p q h g
   step_one s x y (step.SetMaxBufferSize limit) p q h g = call_one ScriptSends ScriptReceives script_sends_function script_receives_function s x y (step.SetMaxBufferSize limit) p q h g
   step_one s x y step.TakeNotes p q h g = call_one ScriptSends ScriptReceives script_sends_function script_receives_function s x y step.TakeNotes p q h g

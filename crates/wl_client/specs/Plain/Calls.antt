@@ -1,7 +1,7 @@
 -- What a program finds after the calls that are about neither a request nor an event, in the words of the look-ups.
 --
 -- A contract that cites one of these has another clause beside it, `call`, from which it follows.
-use Rattle.std.specs.Prelude.{◌≡◌, ◌⊎◌, ℕ, List, [], true, false, Option, None, Some, IsSome, Result, Ok, Err, MatchOption, MatchResult}
+use Rattle.std.specs.Prelude.{◌≡◌, ◌⊎◌, ℕ, List, [], true, false, Option, None, Some, IsSome, unwrap_or, Result, Ok, Err, MatchOption, MatchResult}
 use Rattle.wl_wire.specs.declared.error.IoFault.{IoFault}
 use Rattle.wl_wire.specs.declared.error.IoFault.TheVariants as fault
 use Rattle.wl_wire.specs.declared.protocol.TableError.{TableError}
@@ -14,6 +14,7 @@ use Rattle.wl_client.specs.declared.error.DestroyError.TheVariants as destroy
 use Rattle.wl_client.specs.declared.error.FlushError.{FlushError}
 use Rattle.wl_client.specs.declared.error.FlushError.TheVariants as flush
 use Rattle.wl_client.specs.declared.error.InvalidId.{InvalidId}
+use Rattle.wl_client.specs.declared.error.WaylandError.{WaylandError}
 use Rattle.wl_client.specs.declared.error.WaylandError.TheVariants.{Io}
 use Rattle.wl_client.specs.declared.objects.Kept.{Kept}
 use Rattle.wl_client.specs.declared.objects.Note.{Note}
@@ -109,6 +110,16 @@ module _ {T U : Type 0} where
     pub objects : ObjectsStay before after
     pub notes : after.notes ≡ before.notes
     pub rest : RestStays before after
+
+  -- The session has the error that it had, or else this one, and no event is open. Nothing else has changed.
+  pub record FailsBy (before : SessionState T U) (e : WaylandError) (after : SessionState T U) : Type 0 where
+    pub error : after.error ≡ Some (unwrap_or before.error e)
+    pub closed : after.open_event ≡ None
+    pub objects : ObjectsStay before after
+    pub last_serial : after.last_serial ≡ before.last_serial
+    pub notes : after.notes ≡ before.notes
+    pub link : after.link ≡ before.link
+    pub table : after.table ≡ before.table
 
   -- ---- notes and interfaces
 

@@ -1,8 +1,10 @@
 //! The error that ended a session.
 
-ghost use Rattle.std.specs.Prelude.{◌≡◌, ◌++◌};
+ghost use Rattle.std.specs.Prelude.{◌≡◌, ◌++◌, []};
+ghost use Rattle.wl_host.specs.Client.{ConservesClient, failed};
 ghost use Rattle.wl_host.specs.Faults.{flat_error, io_error, no_error, number_of, protocol_error, text_of_error};
 ghost use Rattle.wl_host.specs.Lent.{has_room, status_for, written};
+ghost use Rattle.wl_host.specs.declared.status.Status.TheVariants as status;
 
 use super::Client;
 use crate::flat::{FlatError, IO, PROTOCOL, count_number};
@@ -77,6 +79,19 @@ fn put_texts(to: &mut [u8], first: &str, second: &str) -> Status
 }
 
 impl Client {
+    /// Ends the session, for a reason of the host's own: its error is `IoError` with this number of the system, unless it has
+    /// one. No event comes any more, also none that was kept, and one that is open is closed: an object that it made has no
+    /// data. All descriptors that did not come out do by `next_dropped`. It takes no memory.
+    pub fn fail(&mut self, number: i32) -> Status
+        ensures failed { self.new ≡ failed self.old number }
+        ensures descriptors { ConservesClient self.old [] [] self.new }
+        ensures answer { result ≡ status.Ok }
+    {
+        self.core.fail(WaylandError::Io(IoFault::Other(number)));
+        self.is_kept = false;
+        Status::Ok
+    }
+
     /// The session's error: what it is in `out`, and its text in `text`, the message and then the name of the interface of
     /// the object.
     ///

@@ -2,7 +2,7 @@
 
 ghost use Rattle.std.specs.Prelude.{◌≡◌, [], IfErr, Some};
 ghost use Rattle.wl_wire.specs.declared.error.IoFault.TheVariants as fault;
-ghost use Rattle.wl_host.specs.Client.{ConservesClient, Drops, Flushes, HandsDropped, HasNoneDropped, has_failed, let_go, mailbox_of, sent, sent_descriptors, to_send, told, with_mailbox, without_dropped};
+ghost use Rattle.wl_host.specs.Client.{ConservesClient, Drops, Flushes, HandsDropped, HasNoneDropped, HoldsNone, has_failed, let_go, mailbox_of, sent, sent_descriptors, to_send, told, with_mailbox, without_dropped};
 ghost use Rattle.wl_host.specs.Sending.{copied};
 ghost use Rattle.wl_host.specs.declared.status.Status.TheVariants as status;
 
@@ -87,6 +87,7 @@ impl Client {
     pub fn next_dropped(&mut self) -> Result<i32, Status>
         ensures call { Drops self.old result self.new }
         ensures none_dropped { IfErr result (λ _. HasNoneDropped self.new) }
+        ensures none_held { IfErr result (λ _. HoldsNone self.new) }
         ensures descriptors { ConservesClient self.old [] (told result) self.new }
     {
         self.pass_dropped();

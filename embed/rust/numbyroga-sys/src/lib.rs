@@ -887,6 +887,8 @@ unsafe extern "C" {
     pub safe fn nb_client_received_end(place: &mut nb_client) -> nb_status;
     /// A receive failed with this errno.
     pub safe fn nb_client_receive_failed(place: &mut nb_client, number: i32) -> nb_status;
+    /// Ends the session, for a reason of the host's own.
+    pub safe fn nb_client_fail(place: &mut nb_client, number: i32) -> nb_status;
     /// A send failed with this errno.
     pub safe fn nb_client_send_failed(place: &mut nb_client, number: i32) -> nb_status;
     /// Hands out the next event.
