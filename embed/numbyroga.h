@@ -887,6 +887,13 @@ nb_status nb_client_set_object_data(nb_client *place, const nb_object_id *object
  * that was destroyed); NB_OUT_OF_MEMORY. */
 nb_status nb_client_destroy_object(nb_client *place, const nb_object_id *object);
 
+/* Takes an object out that both sides have given up: the client has destroyed it, by nb_client_destroy_object, by a
+ * request or by an event, and the server deleted its id (wl_display.delete_id) before that. Its number can be used again,
+ * and its id names nothing. An object that the client destroyed first leaves by itself when the server deletes its id.
+ * Without this call the number of an object whose id the server deleted first is never used again, and the session keeps
+ * the object. Statuses: NB_INVALID_ID (also of an object that one side has not given up). */
+nb_status nb_client_reclaim(nb_client *place, const nb_object_id *object);
+
 /* ======== A client's session: sending */
 
 /* Hands what waits over to nb_client_to_send, as far as there is room. Statuses: NB_FAILED (the session has an error,

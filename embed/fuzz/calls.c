@@ -570,6 +570,7 @@ static void call_of_client(void)
     case 10:
         object = any_object(own);
         see(nb_client_destroy_object(&session, &object));
+        see(nb_client_reclaim(&session, &object));
         while (see(nb_client_next_note(&session, &object, &number)) == NB_OK) {
             saw_object(&object);
             saw(number);

@@ -213,6 +213,66 @@ static void not_kept(void)
     OK(nb_client_end(&session));
 }
 
+/* Sends what waits to nobody. */
+static int sends_on(void)
+{
+    return nb_client_flush(&session) == NB_OK &&
+           nb_client_to_send(&session, bytes, sizeof bytes, descriptors, NB_MOST_DESCRIPTORS, &counts) == NB_OK &&
+           nb_client_sent(&session, counts.bytes) == NB_OK;
+}
+
+/* The server deletes the id of a number, and no event comes. */
+static int is_deleted(uint32_t number)
+{
+    put(1, 1, "u", number);
+    return come(NULL, 0) == NB_OK && next_event() == NB_WOULD_BLOCK;
+}
+
+/* An object whose id the server deletes first, and which the client destroys then. Whether all that is answered as it
+ * has to be. */
+static int lives(nb_object_id *made)
+{
+    uint64_t data = 0;
+    nb_object_id noted;
+    const nb_argument placeholder = nb_placeholder();
+    const nb_request make = { object, NB_QUAD_REQUEST_MAKE, 1, 75, 0, 0, 0, 0 };
+    return nb_client_send_request(&session, &make, &placeholder, 1, NULL, 0, made) == NB_OK && sends_on() &&
+           nb_client_reclaim(&session, made) == NB_INVALID_ID && is_deleted(made->number) &&
+           nb_client_reclaim(&session, made) == NB_INVALID_ID &&
+           nb_client_object_data(&session, made, &data) == NB_OK && data == 75 &&
+           nb_client_destroy_object(&session, made) == NB_OK &&
+           nb_client_next_note(&session, &noted, &data) == NB_OK && nb_same_object(&noted, made) && data == 75;
+}
+
+/* A number is used again once both sides have given its object up: so a million objects take no more numbers than one.
+ */
+static void reclaimed(void)
+{
+    uint64_t data;
+    uint32_t count = 0;
+    nb_object_id made, kept;
+    connect_session();
+    while (count < 1000000 && lives(&made) && made.number == 4 && nb_client_reclaim(&session, &made) == NB_OK)
+        count++;
+    HOLDS(count == 1000000);
+    IS(nb_client_object_data(&session, &made, &data), NB_INVALID_ID);
+    IS(nb_client_reclaim(&session, &made), NB_INVALID_ID);
+    /* What is not reclaimed keeps its number, and its data. */
+    HOLDS(lives(&kept) && kept.number == 4);
+    HOLDS(lives(&made) && made.number == 5);
+    OK(nb_client_object_data(&session, &kept, &data));
+    OK(nb_client_reclaim(&session, &kept));
+    HOLDS(lives(&made) && made.number == 4);
+    /* What the client destroys first leaves by itself. */
+    OK(nb_client_destroy_object(&session, &object));
+    IS(nb_client_reclaim(&session, &object), NB_INVALID_ID);
+    OK(nb_client_object_data(&session, &object, &data));
+    HOLDS(is_deleted(3));
+    IS(nb_client_object_data(&session, &object, &data), NB_INVALID_ID);
+    IS(nb_client_reclaim(&session, &object), NB_INVALID_ID);
+    OK(nb_client_end(&session));
+}
+
 /* The ends of a connection, as the host tells them. */
 static void ends(void)
 {
@@ -345,6 +405,7 @@ int main(void)
     requests();
     events();
     not_kept();
+    reclaimed();
     ends();
     both(1);
     both(7);

@@ -90,6 +90,7 @@ static void client_calls(void)
     NONE(nb_client_object_data(&session, &object, &data));
     NONE(nb_client_set_object_data(&session, &object, 1));
     NONE(nb_client_destroy_object(&session, &object));
+    NONE(nb_client_reclaim(&session, &object));
     NONE(nb_client_flush(&session));
     NONE(nb_client_to_send(&session, bytes, 9, descriptors, NB_MOST_DESCRIPTORS, &counts));
     NONE(nb_client_sent(&session, 1));

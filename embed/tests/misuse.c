@@ -374,6 +374,9 @@ static void requests(void)
     HOLDS(is_kept == 7);
     IS(nb_client_destroy_object(&session, &display), NB_INVALID_ID);
     IS(nb_client_destroy_object(&session, &wrong), NB_INVALID_ID);
+    IS(nb_client_reclaim(&session, &display), NB_INVALID_ID);
+    IS(nb_client_reclaim(&session, &object), NB_INVALID_ID);
+    IS(nb_client_reclaim(&session, &wrong), NB_INVALID_ID);
     IS(nb_client_object_info(&session, &wrong, &(nb_object_info){ 0, 0, 0 }), NB_INVALID_ID);
     IS(nb_client_set_object_data(&session, &wrong, 1), NB_INVALID_ID);
     OK(nb_client_set_max_buffer_size(&session, 1, 1 << 16));

@@ -12,6 +12,7 @@ mod failing;
 mod faults;
 mod hints;
 mod objects;
+mod reclaimed;
 mod replayed;
 mod requests;
 mod texts;

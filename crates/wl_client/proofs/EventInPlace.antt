@@ -21,7 +21,7 @@ use Rattle.wl_link.specs.Link.{LinkState, after_first, with_incoming}
 use Rattle.wl_link.specs.Store.{Store, held}
 use Rattle.wl_client.specs.declared.event.OpenEvent.{OpenEvent}
 use Rattle.wl_client.specs.declared.objects.Kept.{Kept}
-use Rattle.wl_client.specs.Events.{Converted, Converting, Whole, convert, convert_one, going_on, start, vacated}
+use Rattle.wl_client.specs.Events.{Converted, Converting, Whole, convert, convert_one, going_on, start, deleted}
 use Rattle.wl_client.specs.Handling.{Handling, HandsOut, handling, row_in}
 use Rattle.wl_client.specs.ObjectId.{IdParts}
 use Rattle.wl_client.specs.Reading.{with_link}
@@ -71,16 +71,16 @@ module _ {T U : Type 0} (table : List InterfaceRow) (store : Store (Kept U)) (li
         (record { whole = waits.whole; sender = sym display; opcode = sym waits.opcode; args = one_word bytes link.incoming.tokens n waits.word }, refl),
       )
 
--- the message was taken, and the number was given up
+-- the message was taken, and the id was deleted
 pub deleted_in_place : {T U : Type 0} (s : SessionState T U) (link : LinkState T) (store : Store (Kept U)) (n : ℕ) → sender_of s.link.incoming.bytes ≡ 1
-    → DeleteWaits s.table s.store s.link n → link ≡ taken s.link → store ≡ vacated s.store n
+    → DeleteWaits s.table s.store s.link n → link ≡ taken s.link → store ≡ deleted s.store n
     → HandlesMessage s WentOn (record s { link = link; store = store })
-deleted_in_place {T} {U} s link store n display waits taken_is vacated_is =
+deleted_in_place {T} {U} s link store n display waits taken_is deleted_is =
     inr (
       message s.table s.store s.link n,
       taken s.link,
       reads s.table s.store s.link n display waits,
-      ap₂ (λ (l : LinkState T) (x : Store (Kept U)). let after : SessionState T U = record s { link = l; store = x } in after) taken_is vacated_is,
+      ap₂ (λ (l : LinkState T) (x : Store (Kept U)). let after : SessionState T U = record s { link = l; store = x } in after) taken_is deleted_is,
     )
 
 -- ---- an event whose arguments are numbers

@@ -9,3 +9,4 @@ pub mod StretchLaws
 pub mod AccountLaws
 pub mod ScriptedLaws
 pub mod HeardLaws
+pub mod NumberLaws

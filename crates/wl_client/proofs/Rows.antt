@@ -10,7 +10,7 @@ use Rattle.wl_wire.specs.declared.argument.Token.{Token}
 use Rattle.wl_wire.specs.declared.interface.InterfaceId.{InterfaceId}
 use Rattle.wl_wire.specs.Table.{InterfaceRow, MessageRow, first_message, fixed_rows}
 use Rattle.wl_link.specs.Identity.{Objects}
-use Rattle.wl_link.specs.Store.{Store, held, removed}
+use Rattle.wl_link.specs.Store.{Store, held, removed, rewritten}
 use Rattle.wl_link.specs.declared.object.Object.{Object}
 use Rattle.wl_client.specs.declared.error.RequestError.{RequestError}
 use Rattle.wl_client.specs.declared.error.RequestError.TheVariants as refused
@@ -18,9 +18,9 @@ use Rattle.wl_client.specs.declared.request.Granted.{Granted}
 use Rattle.wl_client.specs.declared.event_fault.EventFault.TheVariants as wrong
 use Rattle.wl_client.specs.declared.objects.Kept.{Kept}
 use Rattle.wl_client.specs.ObjectId.{IdParts}
-use Rattle.wl_client.specs.Events.{Wrong, convert, object_argument, object_argument_of, start, fault_text, Fails, Deletes, Unreadable, display_event, vacated}
+use Rattle.wl_client.specs.Events.{Wrong, convert, object_argument, object_argument_of, start, fault_text, Fails, Deletes, Unreadable, display_event, deleted}
 use Rattle.wl_client.specs.Requests.{SessionMessage, Spec, checked_sender, interface_fault, object_fault}
-use Rattle.wl_client.specs.Session.{display_object, flagged, fresh_object, null_parts}
+use Rattle.wl_client.specs.Session.{display_object, flagged, fresh_object, null_parts, with_id_deleted}
 
 -- ---- a table of one interface more
 
@@ -134,11 +134,11 @@ module _ (store : Store (Kept ℕ)) where
   argument_of_another_interface : object_argument_of registry_id 3 (Some quad) ≡ Err (wrong.WrongInterface 3 registry_id quad_id)
   argument_of_another_interface = refl
 
-  -- what the client destroyed leaves the store where the server gives up its number, and another object stays
-  deleted_after_destruction : held store 3 ≡ Some destroyed_quad → vacated store 3 ≡ removed store 3
+  -- what the client destroyed leaves the store where the server deletes its id, and another object is flagged
+  deleted_after_destruction : held store 3 ≡ Some destroyed_quad → deleted store 3 ≡ removed store 3
   deleted_after_destruction holds = rw holds refl
 
-  deleted_before_destruction : held store 3 ≡ Some quad → vacated store 3 ≡ store
+  deleted_before_destruction : held store 3 ≡ Some quad → deleted store 3 ≡ rewritten store 3 (with_id_deleted quad)
   deleted_before_destruction holds = rw holds refl
 
 invalid_text : fault_text table (wrong.InvalidNewId 5 quad_id)

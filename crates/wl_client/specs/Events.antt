@@ -14,13 +14,13 @@ use Rattle.wl_wire.specs.Argument.{WireArgument}
 use Rattle.wl_wire.specs.Table.{InterfaceRow, MessageRow, anonymous_id, name_of}
 use Rattle.wl_link.specs.declared.object.Object.{Object}
 use Rattle.wl_link.specs.Identity.{Objects}
-use Rattle.wl_link.specs.Store.{Store, held, is_free, is_server_number, removed, stored}
+use Rattle.wl_link.specs.Store.{Store, held, is_free, is_server_number, removed, rewritten, stored}
 use Rattle.wl_wire.specs.MessageRows.{fits, next_interface, rest_of}
 use Rattle.wl_client.specs.declared.event_fault.EventFault.{EventFault}
 use Rattle.wl_client.specs.declared.event_fault.EventFault.TheVariants as wrong
 use Rattle.wl_client.specs.declared.objects.Kept.{Kept}
 use Rattle.wl_client.specs.ObjectId.{IdParts}
-use Rattle.wl_client.specs.Session.{null_parts, id_at, last_possible_serial, flagged, fresh_object}
+use Rattle.wl_client.specs.Session.{null_parts, id_at, last_possible_serial, flagged, fresh_object, with_id_deleted}
 
 -- ---- what is wrong with an event
 
@@ -73,10 +73,17 @@ module _ {U : Type 0} where
   is_destroyed None = false
   is_destroyed (Some x) = x.value.client_destroyed
 
-  -- The store without the object of a number, if the client destroyed it. So it is when the server gives the number up, and when it
-  -- makes an object there.
+  -- The store without the object of a number, if the client destroyed it. So it is when the server makes an object there.
   abbrev pub vacated : Store (Kept U) → ℕ → Store (Kept U)
   vacated store n = if is_destroyed (held store n) then removed store n else store
+
+  -- The store after the server deleted the id of a number. An object that the client destroyed leaves it; another one is flagged.
+  abbrev pub deleted_at : Store (Kept U) → ℕ → Option (Object (Kept U)) → Store (Kept U)
+  deleted_at store n None = store
+  deleted_at store n (Some x) = if x.value.client_destroyed then removed store n else rewritten store n (with_id_deleted x)
+
+  abbrev pub deleted : Store (Kept U) → ℕ → Store (Kept U)
+  deleted store n = deleted_at store n (held store n)
 
   -- The server may make an object at that number: it is one of the server's range, and free, or its object was destroyed by
   -- the client; and a serial is left.
@@ -147,7 +154,7 @@ module _ {U : Type 0} where
 pub data DisplayEvent : Type 0 where
   -- the error that ends the session
   Fails : (code object : ℕ) (message : List ℕ) → DisplayEvent
-  -- the server gave up an object
+  -- the server deleted the id of an object
   Deletes : (number : ℕ) → DisplayEvent
   -- an error without a text, or no event of the display
   Unreadable : DisplayEvent

@@ -17,7 +17,7 @@ use Rattle.wl_client.specs.declared.event_fault.EventFault.TheVariants as wrong
 use Rattle.wl_client.specs.declared.objects.Kept.{Kept}
 use Rattle.wl_client.specs.declared.event.OpenEvent.{OpenEvent}
 use Rattle.wl_client.specs.ObjectId.{IdParts}
-use Rattle.wl_client.specs.Events.{Outcome, Whole, Wrong, convert, start, error_of, DisplayEvent, Fails, Deletes, Unreadable, display_event, told_error, vacated}
+use Rattle.wl_client.specs.Events.{Outcome, Whole, Wrong, convert, start, error_of, DisplayEvent, Fails, Deletes, Unreadable, display_event, told_error, deleted}
 use Rattle.wl_client.specs.Requests.{SessionMessage}
 use Rattle.wl_client.specs.Session.{id_at}
 
@@ -54,7 +54,7 @@ opened_of m receiver row created = record { sender = id_at m.sender receiver; is
 module _ {U : Type 0} (table : List InterfaceRow) (objects : Objects (Kept U)) where
   abbrev pub of_display : DisplayEvent → Handling U
   of_display (Fails code n text) = Breaks (told_error table objects.store code n text) objects
-  of_display (Deletes n) = Swallows (record objects { store = vacated objects.store n })
+  of_display (Deletes n) = Swallows (record objects { store = deleted objects.store n })
   of_display Unreadable = Breaks (error_of table wrong.Malformed) objects
 
   -- an event after its arguments were gone through: it is swallowed if the client destroyed its receiver

@@ -23,6 +23,7 @@ pub mod OneOutcome
 pub mod Cutting
 pub mod Stretches
 pub mod Heard
+pub mod Numbers
 pub mod Accounts
 -- What only the functions inside promise each other.
 pub mod Inside

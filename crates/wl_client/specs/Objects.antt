@@ -1,8 +1,8 @@
 -- What the calls on a session's objects answer, and what they change.
-use Rattle.std.specs.Prelude.{◌≡◌, ℕ, ◌⊎◌, true, ◌==◌, if◌then◌else◌, Option, None, Some, IsSome, Result, Ok, Err, MatchOption}
+use Rattle.std.specs.Prelude.{◌≡◌, ℕ, ◌⊎◌, true, ◌==◌, ◌&&◌, if◌then◌else◌, Option, None, Some, IsSome, Result, Ok, Err, MatchBool, MatchOption}
 use Rattle.wl_wire.specs.declared.interface.ObjectInfo.{ObjectInfo}
 use Rattle.wl_link.specs.declared.object.Object.{Object}
-use Rattle.wl_link.specs.Store.{Store, rewritten}
+use Rattle.wl_link.specs.Store.{Store, removed, rewritten}
 use Rattle.wl_client.specs.declared.error.InvalidId.{InvalidId}
 use Rattle.wl_client.specs.declared.error.DestroyError.{DestroyError}
 use Rattle.wl_client.specs.declared.error.DestroyError.TheVariants as destroy
@@ -73,3 +73,12 @@ module _ {T U : Type 0} where
         notes = noted before.notes x.value.user_data (id_at id.number x);
       }))
       ⊎ ((answer ≡ Err destroy.OutOfMemory) × (after ≡ before) × IsSome x.value.user_data))
+
+  -- The object leaves the map, if both sides have given it up: the client destroyed it, and the server had deleted its id before
+  -- that. Else nothing is changed.
+  abbrev pub ReclaimedBy : SessionState T U → IdParts → Result (Unit {0}) InvalidId → SessionState T U → Type 0
+  ReclaimedBy before id answer after =
+      MatchOption (named before.store id) ((answer ≡ Err _) × (after ≡ before))
+      (λ x. MatchBool (x.value.client_destroyed && x.value.id_deleted)
+      ((answer ≡ Ok tt) × (after ≡ record before { store = removed before.store id.number }))
+      ((answer ≡ Err _) × (after ≡ before)))

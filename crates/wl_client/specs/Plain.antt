@@ -30,7 +30,7 @@ use Rattle.wl_client.specs.ObjectId.{IdParts}
 use Rattle.wl_client.specs.Objects.{info_of, user_data_of}
 use Rattle.wl_client.specs.Reading.{objects_in}
 use Rattle.wl_client.specs.Requests.{SessionMessage, Spec, child_of}
-use Rattle.wl_client.specs.Session.{Core, SessionState, alive, core_of, fresh_object, id_at, named, noted, null_parts}
+use Rattle.wl_client.specs.Session.{Core, SessionState, alive, core_of, fresh_object, id_at, named, noted, null_parts, with_id_deleted}
 
 -- the ids have the same number and serial
 abbrev pub same_object : IdParts → IdParts → Bool
@@ -161,10 +161,12 @@ module _ {U : Type 0} where
   abbrev pub IsOld : Objects (Kept U) → IdParts → Type 0
   IsOld objects id = IsSome (alive (named objects.store id)) ⊎ (id.serial ≤ objects.last_serial)
 
-  -- The object that an id named is as it was. One that the client has destroyed may be gone.
+  -- The object that an id named is as it was, but that the server may have deleted its id. One that the client has destroyed may be
+  -- gone.
   abbrev pub StaysAs : Option (Object (Kept U)) → Option (Object (Kept U)) → Type 0
   StaysAs None after = after ≡ None
-  StaysAs (Some x) after = MatchBool x.value.client_destroyed ((after ≡ Some x) ⊎ (after ≡ None)) (after ≡ Some x)
+  StaysAs (Some x) after = MatchBool x.value.client_destroyed ((after ≡ Some x) ⊎ (after ≡ None))
+      ((after ≡ Some x) ⊎ (after ≡ Some (with_id_deleted x)))
 
   -- so it is of each id but those that were made since
   pub record IdsStay (before after : Objects (Kept U)) : Type 0 where

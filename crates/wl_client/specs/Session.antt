@@ -1,5 +1,5 @@
 -- What a client session holds, and the look-ups that its calls share.
-use Rattle.std.specs.Prelude.{◌≡◌, ℕ, List, [], Bool, false, Option, None, Some, unwrap_or, if◌then◌else◌, ◌++◌, ◌∷◌}
+use Rattle.std.specs.Prelude.{◌≡◌, ℕ, List, [], Bool, false, true, Option, None, Some, unwrap_or, if◌then◌else◌, ◌++◌, ◌∷◌}
 use Rattle.wl_wire.specs.declared.interface.InterfaceId.{InterfaceId}
 use Rattle.wl_wire.specs.Table.{InterfaceRow, anonymous_id, display_id}
 use Rattle.wl_link.specs.declared.object.Object.{Object}
@@ -78,7 +78,7 @@ module _ {U : Type 0} where
   fresh_object interface version serial user_data = record {
     interface = interface;
     version = version;
-    value = record { serial = serial; user_data = user_data; client_destroyed = false };
+    value = record { serial = serial; user_data = user_data; client_destroyed = false; id_deleted = false };
   }
 
   -- the display: it has no user data
@@ -94,6 +94,20 @@ module _ {U : Type 0} where
       serial = x.value.serial;
       user_data = x.value.user_data;
       client_destroyed = destroyed;
+      id_deleted = x.value.id_deleted;
+    };
+  }
+
+  -- the object, flagged as one whose id the server deleted
+  abbrev pub with_id_deleted : Object (Kept U) → Object (Kept U)
+  with_id_deleted x = record {
+    interface = x.interface;
+    version = x.version;
+    value = record {
+      serial = x.value.serial;
+      user_data = x.value.user_data;
+      client_destroyed = x.value.client_destroyed;
+      id_deleted = true;
     };
   }
 
@@ -105,6 +119,7 @@ module _ {U : Type 0} where
       serial = x.value.serial;
       user_data = Some u;
       client_destroyed = x.value.client_destroyed;
+      id_deleted = x.value.id_deleted;
     };
   }
 

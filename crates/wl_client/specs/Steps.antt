@@ -25,7 +25,7 @@ use Rattle.wl_client.specs.declared.step.Step.TheVariants as step
 use Rattle.wl_client.specs.declared.step.Reply.{Reply}
 use Rattle.wl_client.specs.declared.step.Reply.TheVariants as reply
 use Rattle.wl_client.specs.Finish.{Finishes, SessionFlushed}
-use Rattle.wl_client.specs.Objects.{DataSet, DestroyedBy}
+use Rattle.wl_client.specs.Objects.{DataSet, DestroyedBy, ReclaimedBy}
 use Rattle.wl_client.specs.Reading.{NextEvent, event_content}
 use Rattle.wl_client.specs.Requests.{Requested, session_content}
 use Rattle.wl_client.specs.Session.{SessionState, failed_by}
@@ -96,6 +96,8 @@ module _ {T U : Type 0} where
       (r : _) × (answer ≡ reply.SetData r) × (refused ≡ false) × DataSet before id u r after
   LocalCall before (step.DestroyObject id) answer refused after =
       (r : _) × (answer ≡ reply.DestroyObject r) × (refused ≡ refused_destroy r) × DestroyedBy before id r after
+  LocalCall before (step.Reclaim id) answer refused after =
+      (r : _) × (answer ≡ reply.Reclaim r) × (refused ≡ false) × ReclaimedBy before id r after
   LocalCall before (step.FinishEvent u) answer refused after =
       (r : _) × (answer ≡ reply.FinishEvent r) × (refused ≡ refused_finish r) × Finishes before u r after
   LocalCall before (step.Fail e) answer refused after = (answer ≡ reply.Fail) × (refused ≡ false) × (after ≡ failed_by before e)

@@ -84,6 +84,7 @@ fn make_object<U: Drop>(
             serial,
             user_data: None,
             client_destroyed: receiver.client_destroyed,
+            id_deleted: false,
         },
     };
     match objects.insert_at(number, object) {

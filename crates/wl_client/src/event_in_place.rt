@@ -17,7 +17,7 @@ use crate::backend::Backend;
 use crate::event::OpenEvent;
 use crate::message::{desc_of, event_desc};
 use crate::object_id::ObjectId;
-use crate::objects::{Kept, id_at, vacate};
+use crate::objects::{Kept, delete_id, id_at};
 use wl_link::{BufferedSocket, ObjectMap, Transport};
 use wl_wire::opcodes::DELETE_ID;
 use wl_wire::{Args, Argument, ArgumentType, DISPLAY, INLINE_ARGS, Message, Protocol, Token};
@@ -27,13 +27,13 @@ use wl_wire::{Args, Argument, ArgumentType, DISPLAY, INLINE_ARGS, Message, Proto
 pub enum InPlace {
     /// There is an event to hand out.
     Event,
-    /// A number was given up.
+    /// The id of a number was deleted.
     Deleted,
     /// It is no message that is handled in place.
     Not,
 }
 
-/// The number that the server gives up, if the first message that was received is a `delete_id`, is complete, and has no
+/// The number whose id the server deletes, if the first message that was received is a `delete_id`, is complete, and has no
 /// more bytes than it needs. It has this header.
 fn waiting_delete<T: Drop, U: Drop>(
     protocol: &Protocol,
@@ -189,7 +189,7 @@ impl<T: Transport + Drop, U: Drop> Backend<T, U> {
             return false;
         };
         self.socket.skip_message();
-        vacate(&mut self.objects, number);
+        delete_id(&mut self.objects, number);
         true
     }
 

@@ -8,7 +8,7 @@
 //! a change of it (`calls_over_scripts_are_steps`). An id *names* an object if its number has that object and its serial is
 //! that object's.
 
-ghost use Rattle.std.specs.Prelude.{◌≡◌, ◌∷◌, ◌++◌, ◌↔◌, ◌⊎◌, [], Bool, List, Option, None, Result, Ok, Err, IsSome, IsTrue, Vec, false, length, map, ℕ};
+ghost use Rattle.std.specs.Prelude.{◌≡◌, ◌∷◌, ◌++◌, ◌↔◌, ◌⊎◌, [], Bool, List, Option, None, Some, Result, Ok, Err, IsSome, IsTrue, Vec, false, length, map, ℕ};
 ghost use Rattle.std.specs.Global.{Global};
 ghost use Rattle.wl_wire.specs.declared.argument.Token.{Token};
 ghost use Rattle.wl_wire.specs.declared.error.IoFault.{IoFault};
@@ -18,11 +18,14 @@ ghost use Rattle.wl_link.specs.declared.memory.ArriveError.{ArriveError};
 ghost use Rattle.wl_link.specs.Exchange.{IsFunction, IsReceiveFunction, Queue, nothing};
 ghost use Rattle.wl_link.specs.Reader.{AllFed, Given, Gives, ReaderState, Reads, Turn, received_in};
 ghost use Rattle.wl_link.specs.Script.{Script, ScriptReceives, ScriptSends, parcel};
+ghost use Rattle.wl_link.specs.Store.{held, is_server_number};
+ghost use Rattle.wl_link.specs.declared.object.Object.{Object};
 ghost use Rattle.wl_client.specs.Cutting.{GoesOn, IsCut, IsServed};
 ghost use Rattle.wl_client.specs.Finish.{Finishes};
 ghost use Rattle.wl_client.specs.Reading.{answered, client, reader_state_of};
 ghost use Rattle.wl_client.specs.ReadingEnds.{ReadingEnds};
 ghost use Rattle.wl_client.specs.Requests.{SessionMessage};
+ghost use Rattle.wl_client.specs.declared.objects.Kept.{Kept};
 ghost use Rattle.wl_client.specs.declared.step.Reply.{Reply};
 ghost use Rattle.wl_client.specs.declared.step.Reply.TheVariants as reply;
 ghost use Rattle.wl_client.specs.declared.step.Step.{Step};
@@ -31,8 +34,9 @@ ghost use Rattle.wl_client.specs.Accounts.{Calls, CallsLocally, IsAccountedFor, 
 ghost use Rattle.wl_client.specs.Failed.{StaysFailed};
 ghost use Rattle.wl_client.specs.Handed.{HasOwnIds};
 ghost use Rattle.wl_client.specs.Heard.{AllHeard, Hears, events_in, finished_in};
-ghost use Rattle.wl_client.specs.Histories.{Called, Changed, Deed, EachStandsFor, History, called};
+ghost use Rattle.wl_client.specs.Histories.{Called, Changed, Deed, Does, EachStandsFor, History, called};
 ghost use Rattle.wl_client.specs.Named.{KeepsNaming};
+ghost use Rattle.wl_client.specs.Numbers.{HasOrLeft, NumberMoves};
 ghost use Rattle.wl_client.specs.ObjectId.{IdParts};
 ghost use Rattle.wl_client.specs.Noted.{NotesWhatEnded};
 ghost use Rattle.wl_client.specs.OneOutcome.{SameAnswers, SameDeeds};
@@ -78,6 +82,20 @@ pub fn each_id_that_names_an_object_keeps_it<T: Transport, U>()
 pub fn each_object_that_ends_is_noted_once<T: Transport, U>()
     ensures every { (table : List InterfaceRow) (transport : T) (before after : SessionState T U) (deeds : List (Deed T U)) →
         IsConnected table transport before → History (CallOf T.sends T.receives) before deeds after → NotesWhatEnded (CallOf T.sends T.receives) before deeds after }
+{}
+
+/// The law of numbers: no object takes the number of another one, unless both sides have given that up.
+///
+/// It is about the numbers of the client's range, and holds of every history. An object leaves its number only in a step before
+/// which the client had destroyed it; and its id was deleted before, or the step is a reading of the server's
+/// `wl_display.delete_id`. An id counts as deleted only by such a reading, and not for a new object (`step`). So an object that
+/// has a number before a history has it after that, or left it in one of its steps in this way (`history`). Numbers of its own
+/// range the server uses again without a `delete_id`, but only once the client has destroyed the object.
+pub fn a_number_is_free_once_both_sides_gave_it_up<T: Transport, U>()
+    ensures step { (before after : SessionState T U) (d : Deed T U) (n : ℕ) → is_server_number n ≡ false →
+        Does (CallOf T.sends T.receives) before d after → NumberMoves T.sends T.receives n before d after }
+    ensures history { (begun after : SessionState T U) (deeds : List (Deed T U)) (n : ℕ) (x : Object (Kept U)) → is_server_number n ≡ false →
+        History (CallOf T.sends T.receives) begun deeds after → held begun.store n ≡ Some x → HasOrLeft T.sends T.receives n x begun deeds after }
 {}
 
 /// The law of errors: a session that has an error keeps one. Over every history that begins with such a session, each reading

@@ -29,7 +29,7 @@ use crate::event::handle_event;
 use crate::event_fault::{EventFault, fault_text};
 use crate::event_in_place::InPlace;
 use crate::object_id::ObjectId;
-use crate::objects::{Kept, vacate};
+use crate::objects::{Kept, delete_id};
 use std::alloc::Global;
 use wl_link::{BufferedSocket, Object, ObjectMap, Transport, clear_message};
 use wl_wire::{
@@ -219,7 +219,7 @@ fn handle_display<U: Drop>(
     let alloc = *message.args.allocator();
     match display_event(message) {
         DisplayMessage::Deletes(number) => {
-            vacate(objects, number);
+            delete_id(objects, number);
             MessageEnd::Continues
         }
         DisplayMessage::Fails(code, number, text) => {

@@ -2,14 +2,14 @@
 
 ghost use Rattle.std.specs.Prelude.{◌≡◌, false, None, Some, IsSome, Ok, Err, MatchOption, MatchResult, option_copied};
 ghost use Rattle.wl_link.specs.Store.{held, is_free};
-ghost use Rattle.wl_client.specs.Events.{vacated};
+ghost use Rattle.wl_client.specs.Events.{deleted, vacated};
 ghost use Rattle.wl_client.specs.Session.{named, noted, alive, fresh_object as the_object, id_at as the_id};
 ghost use Rattle.std.specs.Fn.{FnOnceReturnsAtMut};
-ghost use Rattle.wl_client.specs.Objects.{info_of, user_data_of, DataSet, DestroyedBy, LendsData, LendsDataIn, LendsDataOf};
+ghost use Rattle.wl_client.specs.Objects.{info_of, user_data_of, DataSet, DestroyedBy, LendsData, LendsDataIn, LendsDataOf, ReclaimedBy};
 ghost use Rattle.wl_client.specs.Finish.{data_given};
 ghost use Rattle.wl_client.specs.Inside.Sending.{given_up_at};
 ghost use Rattle.wl_client.specs.Accounts.{CallsLocally, LendsAsCall};
-ghost use Rattle.wl_client.specs.Plain.Calls.{DestroysObject, SetsData, SetsWhatIsLeft};
+ghost use Rattle.wl_client.specs.Plain.Calls.{DestroysObject, ReclaimsObject, SetsData, SetsWhatIsLeft};
 ghost use Rattle.wl_client.specs.Steps.{refused_destroy};
 ghost use Rattle.wl_client.specs.declared.step.Reply.TheVariants as reply;
 ghost use Rattle.wl_client.specs.declared.step.Step.TheVariants as step;
@@ -29,6 +29,8 @@ pub struct Kept<U> {
     pub user_data: Option<U>,
     /// Whether the client destroyed it, or an event did.
     pub client_destroyed: bool,
+    /// Whether the server deleted its id (`wl_display.delete_id`) while the client had not destroyed it.
+    pub id_deleted: bool,
 }
 
 /// What happened to an object. `Backend::take_notes` returns the notes.
@@ -54,6 +56,7 @@ pub fn fresh_object<U>(
             serial,
             user_data,
             client_destroyed: false,
+            id_deleted: false,
         },
     }
 }
@@ -187,6 +190,23 @@ pub fn vacate<U: Drop>(objects: &mut ObjectMap<Kept<U>>, number: u32)
     }
 }
 
+/// The server deletes the id of this number. Its object, if there is one, is taken out of the map if the client has destroyed it,
+/// and is flagged if not.
+pub fn delete_id<U: Drop>(objects: &mut ObjectMap<Kept<U>>, number: u32)
+    ensures { objects.new.store ≡ deleted objects.old.store number }
+{
+    let Some(object) = objects.find(number) else {
+        return;
+    };
+    if !object.value.client_destroyed {
+        objects.with(number, |object| {
+            object.value.id_deleted = true;
+        });
+        return;
+    }
+    objects.remove(number);
+}
+
 impl<T: Drop, U: Drop> Backend<T, U> {
     /// The number, interface and version of the object that the id names.
     ///
@@ -259,8 +279,8 @@ impl<T: Drop, U: Drop> Backend<T, U> {
 
     /// Destroys the object that the id names, on the client's side. It is noted, if it has user data.
     ///
-    /// It stands for `wayland_backend::client::Backend::destroy_object`. The object leaves the map when the server gives up
-    /// its number after that (`wl_display.delete_id`). The error is `InvalidId` if the id names no object, or the display,
+    /// It stands for `wayland_backend::client::Backend::destroy_object`. The object leaves the map when the server deletes its
+    /// id after that (`wl_display.delete_id`). If the server deleted it before, `reclaim` takes the object out. The error is `InvalidId` if the id names no object, or the display,
     /// or an object that the client has destroyed before, and else `OutOfMemory` if there is no memory for the note. An
     /// error changes nothing.
     pub fn destroy_object(&mut self, id: &ObjectId) -> Result<(), DestroyError>
@@ -270,6 +290,36 @@ impl<T: Drop, U: Drop> Backend<T, U> {
         ensures refused { self.new.refused ≡ refused_destroy result }
     {
         self.destroy_named(id)
+    }
+
+    /// Takes the object that the id names out of the map, if both sides have given it up: the client has destroyed it, and the
+    /// server deleted its id (`wl_display.delete_id`) before that. Its data are dropped, and its number is free. It allocates
+    /// nothing.
+    ///
+    /// `wayland_backend` has no such call: there, and here for a program that does not call it, such a number is never used
+    /// again. An object that the client destroyed first leaves the map by itself when the server deletes its id. The error is
+    /// `InvalidId` if the id names no object that both sides have given up; then nothing is changed.
+    pub fn reclaim(&mut self, id: &ObjectId) -> Result<(), InvalidId>
+        ensures call { CallsLocally self.old (step.Reclaim id.now) (reply.Reclaim result) self.new }
+        ensures plain { ReclaimsObject self.old.session id.now result self.new.session }
+        ensures reclaimed { ReclaimedBy self.old.session id.now result self.new.session }
+        ensures refused { self.new.refused ≡ false }
+    {
+        self.reclaim_named(id)
+    }
+
+    /// Takes the object that the id names out of the map, if both sides have given it up.
+    fn reclaim_named(&mut self, id: &ObjectId) -> Result<(), InvalidId>
+        ensures reclaimed { ReclaimedBy self.old.session id.now result self.new.session }
+        ensures refused { self.new.refused ≡ false }
+    {
+        self.refused = false;
+        match named_in(&self.objects, id) {
+            Some(object) if object.value.client_destroyed && object.value.id_deleted => {}
+            _ => return Err(InvalidId),
+        }
+        self.objects.remove(id.protocol_id());
+        Ok(())
     }
 
     /// Flags the object that the id names as destroyed by the client, if the client may destroy it. Before that it is noted.

@@ -88,6 +88,7 @@ impl<U: Drop> Backend<Memory, U> {
         match step {
             Step::SetData(id, user_data) => Reply::SetData(self.set_data(&id, user_data)),
             Step::DestroyObject(id) => Reply::DestroyObject(self.destroy_object(&id)),
+            Step::Reclaim(id) => Reply::Reclaim(self.reclaim(&id)),
             Step::SendRequest(message, user_data, child_spec) => {
                 Reply::SendRequest(self.send_request(message, user_data, child_spec))
             }

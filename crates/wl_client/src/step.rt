@@ -19,6 +19,8 @@ pub enum Step<U> {
     SetData(ObjectId, U),
     /// `Backend::destroy_object`, with the object.
     DestroyObject(ObjectId),
+    /// `Backend::reclaim`, with the object.
+    Reclaim(ObjectId),
     /// `Backend::send_request`, with the request, and for a new object its user data, and its interface and version.
     SendRequest(Message<ObjectId, Token>, Option<U>, Option<(InterfaceId, u32)>),
     /// `Backend::flush`.
@@ -60,6 +62,8 @@ pub enum Reply<U> {
     SetData(Result<(), InvalidId>),
     /// The answer to `Step::DestroyObject`.
     DestroyObject(Result<(), DestroyError>),
+    /// The answer to `Step::Reclaim`.
+    Reclaim(Result<(), InvalidId>),
     /// The answer to `Step::SendRequest`.
     SendRequest(Result<ObjectId, RequestError>),
     /// The answer to `Step::Flush`.

@@ -21,7 +21,7 @@ use Rattle.wl_client.specs.declared.objects.Note.TheVariants.{Destroyed}
 use Rattle.wl_client.specs.Finish.{Finishes, SessionFlushed}
 use Rattle.wl_client.specs.Lending.{client_over}
 use Rattle.wl_client.specs.ObjectId.{IdParts}
-use Rattle.wl_client.specs.Objects.{DataSet, DestroyedBy, info_of, user_data_of}
+use Rattle.wl_client.specs.Objects.{DataSet, DestroyedBy, ReclaimedBy, info_of, user_data_of}
 use Rattle.wl_client.specs.Reading.{NextEvent}
 use Rattle.wl_client.specs.Requests.{Requested, SessionMessage, Spec, session_content}
 use Rattle.wl_client.specs.Session.{ClientState, SessionState, failed_by, null_parts}
@@ -190,6 +190,12 @@ version_in (Some info) = info.version
 abbrev pub GivesData : ClientCore → IdParts → ℕ → Status → ClientCore → Type 0
 GivesData before id u s after =
     (answer : Result (Unit {0}) InvalidId) × DataSet before.session id u answer after.session × (after.refused ≡ false)
+    × (s ≡ status_of (λ _. status.InvalidId) answer)
+
+-- the object leaves, if both sides have given it up
+abbrev pub Reclaims : ClientCore → IdParts → Status → ClientCore → Type 0
+Reclaims before id s after =
+    (answer : Result (Unit {0}) InvalidId) × ReclaimedBy before.session id answer after.session × (after.refused ≡ false)
     × (s ≡ status_of (λ _. status.InvalidId) answer)
 
 -- an object that ended, with the data that the core has of it

@@ -34,7 +34,6 @@ struct wl_proxy {
     uint64_t serial; /* of the session's id */
     uint32_t row;    /* of its interface in the session's table */
     bool is_wrapper;
-    bool is_deleted; /* the server has confirmed that the number is free; the program still has the object */
     void *user_data;
     wl_dispatcher_func_t dispatcher;
     const char *const *tag;
@@ -73,8 +72,7 @@ static inline void set_session_id(struct wl_proxy *proxy, const nb_object_id *id
 
 enum event_kind {
     EVENT_OF_OBJECT,
-    EVENT_OF_DELETED, /* wl_display.delete_id; `opcode` is the number */
-    EVENT_OF_ERROR    /* wl_display.error */
+    EVENT_OF_ERROR /* wl_display.error */
 };
 
 /* An event that was read. It is one block of memory with all that its arguments name. */
@@ -119,7 +117,8 @@ struct wl_display {
     struct readers readers;
     struct queues queues;
     struct wl_event_queue default_queue;
-    struct wl_event_queue own_queue; /* of the events of the display itself: they are handed out first */
+    struct wl_event_queue own_queue; /* of the errors of the display itself: they are handed out first */
+    int deleted;                     /* how often the server has freed a number since events were dispatched */
     struct numbers numbers;
     struct table table;
     struct input input;

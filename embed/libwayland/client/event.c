@@ -37,17 +37,6 @@ static struct event *event_new(enum event_kind kind, struct wl_proxy *sender, ui
     return event;
 }
 
-bool put_deleted_locked(struct wl_display *display, uint32_t number)
-{
-    uint8_t *text;
-    struct event *event = event_new(EVENT_OF_DELETED, &display->proxy, 0, 0, 0, &text);
-    if (!event)
-        return false;
-    event->opcode = number;
-    queues_put_into(&display->own_queue.queue, &event->queued);
-    return true;
-}
-
 /* The message of the error is in the display's text. */
 bool put_error_locked(struct wl_display *display, const nb_error *error)
 {

@@ -8,8 +8,7 @@
  * with errno, if it is malformed or there is no memory; its descriptors are closed then. */
 bool put_event_locked(struct wl_proxy *sender, const nb_event *from, const nb_argument *arguments);
 
-/* Events of the display itself, in its queue. False, with errno, if there is no memory. */
-bool put_deleted_locked(struct wl_display *display, uint32_t number);
+/* An error of the display itself, in its queue. False, with errno, if there is no memory. */
 bool put_error_locked(struct wl_display *display, const nb_error *error);
 
 /* Takes the first event out of the queue: it is in hand then. NULL if none waits. `*is_dropped`: its sender was

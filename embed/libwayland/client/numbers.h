@@ -9,8 +9,8 @@
 struct wl_display;
 struct wl_proxy;
 
-/* A number. Its row is 0 if it is free. Else it is the row of an object in the session's table: if `proxy` is NULL, the
- * program has destroyed that object, and the server may still send events to it. */
+/* A number. Its row is 0 if the session has no object there. Else it is the row of an object in the session's table: if
+ * `proxy` is NULL, the program has destroyed that object, and the server may still send events to it. */
 struct slot {
     struct wl_proxy *proxy;
     uint32_t row;
@@ -33,10 +33,10 @@ bool numbers_put(struct numbers *numbers, struct wl_proxy *proxy);
 
 void numbers_end(struct numbers *numbers);
 
-/* The program has destroyed the object. */
+/* The program destroys the object: so does the session. */
 void number_destroyed_locked(struct wl_proxy *proxy);
 
-/* The server has said that the number of an object may be used again. */
+/* The session has read that the number of an object may be used again. */
 void number_deleted_locked(struct wl_display *display, uint32_t number);
 
 #endif

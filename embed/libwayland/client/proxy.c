@@ -43,10 +43,8 @@ void proxy_destroy_locked(struct wl_proxy *proxy)
 {
     struct wl_display *display = proxy->display;
     if (proxy->object.id != 0) {
-        const nb_object_id id = session_id(proxy);
-        nb_client_destroy_object(&display->session, &id);
-        drop_notes_locked(display);
         number_destroyed_locked(proxy);
+        drop_notes_locked(display);
     }
     queues_destroy(&display->queues, &proxy->queued);
 }

@@ -4,7 +4,6 @@
  * A queue is freed when the program has destroyed it and nobody dispatches it any more. Its events are ended when it is
  * destroyed, and its proxies have the default queue from then on (queues.h): so no queue that is gone is ever read. */
 #include "queue.h"
-#include "../common/print.h"
 #include "connection.h"
 #include "event.h"
 #include "proxy.h"
@@ -148,18 +147,6 @@ static void dispatch_event_locked(struct wl_display *display, struct event *even
     pthread_mutex_lock(&display->lock);
 }
 
-static void dispatch_own_locked(struct wl_display *display, const struct event *event)
-{
-    if (event->kind == EVENT_OF_ERROR) {
-        take_error_locked(display, event->error.code, event->error.number, event->error.text);
-        return;
-    }
-    const union wl_argument number = { .u = event->opcode };
-    if (is_logging)
-        print_message("", &display->proxy.object, &wl_display_interface.events[1], &number, true);
-    number_deleted_locked(display, number.u);
-}
-
 /* How many events were handed out or dropped, until none waits or the display has an error. */
 static int dispatch_all_locked(struct wl_display *display, struct queue *queue)
 {
@@ -170,7 +157,7 @@ static int dispatch_all_locked(struct wl_display *display, struct queue *queue)
         if (event->kind == EVENT_OF_OBJECT)
             dispatch_event_locked(display, event, is_dropped);
         else
-            dispatch_own_locked(display, event);
+            take_error_locked(display, event->error.code, event->error.number, event->error.text);
         event_end_locked(display, event);
     }
     return count;
@@ -180,8 +167,9 @@ EXPORT int wl_display_dispatch_queue_pending(struct wl_display *display, struct 
 {
     pthread_mutex_lock(&display->lock);
     queue->dispatchers++;
-    int count = dispatch_all_locked(display, &display->own_queue.queue);
+    int count = display->deleted + dispatch_all_locked(display, &display->own_queue.queue);
     count += dispatch_all_locked(display, &queue->queue);
+    display->deleted = 0;
     queue->dispatchers--;
     release_queue(queue);
     int error = display->last_error;

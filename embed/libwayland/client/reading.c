@@ -1,9 +1,9 @@
 /* From the socket into the queues. It touches what came, the session, and the queues by event.c.
  *
  * Whole messages alone go to the session, each with all of its descriptors, so between two calls it has nothing that it
- * has not read. This file looks at the head of each message for three reasons: delete_id is held back (numbers.c says
- * why); messages for an object that is not there are passed over, as libwayland does; and a message whose descriptors
- * did not come is an error, as there. */
+ * has not read. This file looks at the head of each message for three reasons: messages for an object that is not there
+ * are passed over, as libwayland does; so delete_id is told to numbers.c; and a message whose descriptors did not come
+ * is an error, as there. */
 #include "reading.h"
 #include "../../socket.h"
 #include "../common/arguments.h"
@@ -15,6 +15,7 @@
 #include <errno.h>
 #include <stdlib.h>
 #include <string.h>
+#include <wayland-client-protocol.h>
 
 enum {
     LIBWAYLAND_ROOM = 4096, /* what libwayland reads at once */
@@ -177,7 +178,9 @@ static void take_away(struct input *input, uint32_t descriptors)
     memmove(input->descriptors, input->descriptors + descriptors, input->descriptor_count * sizeof(int32_t));
 }
 
-int feed_locked(struct wl_display *display, const uint8_t *bytes, size_t length, uint32_t descriptors)
+/* Hands whole messages to the session, with the first so many of the descriptors that came, and takes their events out.
+ */
+static int feed_locked(struct wl_display *display, const uint8_t *bytes, size_t length, uint32_t descriptors)
 {
     if (display->has_failed)
         return 0;
@@ -277,6 +280,26 @@ static int add_message(struct wl_display *display, struct run *run, const struct
     return 0;
 }
 
+/* Hands wl_display.delete_id to the session, with the run before it. One of the server's numbers means nothing. */
+static int take_delete(struct wl_display *display, struct run *run, const struct head *head)
+{
+    const union wl_argument number = { .u = head->number };
+    if (is_of_server(head->number)) {
+        if (feed_run(display, run) < 0)
+            return -1;
+        pass_over(run, head->size);
+    } else {
+        run->to += head->size;
+        if (feed_run(display, run) < 0)
+            return -1;
+    }
+    if (is_logging)
+        print_message("", &display->proxy.object, &wl_display_interface.events[1], &number, true);
+    display->deleted++;
+    number_deleted_locked(display, head->number);
+    return 0;
+}
+
 static int take_message(struct wl_display *display, struct run *run, const struct head *head)
 {
     const struct slot *slot = numbers_find(&display->numbers, head->sender);
@@ -284,17 +307,16 @@ static int take_message(struct wl_display *display, struct run *run, const struc
         run->to = display->input.count;
         return feed_run(display, run);
     }
-    bool is_delete = head->sender == 1 && head->opcode == 1 && head->size == 12;
-    if (slot && slot->row != 0 && !is_delete)
+    if (head->sender == 1 && head->opcode == 1 && head->size == 12)
+        return take_delete(display, run, head);
+    if (slot && slot->row != 0)
         return add_message(display, run, head);
     if (feed_run(display, run) < 0) /* it may make the object */
         return -1;
-    if (is_delete && !put_deleted_locked(display, head->number))
-        return -1;
     slot = numbers_find(&display->numbers, head->sender);
-    if (slot && slot->row != 0 && !is_delete)
+    if (slot && slot->row != 0)
         return add_message(display, run, head);
-    if (is_logging && !is_delete)
+    if (is_logging)
         print_thrown_away("[unknown]", head->sender, head->opcode, 0, head->size);
     pass_over(run, head->size);
     return 0;

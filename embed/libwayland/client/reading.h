@@ -8,10 +8,6 @@
  * there. */
 int receive_locked(struct wl_display *display);
 
-/* Hands whole messages to the session, with the first so many of the descriptors that came, and takes their events out.
- * -1 with errno. */
-int feed_locked(struct wl_display *display, const uint8_t *bytes, size_t length, uint32_t descriptors);
-
 /* Closes the descriptors that the session had and will not hand out. */
 void close_dropped_locked(struct wl_display *display);
 

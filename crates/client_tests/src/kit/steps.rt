@@ -13,6 +13,8 @@ pub enum Call {
     SetData(Object, u32),
     /// `Step::DestroyObject`.
     Destroy(Object),
+    /// `Step::Reclaim`.
+    Reclaim(Object),
     /// `Step::SendRequest`.
     Send(Request),
     /// `Step::Flush`.
@@ -59,6 +61,7 @@ fn step(alloc: Global, call: Call) -> Result<Step<u32>, Fail> {
     match call {
         Call::SetData(object, data) => Ok(Step::SetData(object.id(), data)),
         Call::Destroy(object) => Ok(Step::DestroyObject(object.id())),
+        Call::Reclaim(object) => Ok(Step::Reclaim(object.id())),
         Call::Send(request) => send(alloc, request),
         Call::Flush => Ok(Step::Flush),
         Call::Next => Ok(Step::NextEvent),

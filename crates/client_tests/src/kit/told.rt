@@ -208,6 +208,7 @@ pub fn write_reply(log: &mut String, reply: &Reply<u32>) -> Result<(), AllocErro
     match reply {
         Reply::SetData(answer) => write_done(log, "done", answer),
         Reply::DestroyObject(answer) => write_done(log, "destroyed", answer),
+        Reply::Reclaim(answer) => write_done(log, "reclaimed", answer),
         Reply::SendRequest(answer) => write_sent(log, answer),
         Reply::Flush(answer) => write_done(log, "flushed", answer),
         Reply::NextEvent(answer) => write_read(log, answer),

@@ -22,6 +22,8 @@ pub enum Object {
     Display,
     /// The callback that is a client's first object.
     Callback,
+    /// The callback that is made at its number after it.
+    SecondCallback,
     /// The registry that the first request makes.
     Registry,
     /// The `quad` that is bound by the second request.
@@ -45,6 +47,7 @@ impl Object {
             Object::Null => ObjectId::null(),
             Object::Display => ObjectId::from_parts(1, 0, WL_DISPLAY_INTERFACE),
             Object::Callback => ObjectId::from_parts(2, 1, WL_CALLBACK_INTERFACE),
+            Object::SecondCallback => ObjectId::from_parts(2, 2, WL_CALLBACK_INTERFACE),
             Object::Registry => ObjectId::from_parts(2, 1, WL_REGISTRY_INTERFACE),
             Object::Quad => ObjectId::from_parts(3, 2, QUAD),
             Object::Second => ObjectId::from_parts(4, 3, QUAD),

@@ -47,6 +47,8 @@ pub enum Act {
     AddToData(Object, u32),
     /// Destroys an object.
     Destroy(Object),
+    /// Takes an object out that both sides have given up.
+    Reclaim(Object),
     /// Takes the notes.
     Notes,
     /// Adds an interface of this name and of version 1, whose only event, `gone`, ends its object.
@@ -267,6 +269,10 @@ fn change(client: &mut Client, log: &mut String, act: Act) -> Result<(), Fail> {
             let answer = client.destroy_object(&object.id());
             done(client, log, "destroyed", &answer)
         }
+        Act::Reclaim(object) => {
+            let answer = client.reclaim(&object.id());
+            done(client, log, "reclaimed", &answer)
+        }
         _ => Err(Fail::new("the call changes nothing")),
     }
 }
@@ -407,7 +413,9 @@ fn perform(
         Act::SendWith(request, child) => send_with(alloc, client, log, way, request, child),
         Act::SendInWant(request) => send_in_want(alloc, client, log, way, request),
         Act::Bound => bound(alloc, client, log, way),
-        Act::Flush | Act::SetData(..) | Act::Destroy(_) => change(client, log, act),
+        Act::Flush | Act::SetData(..) | Act::Destroy(_) | Act::Reclaim(_) => {
+            change(client, log, act)
+        }
         Act::Next => next(alloc, client, log, way),
         Act::Serve => serve(alloc, client, log, way),
         Act::Finish(data) => finish(client, log, data),

@@ -22,6 +22,8 @@ enum Act {
     SetData(Object, u64),
     /// Destroys the object.
     Destroy(Object),
+    /// Takes the object out, which both sides have given up.
+    Reclaim(Object),
     /// Reads the next event.
     Next,
     /// Finishes the open event with these data.
@@ -59,6 +61,7 @@ fn perform<'a>(
             tell_drops(drops, log, client.set_data(&object.id(), data))
         }
         Act::Destroy(object) => tell_drops(drops, log, client.destroy_object(&object.id())),
+        Act::Reclaim(object) => tell_drops(drops, log, client.reclaim(&object.id())),
         Act::Next => tell_drops(drops, log, client.next_event()),
         Act::Finish(weight) => {
             let data = weight.map(|weight| Counted::new(drops, weight));
@@ -131,7 +134,7 @@ const MADE_GONE_AND_DELETE_3: [u8; 32] = [
 
 /// The runs. After each call there is what it has dropped, and what was dropped with its answer; at the end, what has been
 /// dropped once the session has ended.
-static ROWS: [Row; 4] = [
+static ROWS: [Row; 5] = [
     // What a refused call was given: by a request that the interface does not have, by one whose new id is not null, by one of a
     // sender that is not there; and for an object that is not there.
     Row {
@@ -175,6 +178,20 @@ static ROWS: [Row; 4] = [
             Act::Send(Request::Sync, 100),
         ],
         told: "00000000, 00000000\n00000000, 00000000\n00000000, 00000000\n00000010, 00000010\n00000010, 00000010\n00000111\n",
+    },
+    // If the server gives the number up first, they are dropped as the object is reclaimed.
+    Row {
+        name: "an object is reclaimed",
+        from_server: &DELETE_2,
+        acts: &[
+            Act::Send(Request::Sync, 10),
+            Act::Next,
+            Act::Reclaim(Object::Callback),
+            Act::Destroy(Object::Callback),
+            Act::Reclaim(Object::Callback),
+            Act::Send(Request::Sync, 100),
+        ],
+        told: "00000000, 00000000\n00000000, 00000000\n00000000, 00000000\n00000000, 00000000\n00000010, 00000010\n00000010, 00000010\n00000111\n",
     },
     // Data come back if the end of an event is refused: no event is open, or the event made no object. Those of an object that an
     // event ended are dropped as the server gives its number up.

@@ -10,8 +10,18 @@ const MADE: [u8; 12] = [3, 0, 0, 0, 1, 0, 12, 0, 0, 0, 0, 255];
 /// `wl_display.delete_id` of object 3.
 const DELETE_3: [u8; 12] = [1, 0, 0, 0, 1, 0, 12, 0, 3, 0, 0, 0];
 
+/// `wl_display.delete_id` of the callback 2, and then `wl_callback.done` of it.
+const DELETE_2_AND_DONE: [u8; 24] = [
+    1, 0, 0, 0, 1, 0, 12, 0, 2, 0, 0, 0, 2, 0, 0, 0, 0, 0, 12, 0, 0, 0, 0, 0,
+];
+
+/// `quad.made` of the `quad` 3, with the first number of the server's range, and `wl_display.delete_id` of that number.
+const MADE_AND_DELETED: [u8; 24] = [
+    3, 0, 0, 0, 1, 0, 12, 0, 0, 0, 0, 255, 1, 0, 0, 0, 1, 0, 12, 0, 0, 0, 0, 255,
+];
+
 /// The runs, and what they tell.
-static ROWS: [Row; 9] = [
+static ROWS: [Row; 14] = [
     // An object that the server makes, ended and made again.
     Row {
         name: "run of made objects",
@@ -133,9 +143,9 @@ static ROWS: [Row; 9] = [
         ],
         told: "sent: 2, 1\nsent: 3, 2\nwould block\nversion 1\nversion 3\nsent: 4, 3\n",
     },
-    // The server gives up a number whose object the client has not destroyed: it is not used again.
+    // The server deletes the id of an object that the client has not destroyed: its number is not used again by itself.
     Row {
-        name: "number given up early",
+        name: "id deleted first",
         acts: &[
             Act::Bound,
             Act::Script(Cue::Arrive(&DELETE_3)),
@@ -146,6 +156,96 @@ static ROWS: [Row; 9] = [
             Act::Send(Request::Sync),
         ],
         told: "sent: 2, 1\nsent: 3, 2\nwould block\nversion 3\ndestroyed\ndata 6\nsent: 4, 3\n",
+    },
+    // Such a number is used again once the client has destroyed its object and reclaimed it. The old id names nothing then.
+    Row {
+        name: "object reclaimed",
+        acts: &[
+            Act::Bound,
+            Act::Reclaim(Object::Quad),
+            Act::Script(Cue::Arrive(&DELETE_3)),
+            Act::Next,
+            Act::Reclaim(Object::Quad),
+            Act::SetData(Object::Quad, 8),
+            Act::Look(Look::Data(Object::Quad)),
+            Act::Destroy(Object::Quad),
+            Act::Reclaim(Object::Stranger),
+            Act::Reclaim(Object::Quad),
+            Act::Reclaim(Object::Quad),
+            Act::Look(Look::Data(Object::Quad)),
+            Act::Notes,
+            Act::Send(Request::Sync),
+            Act::Look(Look::Info(Object::Quad)),
+            Act::Reclaim(Object::Quad),
+        ],
+        told: "sent: 2, 1\nsent: 3, 2\nInvalid ObjectId\nwould block\nInvalid ObjectId\ndone\ndata 8\ndestroyed\nInvalid ObjectId\nreclaimed\nInvalid ObjectId\nInvalid ObjectId\nnotes: 3, 2\nsent: 3, 3\nInvalid ObjectId\nInvalid ObjectId\n",
+    },
+    // An object that the client destroyed first is not reclaimed: it leaves by itself when the server deletes its id.
+    Row {
+        name: "object not reclaimed before its id is deleted",
+        acts: &[
+            Act::Bound,
+            Act::Destroy(Object::Quad),
+            Act::Reclaim(Object::Quad),
+            Act::Look(Look::Data(Object::Quad)),
+            Act::Send(Request::Sync),
+            Act::Script(Cue::Arrive(&DELETE_3)),
+            Act::Next,
+            Act::Reclaim(Object::Quad),
+            Act::Send(Request::Sync),
+        ],
+        told: "sent: 2, 1\nsent: 3, 2\ndestroyed\nInvalid ObjectId\ndata 6\nsent: 4, 3\nwould block\nInvalid ObjectId\nsent: 3, 4\n",
+    },
+    // Nor is one that an event ended, before its id is deleted; if that came first, it is.
+    Row {
+        name: "callback reclaimed",
+        acts: &[
+            Act::Send(Request::Sync),
+            Act::Script(Cue::Arrive(&DELETE_2_AND_DONE)),
+            Act::Next,
+            Act::Reclaim(Object::Callback),
+            Act::Finish(None),
+            Act::Reclaim(Object::Callback),
+            Act::Notes,
+            Act::Send(Request::Sync),
+            Act::Script(Cue::Arrive(&[2, 0, 0, 0, 0, 0, 12, 0, 0, 0, 0, 0])),
+            Act::Next,
+            Act::Finish(None),
+            Act::Reclaim(Object::SecondCallback),
+            Act::Send(Request::Sync),
+        ],
+        told: "sent: 2, 1\nevent 0 of 2: 0\nInvalid ObjectId\nfinished\nreclaimed\nnotes: 2, 1\nsent: 2, 2\nevent 0 of 2: 0\nfinished\nInvalid ObjectId\nsent: 3, 3\n",
+    },
+    // A number of the server's range, which the server then uses again.
+    Row {
+        name: "made object reclaimed",
+        acts: &[
+            Act::Bound,
+            Act::Script(Cue::Arrive(&MADE_AND_DELETED)),
+            Act::Next,
+            Act::Finish(Some(7)),
+            Act::Next,
+            Act::Destroy(Object::Child),
+            Act::Reclaim(Object::Child),
+            Act::Script(Cue::Arrive(&MADE)),
+            Act::Next,
+            Act::Finish(Some(8)),
+            Act::Reclaim(Object::Child),
+        ],
+        told: "sent: 2, 1\nsent: 3, 2\nevent 1 of 3: new 4278190080, 3\nfinished\nwould block\ndestroyed\nreclaimed\nevent 1 of 3: new 4278190080, 4\nfinished\nInvalid ObjectId\n",
+    },
+    // The display stays, whatever the server deletes.
+    Row {
+        name: "display not reclaimed",
+        acts: &[
+            Act::Script(Cue::Arrive(&[1, 0, 0, 0, 1, 0, 12, 0, 1, 0, 0, 0])),
+            Act::Next,
+            Act::Destroy(Object::Display),
+            Act::Reclaim(Object::Display),
+            Act::Reclaim(Object::Null),
+            Act::Look(Look::Info(Object::Display)),
+        ],
+        told: "would block\nInvalid ObjectId\nInvalid ObjectId\nInvalid ObjectId\nversion 1\n",
     },
     // Data that are lent are changed where they stand, also those of a destroyed object while it is kept. The display has none.
     Row {

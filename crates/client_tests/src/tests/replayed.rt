@@ -44,7 +44,7 @@ pub fn replay(
 }
 
 /// A callback's life, in a run that has each step. `wl_callback.done` and `wl_display.delete_id` end it.
-const LIFE: [Call; 19] = [
+const LIFE: [Call; 20] = [
     Call::Send(Request::Sync),
     Call::Accept(5),
     Call::AcceptFault(IoFault::WouldBlock),
@@ -61,10 +61,21 @@ const LIFE: [Call; 19] = [
     Call::Finish(None),
     Call::Destroy(Object::Callback),
     Call::Notes,
+    Call::Reclaim(Object::Callback),
     Call::Next,
     Call::SetData(Object::Callback, 8),
     Call::Limit(Some(0)),
     Call::Dispatch,
+    Call::Send(Request::Sync),
+];
+
+/// A callback whose id the server deletes first.
+const RECLAIMED: [Call; 6] = [
+    Call::Send(Request::Sync),
+    Call::Arrive(&[1, 0, 0, 0, 1, 0, 12, 0, 2, 0, 0, 0]),
+    Call::Next,
+    Call::Destroy(Object::Callback),
+    Call::Reclaim(Object::Callback),
     Call::Send(Request::Sync),
 ];
 
@@ -86,11 +97,11 @@ const ADDED: [Call; 7] = [
 ];
 
 /// The runs, and what they tell.
-static ROWS: [Row; 3] = [
+static ROWS: [Row; 4] = [
     Row {
         name: "each step has its reply",
         acts: &[Act::Replay(&LIFE)],
-        told: "sent: 2, 1\ndone\ndone\nwould block\nflushed\n0100000000\n000c0002000000\ndone\ndone\nevent 0 of 2: 0\ndone\nthere is no new object for the user data, 7 is back\nfinished\nInvalid ObjectId\nnotes: 2, 1\nwould block\nInvalid ObjectId\nlimit set\n0 dispatched\nsent: 2, 2\nrefused: false\n",
+        told: "sent: 2, 1\ndone\ndone\nwould block\nflushed\n0100000000\n000c0002000000\ndone\ndone\nevent 0 of 2: 0\ndone\nthere is no new object for the user data, 7 is back\nfinished\nInvalid ObjectId\nnotes: 2, 1\nInvalid ObjectId\nwould block\nInvalid ObjectId\nlimit set\n0 dispatched\nsent: 2, 2\nrefused: false\n",
     },
     Row {
         name: "interfaces are added",
@@ -101,6 +112,12 @@ static ROWS: [Row; 3] = [
             Act::Replay(&ADDED),
         ],
         told: "sent: 2, 1\nthe new object's interface is not in the table\nrefused: false\ndone\ninterface 0: the name is taken\nsent: 3, 2\nflushed\n0100000001000c000200000002000000000020000200000005000000736f6c6f000000000100000003000000\ndone\nevent 0 of 3:\nfinished\nnotes: 3, 2\nrefused: false\n",
+    },
+    // The server deletes the id of a callback before the client destroys it: the next sync has its number again.
+    Row {
+        name: "an object is reclaimed",
+        acts: &[Act::Replay(&RECLAIMED)],
+        told: "sent: 2, 1\ndone\nwould block\ndestroyed\nreclaimed\nsent: 2, 2\nrefused: false\n",
     },
     // Wants of memory of the transport, a run of no steps after the first, and the next reading after the second.
     Row {

@@ -57,7 +57,7 @@ const MOVED: &[u32] = &[3, 0x000c0000, 0];
 const GLOBAL_NULL: &[u32] = &[2, 0x00140000, 1, 0, 1];
 
 /// The conversations, each of a new session.
-static ROWS: [Run<Act>; 4] = [
+static ROWS: [Run<Act>; 5] = [
     // `wl_display.sync` is sent, and `wl_callback.done` and `wl_display.delete_id` come back. The callback had data, so it is
     // noted.
     Run {
@@ -220,6 +220,24 @@ static ROWS: [Run<Act>; 4] = [
             (Act::Next(1, 0), "WouldBlock"),
             (Act::Data(MADE), "InvalidId"),
             (Act::Note, "WouldBlock"),
+        ],
+    },
+    // The server deletes the id of a callback before the client destroys it: then its number is used again once it is reclaimed.
+    // Its note tells its data all the same.
+    Run {
+        name: "a number is used again",
+        first: &[],
+        entries: &[
+            (Act::Send(DISPLAY, 0, Some(7), NEW, &[]), "Ok 3@2 serial 1"),
+            (Act::Received(&[1, 0x000c0001, 2], &[]), "Ok"),
+            (Act::Next(1, 0), "WouldBlock"),
+            (Act::Reclaim(CALLBACK), "InvalidId"),
+            (Act::Destroy(CALLBACK), "Ok"),
+            (Act::Reclaim(CALLBACK), "Ok"),
+            (Act::Reclaim(CALLBACK), "InvalidId"),
+            (Act::Data(CALLBACK), "InvalidId"),
+            (Act::Note, "Ok 3@2 serial 1 data 7"),
+            (Act::Send(DISPLAY, 0, Some(8), NEW, &[]), "Ok 3@2 serial 2"),
         ],
     },
     // The descriptor of an event for a destroyed object comes back as soon as the session has read the event, while those that an

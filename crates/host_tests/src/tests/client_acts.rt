@@ -48,6 +48,8 @@ pub enum Act {
     SetData(FlatObjectId, u64),
     /// The object is destroyed.
     Destroy(FlatObjectId),
+    /// The object, which both sides have given up, is taken out.
+    Reclaim(FlatObjectId),
     /// What waits is put where the host finds it.
     Flush,
     /// What is to be sent, with room for so many descriptors, at most 28.
@@ -291,6 +293,7 @@ fn on_objects(log: &mut String, client: &mut Client, act: &Act) -> Result<Status
         Act::Data(id) => told(log, client.object_data(id), tell_data),
         Act::SetData(id, user_data) => Ok(client.set_object_data(id, *user_data)),
         Act::Destroy(id) => Ok(client.destroy_object(id)),
+        Act::Reclaim(id) => Ok(client.reclaim(id)),
         Act::Note => next_note(log, client),
         Act::Error => last_error(log, client),
         other => on_requests(log, client, other),

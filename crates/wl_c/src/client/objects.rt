@@ -3,7 +3,7 @@
 ghost use Rattle.std.specs.Prelude.{IsSome, None, Ok, [], ◌≡◌, ◌≢◌};
 ghost use Rattle.wl_c.specs.Calls.{Did, Found};
 ghost use Rattle.wl_client.specs.Objects.{info_of, user_data_of};
-ghost use Rattle.wl_host.specs.Client.{ConservesClient, Destroys, GivesData, flat_info, found};
+ghost use Rattle.wl_host.specs.Client.{ConservesClient, Destroys, GivesData, Reclaims, flat_info, found};
 ghost use Rattle.wl_host.specs.Flat.{flat_proxy, proxy_of};
 ghost use Rattle.wl_host.specs.declared.status.Status.TheVariants as status;
 ghost use Rattle.wl_wire.specs.Table.{display_id};
@@ -113,6 +113,27 @@ pub extern "C" fn nb_client_destroy_object(
         return Status::NoSession.code();
     };
     let status = session.destroy_object(object);
+    place.put(session);
+    status.code()
+}
+
+/// Takes an object out that both sides have given up.
+#[unsafe(no_mangle)]
+pub extern "C" fn nb_client_reclaim(
+    alloc: Global,
+    place: &mut ClientPlace,
+    object: &FlatObjectId,
+) -> u32
+    ensures none { place.old.kept.held ≡ None → (result ≡ 1) × (place.new.kept.held ≡ None) }
+    ensures stays { IsSome place.old.kept.held → IsSome place.new.kept.held }
+    ensures call { Did place.old.kept.held result place.new.kept.held (λ s status t. Reclaims s.core (proxy_of object.now) status t.core) }
+    ensures beside { Did place.old.kept.held result place.new.kept.held (λ s status t. t ≡ record s { core = t.core }) }
+    ensures descriptors { Did place.old.kept.held result place.new.kept.held (λ s status t. ConservesClient s [] [] t) }
+{
+    let Some(mut session) = place.take(alloc) else {
+        return Status::NoSession.code();
+    };
+    let status = session.reclaim(object);
     place.put(session);
     status.code()
 }

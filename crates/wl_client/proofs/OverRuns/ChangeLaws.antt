@@ -2,7 +2,7 @@
 -- of its error stand.
 use Rattle.std.proofs.Common.{◌≡◌, ◌≢◌, ◌⊎◌, ℕ, zero, suc, ◌+◌, Bool, true, false, not, ◌&&◌, cond, eqb, List, [], ◌∷◌, ◌++◌, Option, None, Some, is_some, IsSome, option_map, Result, Ok, Err, is_ok, MatchResult, refl, sym, ap, subst, ◌∙◌, true≢false, not-suc-le-zero, le_of_suc-le-suc, append-nil, append_assoc, map, arith}
 use mathlib.Core.Logic.{inl, inr}
-use Rattle.std.specs.Prelude.{All}
+use Rattle.std.specs.Prelude.{All, MatchBool}
 use Rattle.std.proofs.lemmas.Bool.{eq-eqb, ne_eqb, cases_eq}
 use Rattle.std.proofs.lemmas.Option.{same_Some}
 use Rattle.wl_wire.specs.declared.argument.Argument.{Argument}
@@ -40,16 +40,16 @@ use Rattle.wl_client.specs.declared.step.Reply.{Reply}
 use Rattle.wl_client.specs.declared.step.Step.{Step}
 use Rattle.wl_client.specs.declared.step.Step.TheVariants as step
 use Rattle.wl_client.specs.ObjectId.{IdParts}
-use Rattle.wl_client.specs.Events.{Converting, Converted, Outcome, Whole, Wrong, object_argument_of, is_destroyed, vacated, is_valid_new, made_object, with_object_argument, with_new_at, with_new_argument, convert_one, going_on, convert, start, DisplayEvent, Fails, Deletes, Unreadable, display_event}
+use Rattle.wl_client.specs.Events.{Converting, Converted, Outcome, Whole, Wrong, object_argument_of, is_destroyed, deleted_at, vacated, is_valid_new, made_object, with_object_argument, with_new_at, with_new_argument, convert_one, going_on, convert, start, DisplayEvent, Fails, Deletes, Unreadable, display_event}
 use Rattle.wl_client.specs.Finish.{FinishesEvent, Finishes, FlushEnds, SessionFlushed, after_destructor, data_given, refusal, with_data_for, with_dead}
 use Rattle.wl_client.specs.Handed.{IsHandedIn, ended_notes, event_ids, ids_by, ids_in, is_over, note_ids, notes_by, notes_in, request_ids}
 use Rattle.wl_client.specs.Histories.{Deed, Does}
-use Rattle.wl_client.specs.Objects.{DataSet, DestroyedBy, destroyable}
+use Rattle.wl_client.specs.Objects.{DataSet, DestroyedBy, ReclaimedBy, destroyable}
 use Rattle.wl_client.specs.Handling.{Handling, Swallows, HandsOut, event_of, handed, handling, of_converted, of_display, of_event, opened_of, row_in}
 use Rattle.wl_client.specs.Reading.{NextEvent, event_content, handed_by, objects_in as cored}
 use Rattle.wl_client.proofs.OverRuns.ReadingLaws.{SeesObjects, next_event_respects, read_fails, objects_after}
 use Rattle.wl_client.specs.Requests.{Numbered, Requested, error_after, Sent, SentAs, SentWithChild, SessionMessage, Spec, Written, checked_row, checked_sender, ended_by, grant, id_of_new, new_child, number_of_new, request_check, session_content, unless, wire_message, with_born, with_ended}
-use Rattle.wl_client.specs.Session.{Core, SessionState, alive, core_of, flagged, id_at, id_of, last_possible_serial, named, noted, null_parts, objects_of, serial_of, with_core, with_user_data}
+use Rattle.wl_client.specs.Session.{Core, SessionState, alive, core_of, flagged, id_at, id_of, last_possible_serial, named, noted, null_parts, objects_of, serial_of, with_core, with_id_deleted, with_user_data}
 use Rattle.wl_client.specs.Steps.{CallOf, Making, StepOf}
 use Rattle.wl_link.proofs.Ids.HandedIds.{argument_ids_both}
 
@@ -307,6 +307,15 @@ module _ {U : Type 0} where
         go true is = gone (at o) n (λ y h. ap (λ (a : Object (Kept U)). is_over a.value) (sym (same_Some x y (sym e ∙ h))) ∙ is)
         go false is = still (at o)
 
+    -- the server deletes an id: what the client destroyed leaves its number, and another object is written to
+    deletes : (o : Objects (Kept U)) (n : ℕ) (x : Option (Object (Kept U))) → held o.store n ≡ x → Moved (at o) [] (at (record o { store = deleted_at o.store n x }))
+    deletes o n None e = still (at o)
+    deletes o n (Some x) e = go x.value.client_destroyed refl
+      where
+        go : (b : Bool) → x.value.client_destroyed ≡ b → Moved (at o) [] (at (record o { store = cond b (removed o.store n) (rewritten o.store n (with_id_deleted x)) }))
+        go true over = gone (at o) n (λ y h. ap (λ (a : Object (Kept U)). is_over a.value) (sym (same_Some x y (sym e ∙ h))) ∙ over)
+        go false live = wrote (at o) n (with_id_deleted x) x e refl refl
+
     converts_new : (c : Converting U) (n : ℕ) (i : InterfaceId) (b : Bool) → is_valid_new c.objects n ≡ b
         → One c (cond b (Ok (with_new_at version destroyed c n i)) (Err (wrong.InvalidNewId n i)))
     converts_new c n i false e = tt
@@ -378,7 +387,7 @@ module _ {U : Type 0} where
 
   display_moves : (notes : List Note) (table : List InterfaceRow) (o : Objects (Kept U)) (e : DisplayEvent) → HandlingMoves notes o (of_display table o e)
   display_moves notes table o (Fails code n text) = still (at 0 false notes o)
-  display_moves notes table o (Deletes n) = vacates 0 false notes o n (held o.store n) refl
+  display_moves notes table o (Deletes n) = deletes 0 false notes o n (held o.store n) refl
   display_moves notes table o Unreadable = still (at 0 false notes o)
 
   converted_moves : (notes : List Note) (table : List InterfaceRow) (o : Objects (Kept U)) (m : WireMessage) (receiver : Object (Kept U)) (row : MessageRow) (outcome : Outcome U)
@@ -485,6 +494,23 @@ module _ {T U : Type 0} where
         | inr (x, some, inr (is, same, has_data)) ↦ quiet s s after same (idle s)
         | inr (x, some, inl (is, same)) ↦ quiet s _ after same (ended s (Some (id.number, x)) (destroyable_alive s id x some))
       ]
+
+  reclaims : (s : SessionState T U) (id : IdParts) (answer : _) (after : SessionState T U) → ReclaimedBy s id answer after → Moves s [] after
+  reclaims s id answer after h =
+      elim (either_option (named s.store id) h) [
+        | inl (none, (is, same)) ↦ quiet s s after same (idle s)
+        | inr (x, some, end) ↦ by x some x.value.client_destroyed x.value.id_deleted refl end
+      ]
+    where
+      over : (x : Object (Kept U)) → named s.store id ≡ Some x → x.value.client_destroyed ≡ true → (y : Object (Kept U)) → held s.store id.number ≡ Some y
+          → is_over y.value ≡ true
+      over x some is y holds = ap (λ (a : Object (Kept U)). is_over a.value) (sym (same_Some x y (sym (named_held s.store id x some) ∙ holds))) ∙ is
+
+      by : (x : Object (Kept U)) → named s.store id ≡ Some x → (a b : Bool) → x.value.client_destroyed ≡ a
+          → MatchBool (a && b) ((answer ≡ Ok tt) × (after ≡ record s { store = removed s.store id.number })) ((answer ≡ Err _) × (after ≡ s)) → Moves s [] after
+      by x some true true is (ok, same) = quiet s _ after same (gone (holding s) id.number (over x some is), λ failed. failed)
+      by x some true false is (refused, same) = quiet s s after same (idle s)
+      by x some false b is (refused, same) = quiet s s after same (idle s)
 
   -- ---- a request
 
@@ -634,6 +660,7 @@ module _ {T U : Type 0} where
     pub call_moves : (sends : T → Queue → Result ℕ IoFault → T → Type 0) (receives : T → ℕ → Result Queue IoFault → T → Type 0) (call : Step U) (reply : Reply U) (refused : Bool) (after : SessionState T U) → CallOf sends receives s call reply refused after → StepMoves s (ids_in reply) (notes_in reply) after
     call_moves sends receives (step.SetData id u) reply refused after (r, is, no_memory, h) = by_moves reply [] after (ap ids_in is) (ap notes_in is) (sets s id u r after h)
     call_moves sends receives (step.DestroyObject id) reply refused after (r, is, no_memory, h) = by_moves reply [] after (ap ids_in is) (ap notes_in is) (destroys s id r after h)
+    call_moves sends receives (step.Reclaim id) reply refused after (r, is, no_memory, h) = by_moves reply [] after (ap ids_in is) (ap notes_in is) (reclaims s id r after h)
     call_moves sends receives (step.SendRequest m u spec) reply refused after (r, is, no_memory, h) =
         by_moves reply (request_ids r) after (ap ids_in is) (ap notes_in is) (requested sends s (session_content m) r after u spec h)
     call_moves sends receives step.Flush reply refused after (r, is, no_memory, h) = by_moves reply [] after (ap ids_in is) (ap notes_in is) (flushes sends s r after h)
@@ -662,6 +689,7 @@ module _ {U : Type 0} (s : SessionState Script U) where
   step_moves step.TakeSent reply refused after (taken, is, no_memory, h, same) = by_quiet s reply _ after (ap ids_in is) (ap notes_in is) same (idle s)
   step_moves (step.SetData id u) reply refused after h = call_moves s ScriptSends ScriptReceives (step.SetData id u) reply refused after h
   step_moves (step.DestroyObject id) reply refused after h = call_moves s ScriptSends ScriptReceives (step.DestroyObject id) reply refused after h
+  step_moves (step.Reclaim id) reply refused after h = call_moves s ScriptSends ScriptReceives (step.Reclaim id) reply refused after h
   step_moves (step.SendRequest m u spec) reply refused after h = call_moves s ScriptSends ScriptReceives (step.SendRequest m u spec) reply refused after h
   step_moves step.Flush reply refused after h = call_moves s ScriptSends ScriptReceives step.Flush reply refused after h
   step_moves step.NextEvent reply refused after h = call_moves s ScriptSends ScriptReceives step.NextEvent reply refused after h

@@ -31,7 +31,7 @@ use Rattle.wl_client.specs.declared.step.Step.TheVariants as step
 use Rattle.wl_client.specs.Histories.{Called, Changed, Deed, Grown, History}
 use Rattle.wl_client.specs.ObjectId.{IdParts}
 use Rattle.wl_client.specs.Finish.{FinishesEvent, Finishes, FlushEnds, refusal, SessionFlushed}
-use Rattle.wl_client.specs.Objects.{DataSet, DestroyedBy, destroyable}
+use Rattle.wl_client.specs.Objects.{DataSet, DestroyedBy, ReclaimedBy, destroyable}
 use Rattle.wl_client.specs.Reading.{event_content}
 use Rattle.wl_client.proofs.OverRuns.ReadingLaws.{SameEnd, next_event_one, same_end}
 use Rattle.wl_client.specs.OneOutcome.{SameAnswers, SameDeeds}
@@ -53,6 +53,9 @@ module _ {T U : Type 0} where
   destroys_one : (s : SessionState T U) (id : IdParts) (a b : _) (x y : SessionState T U) → false ≡ refused_destroy a → false ≡ refused_destroy b
       → DestroyedBy s id a x → DestroyedBy s id b y → SameEnd a b x y
   destroys_one s id a b x y unasked unasked' h g = grind (arith, both_option, destroyable, same_end, not_refused, refused_destroy)
+
+  reclaims_one : (s : SessionState T U) (id : IdParts) (a b : _) (x y : SessionState T U) → ReclaimedBy s id a x → ReclaimedBy s id b y → SameEnd a b x y
+  reclaims_one s id a b x y h g = grind (arith, both_option, same_end)
 
   -- ---- a request
 
@@ -185,6 +188,7 @@ module _ {T U : Type 0} (sends : T → Queue → Result ℕ IoFault → T → Ty
   pub call_one : (s x y : SessionState T U) (call : Step U) (p q : Reply U) → CallOf sends receives s call p false x → CallOf sends receives s call q false y → SameReply p q × (x ≡ y)
   call_one s x y (step.SetData id u) p q (a, is, unasked, h) (b, is', unasked', g) = grind (arith, sets_one, same_reply)
   call_one s x y (step.DestroyObject id) p q (a, is, unasked, h) (b, is', unasked', g) = grind (arith, destroys_one, same_reply)
+  call_one s x y (step.Reclaim id) p q (a, is, unasked, h) (b, is', unasked', g) = grind (arith, reclaims_one, same_reply)
   call_one s x y (step.SendRequest m u spec) p q (a, is, unasked, h) (b, is', unasked', g) =
       let one = requested_one sends function s (session_content m) a b x y
       (λ e. not_refused _ unasked (ap refused_request e)) (λ e. not_refused _ unasked' (ap refused_request e)) u spec h g in
@@ -216,6 +220,7 @@ module _ {U : Type 0} where
       (same_reply p q (reply.TakeSent sent) (reply.TakeSent sent') is is' (parcels ∙ sym parcels'), same ∙ sym same')
   step_one s x y (step.SetData id u) p q h g = call_one ScriptSends ScriptReceives script_sends_function script_receives_function s x y (step.SetData id u) p q h g
   step_one s x y (step.DestroyObject id) p q h g = call_one ScriptSends ScriptReceives script_sends_function script_receives_function s x y (step.DestroyObject id) p q h g
+  step_one s x y (step.Reclaim id) p q h g = call_one ScriptSends ScriptReceives script_sends_function script_receives_function s x y (step.Reclaim id) p q h g
   step_one s x y (step.SendRequest m u spec) p q h g = call_one ScriptSends ScriptReceives script_sends_function script_receives_function s x y (step.SendRequest m u spec) p q h g
   step_one s x y step.Flush p q h g = call_one ScriptSends ScriptReceives script_sends_function script_receives_function s x y step.Flush p q h g
   step_one s x y step.NextEvent p q h g = call_one ScriptSends ScriptReceives script_sends_function script_receives_function s x y step.NextEvent p q h g

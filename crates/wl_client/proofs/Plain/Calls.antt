@@ -1,12 +1,13 @@
 -- The calls that are about neither a request nor an event.
-use Rattle.std.proofs.Common.{◌≡◌, ℕ, eqb, Option, None, Some, is_some, Result, Ok, Err, refl, sym, ap, subst, true≢false, arith}
+use Rattle.std.proofs.Common.{◌≡◌, ℕ, eqb, true, false, ◌&&◌, Option, None, Some, is_some, Result, Ok, Err, refl, sym, ap, subst, true≢false, arith}
 use mathlib.Core.Logic.{inl, inr}
 use Rattle.wl_wire.specs.declared.error.IoFault.{IoFault}
 use Rattle.wl_link.proofs.Calls.Branches.{either_option}
+use Rattle.wl_link.proofs.Ids.StoreLaws.{removed_here}
 use Rattle.wl_link.specs.declared.object.Object.{Object}
 use Rattle.wl_link.specs.Exchange.{Queue}
 use Rattle.wl_link.specs.Link.{Flushed, LinkState}
-use Rattle.wl_link.specs.Store.{rewritten}
+use Rattle.wl_link.specs.Store.{removed, rewritten}
 use Rattle.wl_client.specs.declared.error.DestroyError.{DestroyError}
 use Rattle.wl_client.specs.declared.error.FlushError.{FlushError}
 use Rattle.wl_client.specs.declared.error.FlushError.TheVariants as flush
@@ -15,10 +16,10 @@ use Rattle.wl_client.specs.declared.error.WaylandError.TheVariants.{Io}
 use Rattle.wl_client.specs.declared.objects.Kept.{Kept}
 use Rattle.wl_client.specs.Finish.{FlushEnds, SessionFlushed}
 use Rattle.wl_client.specs.ObjectId.{IdParts}
-use Rattle.wl_client.specs.Objects.{DataSet, DestroyedBy, LendsData, destroyable, given_up, user_data_of}
-use Rattle.wl_client.specs.Plain.Calls.{DestroysObject, EndsSession, FlushesSession, SetsData, SetsWhatIsLeft}
+use Rattle.wl_client.specs.Objects.{DataSet, DestroyedBy, LendsData, ReclaimedBy, destroyable, given_up, user_data_of}
+use Rattle.wl_client.specs.Plain.Calls.{DestroysObject, EndsSession, FlushesSession, ReclaimsObject, SetsData, SetsWhatIsLeft}
 use Rattle.wl_client.specs.Session.{SessionState, alive, flagged, id_at, named, noted, with_user_data}
-use Rattle.wl_client.proofs.Plain.Naming.{names_so, rewritten_named, rewritten_others}
+use Rattle.wl_client.proofs.Plain.Naming.{names_so, removed_others, rewritten_named, rewritten_others}
 
 -- ---- objects
 
@@ -54,7 +55,7 @@ module _ {T U : Type 0} (s : SessionState T U) (id : IdParts) where
 
   -- ---- an end
 
-  named_destroyable : (x : Object (Kept U)) → destroyable s id ≡ Some x → named s.store id ≡ Some x
+  pub named_destroyable : (x : Object (Kept U)) → destroyable s id ≡ Some x → named s.store id ≡ Some x
   named_destroyable x is = grind (arith, eqb, alive, named, true≢false, is_some, alive_some)
 
   destroyed : (x : Object (Kept U)) → destroyable s id ≡ Some x
@@ -63,6 +64,21 @@ module _ {T U : Type 0} (s : SessionState T U) (id : IdParts) where
 
   pub destroys_object : (answer : Result (Unit {0}) DestroyError) (after : SessionState T U) → DestroyedBy s id answer after → DestroysObject s id answer after
   destroys_object answer after h = grind (arith, either_option, destroyable, destroyed)
+
+  -- ---- what both sides have given up
+
+  kept : named s.store id ≡ None → ReclaimsObject s id (Err _) s
+  kept none = grind (arith)
+
+  kept_by : (x : Object (Kept U)) → named s.store id ≡ Some x → (x.value.client_destroyed && x.value.id_deleted) ≡ false → ReclaimsObject s id (Err _) s
+  kept_by x found not_both = grind (arith, true≢false)
+
+  reclaimed : (x : Object (Kept U)) → named s.store id ≡ Some x → (x.value.client_destroyed && x.value.id_deleted) ≡ true
+      → ReclaimsObject s id (Ok tt) (record s { store = removed s.store id.number })
+  reclaimed x found both = grind (arith, names_so, removed_here, removed_others, true≢false)
+
+  pub reclaims_object : (answer : Result (Unit {0}) InvalidId) (after : SessionState T U) → ReclaimedBy s id answer after → ReclaimsObject s id answer after
+  reclaims_object answer after h = grind (arith, either_option, kept, kept_by, reclaimed)
 
 -- ---- a flush
 

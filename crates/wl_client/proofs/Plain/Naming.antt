@@ -4,8 +4,8 @@ use Rattle.std.proofs.lemmas.Bool.{eq-eqb}
 use Rattle.std.specs.Prelude.{◌==◌, ◌&&◌}
 use Rattle.wl_link.specs.declared.object.Object.{Object}
 use Rattle.wl_link.specs.Identity.{Id, named_in, names}
-use Rattle.wl_link.specs.Store.{Store, held, rewritten}
-use Rattle.wl_link.proofs.Ids.StoreLaws.{held_rewritten, rewritten_here}
+use Rattle.wl_link.specs.Store.{Store, held, removed, rewritten}
+use Rattle.wl_link.proofs.Ids.StoreLaws.{held_removed, held_rewritten, rewritten_here}
 use Rattle.wl_client.specs.declared.objects.Kept.{Kept}
 use Rattle.wl_client.specs.ObjectId.{IdParts}
 use Rattle.wl_client.specs.Plain.{same_object}
@@ -76,6 +76,10 @@ module _ {U : Type 0} where
   pub rewritten_others : (store : Store (Kept U)) (id : IdParts) (x y : Object (Kept U)) → Names store id x → y.value.serial ≡ x.value.serial → (other : IdParts)
       → same_object id other ≡ false → named (rewritten store id.number y) other ≡ named store other
   rewritten_others store id x y by same other differ = grind (arith, other_named, rewritten, held_rewritten, eqb-true, serial_is)
+
+  pub removed_others : (store : Store (Kept U)) (id : IdParts) (x : Object (Kept U)) → Names store id x → (other : IdParts) → same_object id other ≡ false
+      → named (removed store id.number) other ≡ named store other
+  removed_others store id x by other differ = grind (arith, other_named, removed, held_removed, nothing_has, eqb-true, serial_is)
 
 -- ids of one number and serial name the same
 pub same_names : {U : Type 0} (store : Store (Kept U)) (a b : IdParts) → same_object a b ≡ true → named store a ≡ named store b

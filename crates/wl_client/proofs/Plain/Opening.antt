@@ -18,24 +18,24 @@ use Rattle.wl_wire.specs.Reading.{Reads}
 use Rattle.wl_wire.specs.Table.{InterfaceRow, MessageRow, is_new_id}
 use Rattle.wl_wire.proofs.Spelling.CursorLaws.{piece_fits}
 use Rattle.wl_link.proofs.Calls.Branches.{either_bool}
-use Rattle.wl_link.proofs.Ids.StoreLaws.{removed_other, stored_here, stored_other}
+use Rattle.wl_link.proofs.Ids.StoreLaws.{removed_other, rewritten_here, rewritten_other, stored_here, stored_other}
 use Rattle.wl_link.specs.declared.object.Object.{Object}
 use Rattle.wl_link.specs.Exchange.{Queue}
 use Rattle.wl_link.specs.Identity.{Objects}
 use Rattle.wl_link.specs.Link.{LinkState}
 use Rattle.wl_link.specs.Reader.{ReaderState, ReadsAs}
-use Rattle.wl_link.specs.Store.{Store, held, is_free, is_server_number, removed, stored}
+use Rattle.wl_link.specs.Store.{Store, held, is_free, is_server_number, removed, rewritten, stored}
 use Rattle.wl_client.specs.declared.event.OpenEvent.{OpenEvent}
 use Rattle.wl_client.specs.declared.objects.Kept.{Kept}
 use Rattle.wl_client.specs.declared.event_fault.EventFault.{EventFault}
 use Rattle.wl_client.specs.declared.event_fault.EventFault.TheVariants as wrong
-use Rattle.wl_client.specs.Events.{Converted, Converting, DisplayEvent, Outcome, Whole, Wrong, convert, convert_one, display_event, going_on, is_destroyed, is_valid_new, made_object, object_argument, start, vacated, with_new_argument, with_new_at, with_object_argument}
+use Rattle.wl_client.specs.Events.{Converted, Converting, DisplayEvent, Outcome, Whole, Wrong, convert, convert_one, display_event, going_on, is_destroyed, is_valid_new, made_object, object_argument, start, deleted, vacated, with_new_argument, with_new_at, with_object_argument}
 use Rattle.wl_client.specs.Handling.{Breaks, Handling, HandsOut, Swallows, event_of, handling, of_converted, of_display, of_event, opened_of, row_in, signature_in}
 use Rattle.wl_client.specs.ObjectId.{IdParts}
 use Rattle.wl_client.specs.Plain.{IsMade, new_id_in}
 use Rattle.wl_client.specs.Reading.{client}
 use Rattle.wl_client.specs.Requests.{SessionMessage}
-use Rattle.wl_client.specs.Session.{Core, alive, id_at, last_possible_serial}
+use Rattle.wl_client.specs.Session.{Core, alive, id_at, last_possible_serial, with_id_deleted}
 
 both : (a b : Bool) → (a && b) ≡ true → (a ≡ true) × (b ≡ true)
 both true b is = (refl, is)
@@ -135,8 +135,8 @@ module _ {U : Type 0} where
       → Stay objects.store (stored (vacated objects.store n) n y)
   stay_by_new objects n y valid k is = grind (arith, alive_is, held, other_number, alive, stored_other, vacated, vacated_elsewhere)
 
-  stay_by_deletion : (store : Store (Kept U)) (n : ℕ) → Stay store (vacated store n)
-  stay_by_deletion store n = grind (arith, held, is_destroyed, removed, alive_is, true≢false, alive, removed_other)
+  stay_by_deletion : (store : Store (Kept U)) (n : ℕ) → Stay store (deleted store n)
+  stay_by_deletion store n = grind (arith, held, removed, rewritten, with_id_deleted, alive_is, true≢false, alive, removed_other, rewritten_here, rewritten_other)
 
 -- the arguments of an event leave them
 module _ {U : Type 0} (version : ℕ) (destroyed : Bool) (first : Store (Kept U)) where

@@ -77,7 +77,7 @@ module _ {T U : Type 0} (sends : T → Queue → Result ℕ IoFault → T → Ty
   stopped left p after (Unread es ∷ turns) out (on, h) off = absurd (true≢false (sym on ∙ off))
 
   -- what a message gives, and what the core is then, with memory or without
-  carries : (c : Core U) (h : Handling U) (link : LinkState T) (es : List Sending) (first : List (Given SessionMessage)) (lacked : Bool) (mid : ReaderState T (Core U))
+  pub carries : (c : Core U) (h : Handling U) (link : LinkState T) (es : List Sending) (first : List (Given SessionMessage)) (lacked : Bool) (mid : ReaderState T (Core U))
       → CarriesOut sends client (verdict c h) link es first lacked mid
       → (first ≡ map HandedOut (handed h)) × ((mid.core ≡ core_after c h) ⊎ (mid.core ≡ starved_to c h))
   carries c h link es first lacked mid h1 = grind (arith, put_and_gave, handed, came_to, client, verdict)

@@ -12,17 +12,17 @@ use Rattle.wl_wire.specs.Message.{WireMessage}
 use Rattle.wl_wire.specs.MessageRows.{next_interface}
 use Rattle.wl_wire.specs.Table.{InterfaceRow, MessageRow}
 use Rattle.wl_link.proofs.Calls.Branches.{at_true}
-use Rattle.wl_link.proofs.Ids.StoreLaws.{held_removed, held_stored}
+use Rattle.wl_link.proofs.Ids.StoreLaws.{held_removed, held_rewritten, held_stored}
 use Rattle.wl_link.specs.declared.object.Object.{Object}
 use Rattle.wl_link.specs.Identity.{Objects, named_in}
-use Rattle.wl_link.specs.Store.{Store, held, removed, stored}
+use Rattle.wl_link.specs.Store.{Store, held, removed, rewritten, stored}
 use Rattle.wl_client.specs.declared.objects.Kept.{Kept}
 use Rattle.wl_client.specs.declared.event_fault.EventFault.TheVariants as wrong
-use Rattle.wl_client.specs.Events.{Converted, Converting, Deletes, DisplayEvent, Fails, Outcome, Unreadable, Whole, Wrong, convert, convert_one, display_event, going_on, is_destroyed, is_valid_new, made_object, object_argument, start, vacated, with_made_object, with_new_argument, with_new_at, with_object_argument}
+use Rattle.wl_client.specs.Events.{Converted, Converting, Deletes, DisplayEvent, Fails, Outcome, Unreadable, Whole, Wrong, convert, convert_one, display_event, going_on, is_destroyed, is_valid_new, made_object, object_argument, start, deleted, deleted_at, vacated, with_made_object, with_new_argument, with_new_at, with_object_argument}
 use Rattle.wl_client.specs.Handling.{Breaks, Handling, HandsOut, Swallows, event_of, handling, of_converted, of_display, of_event, opened_of, row_in}
 use Rattle.wl_client.specs.ObjectId.{IdParts}
 use Rattle.wl_client.specs.Plain.{IdsStay, IsOld, StaysAs}
-use Rattle.wl_client.specs.Session.{alive, id_of, named, serial_of}
+use Rattle.wl_client.specs.Session.{alive, id_of, named, serial_of, with_id_deleted}
 use Rattle.wl_client.proofs.Plain.Naming.{both_none}
 use Rattle.wl_client.proofs.Plain.Opening.{new_number, vacated_elsewhere}
 
@@ -61,13 +61,28 @@ module _ {U : Type 0} where
     by_number : (id.number ≡ n → StaysAs (names_at id (held before n)) (names_at id new)) → StaysAs (named before id) (named after id)
     by_number there = grind (arith, eqb, named, held, stays_same, eqb-true)
 
-  -- ---- a number that the server gave up
+  -- ---- a number whose id the server deleted
 
-  gone_from : (y : Object (Kept U)) → y.value.client_destroyed ≡ true → (z t : Bool) → StaysAs (cond z None (cond t (Some y) None)) (cond z None None)
-  gone_from y h1 z t = grind (arith, at_true)
+  -- what it then holds, if it had this object
+  abbrev left_of : Object (Kept U) → Option (Object (Kept U))
+  left_of y = cond y.value.client_destroyed None (Some (with_id_deleted y))
 
-  ids_by_deletion : (a : Objects (Kept U)) (n : ℕ) → IdsStay a (record a { store = vacated a.store n })
-  ids_by_deletion a n = grind (arith, held, named, is_destroyed, removed, stays_same, held_removed, gone_from)
+  held_deleted : (store : Store (Kept U)) (n : ℕ) (y : Object (Kept U)) (m : ℕ) → held (deleted_at store n (Some y)) m ≡ cond (eqb m n) (left_of y) (held store m)
+  held_deleted store n y m = grind (arith, held_removed, held_rewritten, with_id_deleted)
+
+  stays_left : (id : IdParts) (y : Object (Kept U)) → StaysAs (names_at id (Some y)) (names_at id (left_of y))
+  stays_left id y = by y.value.client_destroyed refl (id.number == 0) (y.value.serial == id.serial)
+    where
+      by : (b : Bool) → y.value.client_destroyed ≡ b → (zero same : Bool)
+          → StaysAs (cond zero None (cond same (Some y) None)) (cond zero None (named_in serial_of (id_of id) (cond b None (Some (with_id_deleted y)))))
+      by b is zero same = grind (arith, at_true)
+
+  ids_by_deletion : (a : Objects (Kept U)) (n : ℕ) → IdsStay a (record a { store = deleted a.store n })
+  ids_by_deletion a n = record { serials = omega arith; ids = λ id old. at id (held a.store n) refl }
+    where
+      at : (id : IdParts) (o : Option (Object (Kept U))) → held a.store n ≡ o → StaysAs (named a.store id) (named (deleted_at a.store n o) id)
+      at id None is = stays_same (named a.store id)
+      at id (Some y) is = by_number a.store (deleted_at a.store n (Some y)) n (left_of y) (held_deleted a.store n y) id (λ same. rw is (stays_left id y))
 
   -- ---- a new object
 

@@ -9,6 +9,7 @@ use Rattle.wl_wire.specs.Table.{AnswersTo, Extension, Growth, InterfaceRow, Long
 use Rattle.wl_link.specs.declared.object.Object.{Object}
 use Rattle.wl_link.specs.Exchange.{Queue}
 use Rattle.wl_link.specs.Link.{Flushed, LimitSet}
+use Rattle.wl_link.specs.Store.{held}
 use Rattle.wl_client.specs.declared.error.DestroyError.{DestroyError}
 use Rattle.wl_client.specs.declared.error.DestroyError.TheVariants as destroy
 use Rattle.wl_client.specs.declared.error.FlushError.{FlushError}
@@ -76,6 +77,17 @@ module _ {T U : Type 0} where
   pub record DestroysObject (before : SessionState T U) (id : IdParts) (answer : Result (Unit {0}) DestroyError) (after : SessionState T U) : Type 0 where
     pub object : DestroyedAs before id answer after
     pub objects : OtherObjectsStay before id after
+    pub link : after.link ≡ before.link
+    pub rest : RestStays before after
+
+  -- The object that the id names had been given up by both sides, and is gone. Or it was not so, and nothing has changed.
+  pub record ReclaimsObject (before : SessionState T U) (id : IdParts) (answer : Result (Unit {0}) InvalidId) (after : SessionState T U) : Type 0 where
+    pub object : MatchResult answer
+        (λ _. (x : Object (Kept U)) × (object_of before id ≡ Some x) × (x.value.client_destroyed ≡ true) × (x.value.id_deleted ≡ true)
+        × (held after.store id.number ≡ None))
+        (λ _. ((x : Object (Kept U)) → object_of before id ≡ Some x → x.value.client_destroyed ≡ true → ¬ (x.value.id_deleted ≡ true)) × (after ≡ before))
+    pub objects : OtherObjectsStay before id after
+    pub notes : after.notes ≡ before.notes
     pub link : after.link ≡ before.link
     pub rest : RestStays before after
 

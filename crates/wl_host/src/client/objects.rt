@@ -2,7 +2,7 @@
 
 ghost use Rattle.std.specs.Prelude.{◌≡◌, []};
 ghost use Rattle.wl_client.specs.Objects.{info_of, user_data_of};
-ghost use Rattle.wl_host.specs.Client.{ConservesClient, Destroys, GivesData, flat_info, found, status_of};
+ghost use Rattle.wl_host.specs.Client.{ConservesClient, Destroys, GivesData, Reclaims, flat_info, found, status_of};
 ghost use Rattle.wl_host.specs.declared.status.Status.TheVariants as status;
 ghost use Rattle.wl_host.specs.Flat.{proxy_of};
 
@@ -12,8 +12,8 @@ use crate::flat::{FlatObjectId, FlatObjectInfo, interface_number};
 use crate::status::Status;
 use wl_client::InvalidId;
 
-/// The status of an answer to `set_data`.
-fn given_status(answer: Result<(), InvalidId>) -> Status
+/// The status of an answer to `set_data` and `reclaim`.
+fn status_by(answer: Result<(), InvalidId>) -> Status
     ensures { result ≡ status_of (λ _. status.InvalidId) answer }
 {
     match answer {
@@ -59,7 +59,7 @@ impl Client {
         ensures beside { self.new ≡ record self.old { core = self.new.core } }
         ensures descriptors { ConservesClient self.old [] [] self.new }
     {
-        given_status(self.core.set_data(&id.proxy(), user_data))
+        status_by(self.core.set_data(&id.proxy(), user_data))
     }
 
     /// Destroys the object that the id names, on the client's side. If it has data, `next_note` tells of it.
@@ -80,5 +80,17 @@ impl Client {
             }
             Err(error) => Status::from(error),
         }
+    }
+
+    /// Takes the object that the id names out of the session, if both sides have given it up: the client has destroyed it, and
+    /// the server deleted its id before that. Its number can be used again. `next_note` tells of the object all the same.
+    ///
+    /// The status is `InvalidId` if the id names no object that both sides have given up. Then nothing is changed.
+    pub fn reclaim(&mut self, id: &FlatObjectId) -> Status
+        ensures call { Reclaims self.old.core (proxy_of id.now) result self.new.core }
+        ensures beside { self.new ≡ record self.old { core = self.new.core } }
+        ensures descriptors { ConservesClient self.old [] [] self.new }
+    {
+        status_by(self.core.reclaim(&id.proxy()))
     }
 }

@@ -939,6 +939,8 @@ unsafe extern "C" {
     /// Destroys an object.
     pub safe fn nb_client_destroy_object(place: &mut nb_client, object: &nb_object_id)
         -> nb_status;
+    /// Takes an object out that both sides have given up.
+    pub safe fn nb_client_reclaim(place: &mut nb_client, object: &nb_object_id) -> nb_status;
     /// Hands what waits over to [`nb_client_to_send`].
     pub safe fn nb_client_flush(place: &mut nb_client) -> nb_status;
     /// Copies what is to be sent next.

@@ -57,6 +57,8 @@ enum Call {
     Destroy,
     /// `destroy_object`, of the callback of the second sync.
     DestroySecond,
+    /// `reclaim`, of the callback.
+    Reclaim,
     /// `take_notes`.
     Notes,
 }
@@ -109,6 +111,20 @@ static WITH_ROOM: [(&str, Call); 15] = [
         "send_request of a destructor, with room for its note",
         Call::Send(Request::Bare(Object::Second, DESTROY)),
     ),
+];
+
+/// `wl_display.delete_id` of object 2, and `wl_callback.done`, by object 3.
+const DELETED: [u8; 24] = [
+    1, 0, 0, 0, 1, 0, 12, 0, 2, 0, 0, 0, 3, 0, 0, 0, 0, 0, 12, 0, 0, 0, 0, 0,
+];
+
+/// An object is reclaimed whose id the server deleted first. In order, each with its name if it is counted.
+static RECLAIMED: [(&str, Call); 5] = [
+    ("", Call::Send(Request::Sync)),
+    ("", Call::Send(Request::Sync)),
+    ("", Call::Next),
+    ("", Call::Destroy),
+    ("reclaim", Call::Reclaim),
 ];
 
 /// The events of object 3: of a number, of a number with a child interface, and of a new id.
@@ -201,6 +217,7 @@ fn make_of_all(client: &mut Client, call: Call) -> bool {
             true
         }
         Call::Flush => client.flush().is_ok(),
+        Call::Reclaim => client.reclaim(&Object::Callback.id()).is_ok(),
         Call::Destroy => client.destroy_object(&Object::Callback.id()).is_ok(),
         Call::DestroySecond => {
             let second = ObjectId::from_parts(3, 2, WL_CALLBACK_INTERFACE);
@@ -265,7 +282,11 @@ fn counted_of_new<'a>(
 #[test]
 fn takes_no_memory(rt: HostRuntime) -> Result<(), Fail> {
     let drops = Cell::new(0);
-    for (from_server, calls) in [(&[][..], &CALLS[..]), (&TWICE, &WITH_ROOM)] {
+    for (from_server, calls) in [
+        (&[][..], &CALLS[..]),
+        (&TWICE, &WITH_ROOM),
+        (&DELETED, &RECLAIMED),
+    ] {
         counted_of_new(&rt, &drops, quad_table(rt.alloc())?, from_server, calls)?;
     }
     counted_of_new(&rt, &drops, hinting_table(rt.alloc())?, &HINTS, &HINTED)
