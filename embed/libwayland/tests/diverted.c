@@ -1,5 +1,6 @@
 /* Says which libraries the loader took, and whether it ran with rights of its own, where it does not look at LD_LIBRARY_PATH. Then a server and a
    client talk over them. */
+#define _GNU_SOURCE /* dladdr */
 #include <dlfcn.h>
 #include <stdio.h>
 #include <stdlib.h>
