@@ -216,6 +216,10 @@ module _ {U : Type 0} where
   after_store c d (Breaks e o) (inl is) = ap (λ (e : Core U). e.store) is
   after_store c d (Breaks e o) (inr is) = ap (λ (e : Core U). e.store) is
 
+split_result : {A E : Type 0} {P : A → Type 0} {Q : E → Type 0} (r : Result A E) → MatchResult r P Q → ((x : A) × (r ≡ Ok x) × P x) ⊎ ((e : E) × (r ≡ Err e) × Q e)
+split_result (Ok x) p = inl (x, refl, p)
+split_result (Err e) q = inr (e, refl, q)
+
 module _ {T U : Type 0} (sends : T → Queue → Result ℕ IoFault → T → Type 0) (receives : T → ℕ → Result Queue IoFault → T → Type 0)
     (n : ℕ) (of_client : is_server_number n ≡ false) where
   abbrev at_number : ReaderState T (Core U) → Option (Object (Kept U))
@@ -235,10 +239,6 @@ module _ {T U : Type 0} (sends : T → Queue → Result ℕ IoFault → T → Ty
   by_then t turns start mid end leads (inl same) (inr (some, is)) = inr (inr (mid, leads, some), is ∙ ap left_of same)
   by_then t turns start mid end leads (inr (took, is)) (inl still) = inr (inl took, still ∙ is)
   by_then t turns start mid end leads (inr (took, is)) (inr (some, again)) = inr (inl took, again ∙ ap left_of is ∙ left_twice (at_number start))
-
-  split_result : {A E : Type 0} {P : A → Type 0} {Q : E → Type 0} (r : Result A E) → MatchResult r P Q → ((x : A) × (r ≡ Ok x) × P x) ⊎ ((e : E) × (r ≡ Err e) × Q e)
-  split_result (Ok x) p = inl (x, refl, p)
-  split_result (Err e) q = inr (e, refl, q)
 
   reading_by : (left : ℕ) (start : ReaderState T (Core U)) (turns : List Turn) (out : Gives SessionMessage) (end : ReaderState T (Core U))
       → Reads sends client receives left start turns out end → ByReading start turns end
@@ -560,6 +560,7 @@ module _ {T U : Type 0} (sends : T → Queue → Result ℕ IoFault → T → Ty
       at (inl same) = quiet s (Called e) after (kept_same n (held s.store n) (held after.store n) same)
       at (inr (reads, left)) = loses s (Called e) after (is, reads) left
   called s e after (step.FinishEvent u) is (r, a, calm, h) = quiet s (Called e) after (finishes n s after u r h)
+  called s e after (step.Fail f) is (a, calm, same) = quiet s (Called e) after (same_store n s after _ same refl)
   called s e after step.DispatchInnerQueue is (a, calm, same) = quiet s (Called e) after (same_store n s after s same refl)
   called s e after (step.SetMaxBufferSize limit) is (a, calm, (link, set, same)) = quiet s (Called e) after (same_store n s after _ same refl)
   called s e after step.TakeNotes is (notes, a, calm, taken, same) = quiet s (Called e) after (same_store n s after _ same refl)

@@ -1,8 +1,8 @@
 -- What ids name after a message was handled: what they named, but for those that it made.
-use Rattle.std.proofs.Common.{◌≡◌, ◌≤◌, ◌+◌, ℕ, Bool, true, false, cond, eqb, eqb-true, List, [], ◌∷◌, ◌++◌, Option, None, Some, IsSome, is_some, Ok, Err, refl, arith, true≢false}
+use Rattle.std.proofs.Common.{◌≡◌, ◌⊎◌, ◌≤◌, ◌+◌, ℕ, Bool, true, false, cond, eqb, eqb-true, List, [], ◌∷◌, ◌++◌, Option, None, Some, IsSome, is_some, Ok, Err, refl, sym, subst, arith, true≢false}
 use mathlib.Core.Logic.{inl, inr}
 use Rattle.std.proofs.lemmas.Bool.{eq-eqb, ne_eqb}
-use Rattle.std.specs.Prelude.{◌==◌}
+use Rattle.std.specs.Prelude.{◌==◌, MatchBool}
 use Rattle.wl_wire.specs.declared.argument.Argument.{Argument}
 use Rattle.wl_wire.specs.declared.argument.Argument.TheVariants as arg
 use Rattle.wl_wire.specs.declared.argument.Token.{Token}
@@ -71,11 +71,25 @@ module _ {U : Type 0} where
   held_deleted store n y m = grind (arith, held_removed, held_rewritten, with_id_deleted)
 
   stays_left : (id : IdParts) (y : Object (Kept U)) → StaysAs (names_at id (Some y)) (names_at id (left_of y))
-  stays_left id y = by y.value.client_destroyed refl (id.number == 0) (y.value.serial == id.serial)
+  stays_left id y = at y.value.client_destroyed refl
     where
-      by : (b : Bool) → y.value.client_destroyed ≡ b → (zero same : Bool)
-          → StaysAs (cond zero None (cond same (Some y) None)) (cond zero None (named_in serial_of (id_of id) (cond b None (Some (with_id_deleted y)))))
-      by b is zero same = grind (arith, at_true)
+      gone : y.value.client_destroyed ≡ true → (zero same : Bool) → StaysAs (cond zero None (cond same (Some y) None)) (cond zero None None)
+      gone is true same = refl
+      gone is false true =
+          subst (λ (b : Bool). MatchBool b ((None ≡ Some y) ⊎ (◌≡◌ {A = Option (Object (Kept U))} None None)) ((None ≡ Some y) ⊎ (None ≡ Some (with_id_deleted y)))) (sym is) (inr refl)
+      gone is false false = refl
+
+      flags : y.value.client_destroyed ≡ false → (zero same : Bool)
+          → StaysAs (cond zero None (cond same (Some y) None)) (cond zero None (cond same (Some (with_id_deleted y)) None))
+      flags is true same = refl
+      flags is false true =
+          subst (λ (b : Bool). MatchBool b ((Some (with_id_deleted y) ≡ Some y) ⊎ (Some (with_id_deleted y) ≡ None))
+              ((Some (with_id_deleted y) ≡ Some y) ⊎ (Some (with_id_deleted y) ≡ Some (with_id_deleted y)))) (sym is) (inr refl)
+      flags is false false = refl
+
+      at : (b : Bool) → y.value.client_destroyed ≡ b → StaysAs (names_at id (Some y)) (names_at id (cond b None (Some (with_id_deleted y))))
+      at true is = gone is (id.number == 0) (y.value.serial == id.serial)
+      at false is = flags is (id.number == 0) (y.value.serial == id.serial)
 
   ids_by_deletion : (a : Objects (Kept U)) (n : ℕ) → IdsStay a (record a { store = deleted a.store n })
   ids_by_deletion a n = record { serials = omega arith; ids = λ id old. at id (held a.store n) refl }
