@@ -5,6 +5,7 @@
 #include "common.h"
 #include <numbyroga.h>
 #include <stdarg.h>
+#include <stdlib.h>
 
 /* The arguments of a call like wl_resource_post_event, in the order of the signature. */
 void arguments_from_list(const char *signature, va_list list, union wl_argument *arguments);
@@ -17,14 +18,19 @@ enum { FEW_BYTES = 1024 };
 struct unpacked {
     union wl_argument values[MOST_ARGUMENTS];
     struct wl_array arrays[MOST_ARGUMENTS];
-    uint8_t *text, *many;
+    uint32_t descriptors;
+    uint8_t *many;
     _Alignas(8) uint8_t few[FEW_BYTES];
 };
 
-/* Copies what the session wrote. An object is left NULL, and a new id is its number: the caller knows what they stand
- * for. False if there was no memory; else unpacked_end is due. */
-bool unpack(struct unpacked *to, const nb_argument *from, uint32_t count, const uint8_t *bytes);
-void unpacked_end(struct unpacked *unpacked);
+/* Copies what the session wrote; `length` is how many bytes. An object is left NULL, and a new id is its number: the
+ * caller knows what they stand for. False if there was no memory; else unpacked_end is due. */
+bool unpack(struct unpacked *to, const nb_argument *from, uint32_t count, const uint8_t *bytes, size_t length);
+static inline void unpacked_end(struct unpacked *unpacked)
+{
+    if (unpacked->many)
+        free(unpacked->many);
+}
 
 /* Closes the descriptors among arguments that nobody takes. */
 void close_descriptors(const nb_argument *arguments, uint32_t count);
@@ -37,7 +43,7 @@ struct packed {
     nb_argument arguments[MOST_ARGUMENTS];
     uint32_t count, descriptors;
     const uint8_t *bytes;
-    size_t length;
+    size_t length, size; /* of the bytes; of the message, with its head */
     char fault[128];
     uint8_t *many, few[FEW_BYTES];
 };
@@ -48,6 +54,12 @@ struct packed {
 bool pack(struct packed *to, const char *signature, const union wl_argument *arguments, bool new_ids_are_objects);
 
 /* `is_taken` says that the session has the descriptors: else they are closed. */
-void packed_end(struct packed *packed, bool is_taken);
+static inline void packed_end(struct packed *packed, bool is_taken)
+{
+    if (!is_taken)
+        close_descriptors(packed->arguments, packed->count);
+    if (packed->many)
+        free(packed->many);
+}
 
 #endif
