@@ -102,7 +102,7 @@ static inline struct wl_proxy *sender_of(const struct event *event)
  * display. */
 struct input {
     uint8_t *bytes;
-    size_t count, room;
+    size_t count;
     int32_t *descriptors;
     size_t descriptor_count, descriptor_room;
     int32_t lent[NB_MOST_DESCRIPTORS];
@@ -122,7 +122,7 @@ struct wl_display {
     struct numbers numbers;
     struct table table;
     struct input input;
-    uint8_t *text; /* of an event: its strings and arrays; or what is to be sent */
+    uint8_t *text; /* of an event: its strings and arrays */
     size_t text_room;
     size_t unsent, most_unsent; /* bytes that wait to be sent, and how many may; 0 is no limit */
     size_t send_above;          /* what waits is sent by itself before it is more than this */

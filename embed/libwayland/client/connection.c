@@ -16,7 +16,7 @@
 
 enum {
     LIBWAYLAND_ROOM = 4096, /* what libwayland keeps before it sends by itself */
-    FIRST_TEXT = 4096
+    FIRST_TEXT = 64
 };
 
 bool is_logging;
@@ -26,6 +26,7 @@ bool is_logging;
 /* Sends as much as the socket takes. */
 static int send_all(struct wl_display *display)
 {
+    uint8_t bytes[LIBWAYLAND_ROOM];
     int32_t descriptors[NB_MOST_DESCRIPTORS];
     nb_counts counts;
     int sent = 0;
@@ -34,11 +35,11 @@ static int send_all(struct wl_display *display)
             errno = ENOMEM;
             return -1;
         }
-        nb_status status = nb_client_to_send(&display->session, display->text, display->text_room, descriptors,
-                                             NB_MOST_DESCRIPTORS, &counts);
+        nb_status status =
+            nb_client_to_send(&display->session, bytes, sizeof bytes, descriptors, NB_MOST_DESCRIPTORS, &counts);
         if (status != NB_OK || counts.bytes == 0)
             return sent;
-        ssize_t taken = socket_send(display->socket, display->text, counts.bytes, descriptors, counts.descriptors);
+        ssize_t taken = socket_send(display->socket, bytes, counts.bytes, descriptors, counts.descriptors);
         if (taken < 0) {
             errno = (int)-taken;
             return -1;
@@ -309,10 +310,11 @@ EXPORT struct wl_display *wl_display_connect_to_fd(int fd)
 static void drop_unsent(struct wl_display *display)
 {
     nb_counts counts;
+    uint8_t bytes[LIBWAYLAND_ROOM];
     int32_t descriptors[NB_MOST_DESCRIPTORS];
     while (nb_client_flush(&display->session) != NB_OUT_OF_MEMORY &&
-           nb_client_to_send(&display->session, display->text, display->text_room, descriptors, NB_MOST_DESCRIPTORS,
-                             &counts) == NB_OK &&
+           nb_client_to_send(&display->session, bytes, sizeof bytes, descriptors, NB_MOST_DESCRIPTORS, &counts) ==
+               NB_OK &&
            counts.bytes > 0) {
         close_all(descriptors, counts.descriptors);
         nb_client_sent(&display->session, counts.bytes);

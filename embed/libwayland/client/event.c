@@ -271,7 +271,9 @@ void hand_out(struct event *event, wl_dispatcher_func_t dispatcher, const void *
     void (*const *listener)(void) = implementation;
     if (!listener[event->opcode])
         log_and_abort("listener function for opcode %u of %s is NULL\n", event->opcode, proxy->object.interface->name);
-    uintptr_t words[MOST_WORDS] = { (uintptr_t)proxy->user_data, (uintptr_t)proxy };
+    const uintptr_t first[FEW_WORDS] = { (uintptr_t)proxy->user_data, (uintptr_t)proxy };
+    uintptr_t words[MOST_WORDS];
+    memcpy(words, first, sizeof first);
     for (uint32_t i = 0; i < event->count; i++)
         words[i + 2] = is_pointer(event->kinds[i]) ? (uintptr_t)event->arguments[i].s : event->arguments[i].u;
     call_words(listener[event->opcode], words, event->count + 2);

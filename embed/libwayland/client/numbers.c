@@ -10,30 +10,12 @@
 #include "../common/log.h"
 #include <stdlib.h>
 
-enum { FIRST_SLOTS = 64 };
-
-static size_t index_of(uint32_t number)
-{
-    return is_of_server(number) ? number - (uint32_t)FIRST_OF_SERVER : number;
-}
-
-struct slot *numbers_find(const struct numbers *numbers, uint32_t number)
-{
-    bool of_server = is_of_server(number);
-    size_t at = index_of(number);
-    return at < numbers->counts[of_server] ? &numbers->slots[of_server][at] : NULL;
-}
-
-struct wl_proxy *numbers_proxy(const struct numbers *numbers, uint32_t number)
-{
-    const struct slot *slot = numbers_find(numbers, number);
-    return slot ? slot->proxy : NULL;
-}
+enum { FIRST_SLOTS = 16 };
 
 bool numbers_put(struct numbers *numbers, struct wl_proxy *proxy)
 {
     bool of_server = is_of_server(proxy->object.id);
-    size_t at = index_of(proxy->object.id), count = numbers->counts[of_server];
+    size_t at = numbers_index(proxy->object.id), count = numbers->counts[of_server];
     if (at >= count) {
         size_t wanted = count > 0 ? count : FIRST_SLOTS;
         while (wanted <= at)

@@ -2,9 +2,7 @@
 #ifndef NUMBERS_H
 #define NUMBERS_H
 
-#include <stdbool.h>
-#include <stddef.h>
-#include <stdint.h>
+#include "../common/common.h"
 
 struct wl_display;
 struct wl_proxy;
@@ -22,11 +20,25 @@ struct numbers {
     size_t counts[2];
 };
 
+static inline size_t numbers_index(uint32_t number)
+{
+    return is_of_server(number) ? number - (size_t)FIRST_OF_SERVER : number;
+}
+
 /* The slot of a number; NULL if there is none, and then the number is free. */
-struct slot *numbers_find(const struct numbers *numbers, uint32_t number);
+static inline struct slot *numbers_find(const struct numbers *numbers, uint32_t number)
+{
+    const bool of_server = is_of_server(number);
+    const size_t at = numbers_index(number);
+    return at < numbers->counts[of_server] ? &numbers->slots[of_server][at] : NULL;
+}
 
 /* The proxy of a number, or NULL. */
-struct wl_proxy *numbers_proxy(const struct numbers *numbers, uint32_t number);
+static inline struct wl_proxy *numbers_proxy(const struct numbers *numbers, uint32_t number)
+{
+    const struct slot *slot = numbers_find(numbers, number);
+    return slot ? slot->proxy : NULL;
+}
 
 /* The proxy has its number from now on. False if there is no memory. */
 bool numbers_put(struct numbers *numbers, struct wl_proxy *proxy);

@@ -322,7 +322,23 @@ static int take_message(struct wl_display *display, struct run *run, const struc
     return 0;
 }
 
-/* Takes the whole messages out of what came. */
+/* What came stands on the stack, or in memory that is freed. What is left of it is kept: mostly nothing, so a
+ * connection that waits has no buffer. False if there was no memory. */
+static bool keep_rest(struct input *input, const uint8_t *rest)
+{
+    const size_t count = input->count;
+    input->bytes = count > 0 ? malloc(count) : NULL;
+    if (input->bytes)
+        memcpy(input->bytes, rest, count);
+    else if (count > 0) {
+        input->count = 0;
+        errno = ENOMEM;
+        return false;
+    }
+    return true;
+}
+
+/* Takes the whole messages out of what came, and keeps the rest. */
 static int take_input(struct wl_display *display)
 {
     struct input *input = &display->input;
@@ -334,8 +350,7 @@ static int take_input(struct wl_display *display)
     if (answer == 0)
         answer = feed_run(display, &run);
     input->count -= run.to;
-    memmove(input->bytes, input->bytes + run.to, input->count);
-    return answer;
+    return keep_rest(input, input->bytes + run.to) ? answer : -1;
 }
 
 /* Descriptors wait here for the messages that take them. A server that sends many more than that is broken. */
@@ -356,27 +371,23 @@ static bool keep_descriptors(struct input *input, const int32_t *came, size_t co
     return true;
 }
 
-/* How much is read at once: as much as libwayland does, or the rest of a message that is longer. */
-static size_t wanted_bytes(const struct input *input)
+/* How many bytes are looked at together: as many as libwayland does, or those of a message that is longer. */
+static size_t room_of(const struct input *input)
 {
     uint32_t word;
     if (input->count < LIBWAYLAND_ROOM)
-        return LIBWAYLAND_ROOM - input->count;
+        return LIBWAYLAND_ROOM;
     memcpy(&word, input->bytes + 4, sizeof word);
-    return (word >> 16) - input->count;
+    return word >> 16;
 }
 
-int receive_locked(struct wl_display *display)
+/* Receives behind what was kept, into memory of this size. */
+static int receive_into(struct wl_display *display, uint8_t *bytes, size_t room)
 {
     struct input *input = &display->input;
     int32_t descriptors[NB_MOST_DESCRIPTORS];
-    size_t count, wanted = wanted_bytes(input);
-    void *bytes = input->bytes;
-    bool is_well = grow(&bytes, &input->room, input->count + wanted, 1);
-    input->bytes = bytes;
-    if (!is_well)
-        return -1;
-    ssize_t came = socket_receive(display->socket, input->bytes + input->count, wanted, descriptors, &count);
+    size_t count;
+    ssize_t came = socket_receive(display->socket, bytes + input->count, room - input->count, descriptors, &count);
     if (came <= 0) {
         errno = came == 0 ? EPIPE : (int)-came;
         return -1;
@@ -387,6 +398,26 @@ int receive_locked(struct wl_display *display)
     }
     if (count > 0 && !keep_descriptors(input, descriptors, count))
         return -1;
+    if (input->count > 0)
+        memcpy(bytes, input->bytes, input->count);
+    free(input->bytes);
+    input->bytes = bytes;
     input->count += (size_t)came;
     return take_input(display);
+}
+
+int receive_locked(struct wl_display *display)
+{
+    uint8_t few[LIBWAYLAND_ROOM];
+    const size_t room = room_of(&display->input);
+    uint8_t *many = room > sizeof few ? malloc(room) : NULL;
+    if (room > sizeof few && !many) {
+        errno = ENOMEM;
+        return -1;
+    }
+    const int answer = receive_into(display, many ? many : few, room);
+    const int error = errno;
+    free(many);
+    errno = error;
+    return answer;
 }

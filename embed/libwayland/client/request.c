@@ -38,19 +38,6 @@ static void put_made(const char *signature, union wl_argument *arguments, struct
             arguments[i].o = &made->object;
 }
 
-static size_t length_on_wire(const struct packed *packed)
-{
-    size_t length = 8;
-    for (uint32_t i = 0; i < packed->count; i++)
-        switch (packed->arguments[i].kind) {
-        case NB_DESCRIPTOR: break;
-        case NB_STRING: length += 4 + (((size_t)packed->arguments[i].length + 4) & ~(size_t)3); break;
-        case NB_ARRAY: length += 4 + (((size_t)packed->arguments[i].length + 3) & ~(size_t)3); break;
-        default: length += 4;
-        }
-    return length;
-}
-
 /* The line of WAYLAND_DEBUG. It shows the descriptors that are sent. */
 static void print_request(const struct wl_proxy *proxy, const struct wl_message *message,
                           const union wl_argument *arguments, const struct packed *packed)
@@ -104,18 +91,17 @@ static int send_packed(struct wl_proxy *proxy, uint32_t opcode, struct packed *p
 {
     struct wl_display *display = proxy->display;
     const struct wl_message *message = &proxy->object.interface->methods[opcode];
-    size_t length = length_on_wire(packed);
     add_ids(packed, arguments, &made);
-    if (length > UINT16_MAX) {
+    if (packed->size > UINT16_MAX) {
         errno = E2BIG;
         return -1;
     }
-    if (make_room_locked(display, length, packed->descriptors) < 0 || hand_over(proxy, opcode, packed, made) < 0)
+    if (make_room_locked(display, packed->size, packed->descriptors) < 0 || hand_over(proxy, opcode, packed, made) < 0)
         return -1;
     *is_taken = true;
     if (display->has_failed)
         close_dropped_locked(display);
-    display->unsent += length;
+    display->unsent += packed->size;
     display->unsent_descriptors += packed->descriptors;
     if (is_logging)
         print_request(proxy, message, arguments, packed);

@@ -48,20 +48,6 @@ void close_descriptors(const nb_argument *arguments, uint32_t count)
 
 /* ======== From the program to a session */
 
-/* A string's or array's bytes; false if the argument is neither, or is null. */
-static bool text_of(char letter, const union wl_argument *argument, const void **text, size_t *length)
-{
-    if (letter == 's' && argument->s) {
-        *text = argument->s;
-        *length = strlen(argument->s);
-    } else if (letter == 'a' && argument->a) {
-        *text = argument->a->data;
-        *length = argument->a->size;
-    } else
-        return false;
-    return true;
-}
-
 static bool fail(struct packed *packed, int error, const char *format, ...) WL_PRINTF(3, 4);
 static bool fail(struct packed *packed, int error, const char *format, ...)
 {
@@ -73,37 +59,58 @@ static bool fail(struct packed *packed, int error, const char *format, ...)
     return false;
 }
 
-/* Where the strings and arrays go. One alone is not copied. False if there are more than a message can have, or there
- * was no memory. */
-static bool make_room(struct packed *to, const char *signature, const union wl_argument *arguments, bool *is_alone)
+/* Where the next string or array goes, behind those that are there; NULL if there was no memory. */
+static uint8_t *room_for(struct packed *to, size_t length)
 {
-    const void *text = NULL;
-    size_t length, total = 0, count = 0;
-    char letter;
-    bool is_nullable;
-    for (uint32_t i = 0; i < MOST_ARGUMENTS && (signature = signature_next(signature, &letter, &is_nullable)); i++)
-        if (text_of(letter, &arguments[i], &text, &length)) {
-            count++;
-            if (length > NB_MOST_BYTES || (total += length) > NB_MOST_BYTES)
-                return fail(to, E2BIG, "it is longer than a message can be");
+    uint8_t *into = to->many ? to->many : to->few;
+    if (!to->many && to->length + length > sizeof to->few) {
+        into = to->many = malloc(NB_MOST_BYTES);
+        if (!into) {
+            fail(to, ENOMEM, "there is no memory");
+            return NULL;
         }
-    *is_alone = count == 1;
-    to->bytes = *is_alone ? text : to->few;
-    if (*is_alone || total <= sizeof to->few)
-        return true;
-    to->many = malloc(total);
-    to->bytes = to->many;
-    return to->many || fail(to, ENOMEM, "there is no memory");
+    }
+    if (to->bytes != into)
+        memcpy(into, to->bytes, to->length);
+    to->bytes = into;
+    return into + to->length;
 }
 
-/* Copies a string or array behind those that are there, unless it is alone. Answers where it stands. */
-static uint32_t add_text(struct packed *to, const void *text, size_t length, bool is_alone)
+/* A string or array that is alone is not copied. A message has its length and the zero that it ends in, if it does, and
+ * is filled up to whole words. */
+static bool add_text(struct packed *to, const void *text, size_t length, size_t zero)
 {
-    size_t at = to->length;
-    if (!is_alone && length > 0)
-        memcpy((to->many ? to->many : to->few) + at, text, length);
+    if (length > NB_MOST_BYTES - to->length)
+        return fail(to, E2BIG, "it is longer than a message can be");
+    if (to->length == 0)
+        to->bytes = text;
+    else if (length > 0) {
+        uint8_t *into = room_for(to, length);
+        if (!into)
+            return false;
+        memcpy(into, text, length);
+    }
     to->length += length;
-    return (uint32_t)at;
+    to->size += 4 + ((length + zero + 3) & ~(size_t)3);
+    return true;
+}
+
+static bool pack_string(struct packed *to, nb_argument *slot, const char *text)
+{
+    const size_t at = to->length, length = strlen(text);
+    if (!add_text(to, text, length, 1))
+        return false;
+    *slot = nb_string((uint32_t)at, (uint32_t)length);
+    return true;
+}
+
+static bool pack_array(struct packed *to, nb_argument *slot, const struct wl_array *array)
+{
+    const size_t at = to->length;
+    if (!add_text(to, array->data, array->size, 0))
+        return false;
+    *slot = nb_array((uint32_t)at, (uint32_t)array->size);
+    return true;
 }
 
 static bool pack_descriptor(struct packed *to, nb_argument *slot, int descriptor)
@@ -117,8 +124,9 @@ static bool pack_descriptor(struct packed *to, nb_argument *slot, int descriptor
 }
 
 /* What may be null, and is: a string, an object, an array, which is empty then, or a new id that is a number. */
-static bool pack_null(nb_argument *slot, char letter)
+static bool pack_null(struct packed *to, nb_argument *slot, char letter)
 {
+    to->size += 4;
     switch (letter) {
     case 's': *slot = nb_null_string(); break;
     case 'o': *slot = nb_object(nb_null()); break;
@@ -133,51 +141,37 @@ static bool is_pointer(char letter)
     return letter == 's' || letter == 'o' || letter == 'n' || letter == 'a';
 }
 
-static bool pack_one(struct packed *to, char letter, bool may_be_null, const union wl_argument *argument, bool is_alone)
+static bool pack_one(struct packed *to, char letter, bool may_be_null, const union wl_argument *argument)
 {
-    nb_argument *slot = &to->arguments[to->count++];
-    const void *text;
-    size_t length;
-    *slot = nb_int(0);
+    nb_argument *slot = &to->arguments[to->count];
     if (is_pointer(letter) && !argument->o)
-        return may_be_null ? pack_null(slot, letter)
-                           : fail(to, EINVAL, "null value passed for arg %u", to->count - 1);
-    if (text_of(letter, argument, &text, &length)) {
-        uint32_t at = add_text(to, text, length, is_alone);
-        *slot = letter == 's' ? nb_string(at, (uint32_t)length) : nb_array(at, (uint32_t)length);
-        return true;
-    }
+        return may_be_null ? pack_null(to, slot, letter) : fail(to, EINVAL, "null value passed for arg %u", to->count);
     switch (letter) {
+    case 's': return pack_string(to, slot, argument->s);
+    case 'a': return pack_array(to, slot, argument->a);
     case 'o':
-    case 'n': return pack_null(slot, letter);
+    case 'n': return pack_null(to, slot, letter);
     case 'h': return pack_descriptor(to, slot, argument->h);
     case 'u': *slot = nb_uint(argument->u); break;
     case 'f': *slot = nb_fixed(argument->f); break;
     default: *slot = nb_int(argument->i);
     }
+    to->size += 4;
     return true;
 }
 
 bool pack(struct packed *to, const char *signature, const union wl_argument *arguments, bool new_ids_are_objects)
 {
     char letter;
-    bool is_nullable, is_alone = false;
+    bool is_nullable;
     to->count = to->descriptors = 0;
+    to->bytes = NULL;
     to->length = 0;
+    to->size = 8;
     to->fault[0] = 0;
     to->many = NULL;
-    if (!make_room(to, signature, arguments, &is_alone))
-        return false;
-    while (to->count < MOST_ARGUMENTS && (signature = signature_next(signature, &letter, &is_nullable)))
-        if (!pack_one(to, letter, is_nullable || (letter == 'n' && !new_ids_are_objects), &arguments[to->count],
-                      is_alone))
+    for (; to->count < MOST_ARGUMENTS && (signature = signature_next(signature, &letter, &is_nullable)); to->count++)
+        if (!pack_one(to, letter, is_nullable || (letter == 'n' && !new_ids_are_objects), &arguments[to->count]))
             return false;
     return true;
-}
-
-void packed_end(struct packed *packed, bool is_taken)
-{
-    if (!is_taken)
-        close_descriptors(packed->arguments, packed->count);
-    free(packed->many);
 }

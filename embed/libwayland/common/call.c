@@ -9,33 +9,32 @@
 #error "call_words is for the calling conventions of x86-64 and aarch64"
 #endif
 
-typedef void six_words(uintptr_t, uintptr_t, uintptr_t, uintptr_t, uintptr_t, uintptr_t);
+typedef void few_words(uintptr_t, uintptr_t, uintptr_t, uintptr_t, uintptr_t, uintptr_t);
 typedef void all_words(uintptr_t, uintptr_t, uintptr_t, uintptr_t, uintptr_t, uintptr_t, uintptr_t, uintptr_t,
                        uintptr_t, uintptr_t, uintptr_t, uintptr_t, uintptr_t, uintptr_t, uintptr_t, uintptr_t,
                        uintptr_t, uintptr_t, uintptr_t, uintptr_t, uintptr_t, uintptr_t);
 
 /* Clang's sanitizer of function types would report each of these calls. */
 #if defined(__clang__)
-__attribute__((no_sanitize("function")))
+#define OF_ANY_TYPE __attribute__((no_sanitize("function")))
+#else
+#define OF_ANY_TYPE
 #endif
-void call_words(void (*function)(void), const uintptr_t *words, size_t count)
+
+/* Apart, so that the usual call needs no room on the stack. */
+OF_ANY_TYPE __attribute__((noinline)) static void call_all_words(void (*function)(void), const uintptr_t *w)
 {
-    uintptr_t w[MOST_WORDS] = { 0 };
-    for (size_t i = 0; i < count && i < MOST_WORDS; i++)
-        w[i] = words[i];
-    if (count <= 6)
-        ((six_words *)function)(w[0], w[1], w[2], w[3], w[4], w[5]);
-    else
-        ((all_words *)function)(w[0], w[1], w[2], w[3], w[4], w[5], w[6], w[7], w[8], w[9], w[10], w[11], w[12], w[13],
-                                w[14], w[15], w[16], w[17], w[18], w[19], w[20], w[21]);
+    ((all_words *)function)(w[0], w[1], w[2], w[3], w[4], w[5], w[6], w[7], w[8], w[9], w[10], w[11], w[12], w[13],
+                            w[14], w[15], w[16], w[17], w[18], w[19], w[20], w[21]);
 }
 
-uintptr_t word_of(char letter, const union wl_argument *argument)
+OF_ANY_TYPE void call_words(void (*function)(void), uintptr_t words[MOST_WORDS], size_t count)
 {
-    switch (letter) {
-    case 's': return (uintptr_t)argument->s;
-    case 'o': return (uintptr_t)argument->o;
-    case 'a': return (uintptr_t)argument->a;
-    default: return argument->u;
+    if (count <= FEW_WORDS) {
+        ((few_words *)function)(words[0], words[1], words[2], words[3], words[4], words[5]);
+        return;
     }
+    while (count < MOST_WORDS)
+        words[count++] = 0;
+    call_all_words(function, words);
 }

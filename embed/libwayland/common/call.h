@@ -4,13 +4,11 @@
 
 #include "common.h"
 
-enum { MOST_WORDS = MOST_ARGUMENTS + 2 };
+enum { FEW_WORDS = 6, MOST_WORDS = MOST_ARGUMENTS + 2 };
 
-/* Calls a function that answers nothing with these arguments: integers and pointers, each in a word of its own. The
- * function may take fewer. */
-void call_words(void (*function)(void), const uintptr_t *words, size_t count);
-
-/* The word of an argument with this letter. */
-uintptr_t word_of(char letter, const union wl_argument *argument);
+/* Calls a function that answers nothing with so many of these words: integers and pointers, each in a word of its own.
+ * The first FEW_WORDS have to be set in any case, and may be passed, too: the function may take fewer than it is given.
+ * Behind more than those it writes zeros. */
+void call_words(void (*function)(void), uintptr_t words[MOST_WORDS], size_t count);
 
 #endif

@@ -219,7 +219,7 @@ static void remember(struct table *table, const struct wl_interface *key, uint32
 static bool grow(struct table *table)
 {
     struct table old = *table;
-    uint32_t room = old.key_room > 0 ? 2 * old.key_room : 64;
+    uint32_t room = old.key_room > 0 ? 2 * old.key_room : 16;
     table->keys = calloc(room, sizeof *table->keys);
     table->numbers = calloc(room, sizeof *table->numbers);
     if (!table->keys || !table->numbers) {
@@ -339,12 +339,20 @@ static void find(struct addition *addition, const struct wl_interface *interface
     }
 }
 
+/* Whether the row of an argument names an interface. */
+static bool names_interface(const struct table *table, char letter)
+{
+    return letter == 'n' || (letter == 'o' && !table->is_of_client);
+}
+
 static void find_in(struct addition *addition, const struct wl_message *messages, int count)
 {
     for (int i = 0; i < count; i++) {
-        uint32_t arguments = messages[i].types ? signature_count(messages[i].signature) : 0;
-        for (uint32_t j = 0; j < arguments; j++)
-            if (messages[i].types[j] && !addition->is_refused)
+        const char *rest = messages[i].types ? messages[i].signature : "";
+        char letter;
+        bool is_nullable;
+        for (uint32_t j = 0; (rest = signature_next(rest, &letter, &is_nullable)); j++)
+            if (names_interface(addition->table, letter) && messages[i].types[j] && !addition->is_refused)
                 find(addition, messages[i].types[j]);
     }
 }
@@ -410,7 +418,7 @@ static void rows_end(struct rows *rows)
 /* The number in the row of an object argument. */
 static uint32_t number_of_type(const struct addition *addition, char letter, const struct wl_interface *type)
 {
-    return !type || (letter == 'o' && addition->table->is_of_client) ? NB_INTERFACE_ANY : number_after(addition, type);
+    return type && names_interface(addition->table, letter) ? number_after(addition, type) : NB_INTERFACE_ANY;
 }
 
 static bool add_message(const struct addition *addition, struct rows *rows, const struct wl_message *message)

@@ -1,8 +1,8 @@
 /* The table of interfaces: which number a session has for a `struct wl_interface` of the program.
  *
- * An interface gets into the table when it is first named, with all that its messages name. A name has one row. Another
- * struct of the same name, as each module that was linked has its own, is the same interface if the messages that both
- * have are the same; if it has more, the row grows.
+ * An interface gets into the table when it is first named, with all that the rows of its messages name. A name has one
+ * row. Another struct of the same name, as each module that was linked has its own, is the same interface if the
+ * messages that both have are the same; if it has more, the row grows.
  *
  * A client's table is not so strict, as libwayland-client is not. A struct that no row of its name fits has a row of
  * its own, under a name that nobody sees. Object arguments are of any interface: in a request the server judges them.

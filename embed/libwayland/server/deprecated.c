@@ -19,7 +19,6 @@ struct wl_global *wl_display_add_global(struct wl_display *display, const struct
                                         wl_global_bind_func_t bind);
 void wl_display_remove_global(struct wl_display *display, struct wl_global *global);
 
-/* The list is empty in each program of today. */
 static struct lent *lent_of(const struct wl_resource *resource)
 {
     struct wl_list *list = &resource->client->lent;
@@ -29,7 +28,7 @@ static struct lent *lent_of(const struct wl_resource *resource)
     return NULL;
 }
 
-const nb_object_id *lent_core(const struct wl_resource *resource)
+const nb_object_id *lent_core_of(const struct wl_resource *resource)
 {
     const struct lent *lent = lent_of(resource);
     return lent ? &lent->core : NULL;

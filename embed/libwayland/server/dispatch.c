@@ -3,6 +3,7 @@
 #include "server.h"
 #include "call.h"
 #include "signature.h"
+#include <string.h>
 
 /* A request on its way to its handler. */
 struct request {
@@ -12,6 +13,7 @@ struct request {
     const struct wl_message *message;
     union wl_argument values[MOST_ARGUMENTS];
     struct wl_array arrays[MOST_ARGUMENTS];
+    uintptr_t words[MOST_WORDS]; /* the client, the resource, and the arguments */
 };
 
 /* Looks at what the session does not: the version that the program gave the resource, which may be below that of the
@@ -25,7 +27,7 @@ static bool is_allowed(const struct request *request, const nb_action *action)
         return false;
     }
     const struct wl_interface *interface = resource->object.interface;
-    const int version = wl_resource_get_version(request->resource);
+    const int version = lent_core(resource) ? 0 : resource->version;
     if (request->opcode >= (uint32_t)interface->method_count) {
         client_post_error(request->client, WL_DISPLAY_ERROR_INVALID_METHOD, "invalid method %u, object %s@%u",
                           request->opcode, interface->name, resource->object.id);
@@ -41,17 +43,30 @@ static bool is_allowed(const struct request *request, const nb_action *action)
     return true;
 }
 
-/* Puts the resources in. False if an argument has none. */
+/* Puts the resources in, and each argument into its word. A new id is a number. False if an object has no resource. */
 static bool complete(struct request *request, const nb_argument *arguments)
 {
+    const uintptr_t first[FEW_WORDS] = { (uintptr_t)request->client, (uintptr_t)request->resource };
+    memcpy(request->words, first, sizeof first);
     for (uint32_t i = 0; i < request->count; i++) {
         const nb_argument *argument = &arguments[i];
-        if (argument->kind != NB_OBJECT || nb_is_null(&argument->object))
-            continue;
-        struct wl_resource *resource = resource_of(request->client, &argument->object, argument->data);
-        if (!resource)
-            return false;
-        request->values[i].o = &resource->object;
+        union wl_argument *value = &request->values[i];
+        uintptr_t *word = &request->words[2 + i];
+        switch (argument->kind) {
+        case NB_STRING:
+        case NB_NULL_STRING: *word = (uintptr_t)value->s; break;
+        case NB_ARRAY: *word = (uintptr_t)value->a; break;
+        case NB_OBJECT:
+            if (!nb_is_null(&argument->object)) {
+                struct wl_resource *resource = resource_of(request->client, &argument->object, argument->data);
+                if (!resource)
+                    return false;
+                value->o = &resource->object;
+            }
+            *word = (uintptr_t)value->o;
+            break;
+        default: *word = value->u;
+        }
     }
     return true;
 }
@@ -60,21 +75,14 @@ static void call_handler(struct request *request)
 {
     struct wl_resource *resource = request->resource;
     const struct wl_object *object = &resource->object;
-    union wl_argument *values = request->values;
     if (!lent_core(resource) && resource->dispatcher) {
-        resource->dispatcher(object->implementation, resource, request->opcode, request->message, values);
+        resource->dispatcher(object->implementation, resource, request->opcode, request->message, request->values);
         return;
     }
     void (*const *handlers)(void) = object->implementation;
     if (!handlers || !handlers[request->opcode])
         log_and_abort("listener function for opcode %u of %s is NULL\n", request->opcode, object->interface->name);
-    uintptr_t words[MOST_WORDS] = { (uintptr_t)request->client, (uintptr_t)resource };
-    const char *rest = request->message->signature;
-    char letter;
-    bool is_nullable;
-    for (uint32_t i = 0; i < request->count && (rest = signature_next(rest, &letter, &is_nullable)); i++)
-        words[2 + i] = word_of(letter, &values[i]);
-    call_words(handlers[request->opcode], words, 2 + request->count);
+    call_words(handlers[request->opcode], request->words, 2 + request->count);
 }
 
 /* Hands a request on, or refuses it. The descriptors among its arguments are the handler's, if it is called. */
@@ -92,7 +100,8 @@ static void hand_on(struct request *request, const nb_action *action, const nb_a
         close_descriptors(arguments, request->count);
         return;
     }
-    trace_request(request->resource, request->opcode, request->values);
+    if (trace_is_on(request->client->display))
+        trace_message(request->resource, false, request->opcode, request->values);
     call_handler(request);
 }
 

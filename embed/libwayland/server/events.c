@@ -64,7 +64,8 @@ static void send_event(struct wl_resource *resource, uint32_t opcode, union wl_a
                  resource->object.interface->name, message->name);
         client_fail(client);
     } else {
-        trace_event(resource, opcode, arguments);
+        if (trace_is_on(client->display))
+            trace_message(resource, true, opcode, arguments);
         is_taken = hand_over(resource, opcode, &packed);
     }
     packed_end(&packed, is_taken);

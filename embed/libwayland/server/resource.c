@@ -87,11 +87,13 @@ bool object_find(struct wl_client *client, const struct wl_interface *interface,
         return false;
     if (id == 0)
         return nb_server_create_object(core, &client->id, number, (uint32_t)version, 1, data, object) == NB_OK;
-    if (client->created.number == id && client->created.interface == number)
+    if (client->created.number == id && client->created.interface == number) {
         *object = client->created;
-    else if (nb_server_object_for_protocol_id(core, &client->id, number, id, object) != NB_OK)
+        client->created = nb_null();
+    } else if (nb_server_object_for_protocol_id(core, &client->id, number, id, object) != NB_OK ||
+               has_resource(client, object))
         return false;
-    return !has_resource(client, object) && nb_server_set_object_data(core, object, data) == NB_OK;
+    return nb_server_set_object_data(core, object, data) == NB_OK;
 }
 
 /* Without memory the object stays: then it points to nothing, and its client, which is not told, ends. */
@@ -103,12 +105,6 @@ void object_forget(struct wl_client *client, const nb_object_id *object)
     nb_server_set_object_data(core, object, 0);
     nb_server_kill_client(core, &client->id);
     client_fail(client);
-}
-
-const nb_object_id *core_of(const struct wl_resource *resource)
-{
-    const nb_object_id *core = lent_core(resource);
-    return core ? core : &resource->core;
 }
 
 /* ======== Beginning and end */
@@ -254,13 +250,8 @@ static struct wl_resource *adopt(struct wl_client *client, const nb_object_id *o
     return NULL;
 }
 
-/* The resource of an object with these data; NULL if the program has none, or is at the end of it: its destructor may
- * have freed what a handler would look at. */
-struct wl_resource *resource_of(struct wl_client *client, const nb_object_id *core, uint64_t data)
+struct wl_resource *resource_without_data(struct wl_client *client, const nb_object_id *core)
 {
-    struct wl_resource *resource = (struct wl_resource *)(uintptr_t)data;
-    if (resource)
-        return !lent_core(resource) && resource->is_ending ? NULL : resource;
     if (core->interface == NB_INTERFACE_DISPLAY)
         return client->display_resource;
     return core->interface == NB_INTERFACE_REGISTRY ? adopt(client, core) : NULL;

@@ -75,7 +75,7 @@ struct wl_client {
     struct wl_resource *display_resource; /* NULL once the resources are destroyed */
     struct numbered own, served;          /* of the client's range, and of the server's */
     struct wl_list displaced, lent;       /* resources; the program's own structs */
-    nb_object_id created;                 /* the object that the last request has made */
+    nb_object_id created; /* the object that the last request has made, as long as it has no resource; else null */
 
     unsigned depth;    /* how many calls look at it */
     bool has_error;    /* it is told nothing more, and is destroyed when its socket can be read */
@@ -147,7 +147,7 @@ void display_settle(struct wl_display *display);
 /* resource.c */
 bool resource_begin_display(struct wl_client *client);
 struct wl_resource *resource_at(struct wl_client *client, uint32_t id);
-struct wl_resource *resource_of(struct wl_client *client, const nb_object_id *core, uint64_t data);
+struct wl_resource *resource_without_data(struct wl_client *client, const nb_object_id *core);
 void resources_end(struct wl_client *client);
 bool number_put(struct wl_client *client, uint32_t id, struct wl_resource *resource);
 void number_take_out(struct wl_client *client, uint32_t id, const struct wl_resource *resource);
@@ -158,11 +158,32 @@ bool object_find(struct wl_client *client, const struct wl_interface *interface,
 void object_forget(struct wl_client *client, const nb_object_id *object);
 
 /* deprecated.c: the program's own structs. NULL if the resource is the library's. */
-const nb_object_id *lent_core(const struct wl_resource *resource);
+const nb_object_id *lent_core_of(const struct wl_resource *resource);
 void lent_end(struct wl_resource *resource);
 
+/* The list is empty in each program of today. */
+static inline const nb_object_id *lent_core(const struct wl_resource *resource)
+{
+    const struct wl_list *list = &resource->client->lent;
+    return list->next == list ? NULL : lent_core_of(resource);
+}
+
+/* The resource of an object with these data; NULL if the program has none, or is at the end of it: its destructor may
+ * have freed what a handler would look at. */
+static inline struct wl_resource *resource_of(struct wl_client *client, const nb_object_id *core, uint64_t data)
+{
+    struct wl_resource *resource = (struct wl_resource *)(uintptr_t)data;
+    if (!resource)
+        return resource_without_data(client, core);
+    return !lent_core(resource) && resource->is_ending ? NULL : resource;
+}
+
 /* The session's object of a resource; null if it has none. */
-const nb_object_id *core_of(const struct wl_resource *resource);
+static inline const nb_object_id *core_of(const struct wl_resource *resource)
+{
+    const nb_object_id *core = lent_core(resource);
+    return core ? core : &resource->core;
+}
 
 /* errors.c */
 void client_post_error(struct wl_client *client, uint32_t code, const char *format, ...) WL_PRINTF(3, 4);
@@ -171,9 +192,13 @@ void client_post_error(struct wl_client *client, uint32_t code, const char *form
 void dispatch(struct wl_client *client, const nb_action *action, const nb_argument *arguments, uint8_t *text);
 
 /* trace.c */
-bool trace_is_on(const struct wl_display *display);
-void trace_event(struct wl_resource *resource, uint32_t opcode, union wl_argument *arguments);
-void trace_request(struct wl_resource *resource, uint32_t opcode, union wl_argument *arguments);
+static inline bool trace_is_on(const struct wl_display *display)
+{
+    return display->is_printing || display->loggers.next != &display->loggers;
+}
+
+/* An event or request, if it is on. */
+void trace_message(struct wl_resource *resource, bool is_event, uint32_t opcode, union wl_argument *arguments);
 void trace_received(struct wl_client *client, const uint8_t *bytes, size_t length);
 void trace_read(struct wl_client *client, bool has_action);
 void trace_delete_id(struct wl_client *client, uint32_t id);

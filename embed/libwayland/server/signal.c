@@ -21,6 +21,8 @@ static struct wl_listener *step(struct wl_listener *mark)
 EXPORT void wl_signal_emit_mutable(struct wl_signal *signal, void *data)
 {
     struct wl_listener here = { .notify = pass }, end = { .notify = pass };
+    if (wl_list_empty(&signal->listener_list))
+        return;
     wl_list_insert(&signal->listener_list, &here.link);
     wl_list_insert(signal->listener_list.prev, &end.link);
     while (here.link.next != &end.link) {

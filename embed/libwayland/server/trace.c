@@ -38,14 +38,9 @@ EXPORT void wl_protocol_logger_destroy(struct wl_protocol_logger *logger)
     free(logger);
 }
 
-bool trace_is_on(const struct wl_display *display)
-{
-    return display->is_printing || !wl_list_empty(&display->loggers);
-}
-
 /* ======== Telling */
 
-static void tell(struct wl_resource *resource, bool is_event, uint32_t opcode, union wl_argument *arguments)
+void trace_message(struct wl_resource *resource, bool is_event, uint32_t opcode, union wl_argument *arguments)
 {
     struct wl_display *display = resource->client->display;
     const struct wl_interface *interface = resource->object.interface;
@@ -62,18 +57,6 @@ static void tell(struct wl_resource *resource, bool is_event, uint32_t opcode, u
         print_message(is_event ? " -> " : "", &resource->object, message, arguments, is_event);
 }
 
-void trace_event(struct wl_resource *resource, uint32_t opcode, union wl_argument *arguments)
-{
-    if (trace_is_on(resource->client->display))
-        tell(resource, true, opcode, arguments);
-}
-
-void trace_request(struct wl_resource *resource, uint32_t opcode, union wl_argument *arguments)
-{
-    if (trace_is_on(resource->client->display))
-        tell(resource, false, opcode, arguments);
-}
-
 /* ======== What the session says by itself */
 
 enum { DISPLAY_SYNC = 0, DISPLAY_GET_REGISTRY = 1, REGISTRY_BIND = 0 };                      /* requests */
@@ -87,7 +70,7 @@ static void tell_for(struct wl_client *client, const struct wl_interface *interf
     wl_list_init(&resource.link);
     wl_signal_init(&resource.destroy_signal);
     wl_signal_init(&resource.old_destroy_signal);
-    tell(&resource, is_event, opcode, arguments);
+    trace_message(&resource, is_event, opcode, arguments);
 }
 
 void trace_delete_id(struct wl_client *client, uint32_t id)
