@@ -70,6 +70,10 @@ fn last_number(alloc: Global, reclaims: bool) -> Result<u32, Fail> {
 fn numbers_are_used_again(rt: HostRuntime) -> Result<(), Fail> {
     let again = last_number(rt.alloc(), true)?;
     let never = last_number(rt.alloc(), false)?;
-    holds(&rt, "reclaimed", again == Object::Callback.id().protocol_id())?;
+    holds(
+        &rt,
+        "reclaimed",
+        again == Object::Callback.id().protocol_id(),
+    )?;
     holds(&rt, "not reclaimed", never == MANY + 1)
 }

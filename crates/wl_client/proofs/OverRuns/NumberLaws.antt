@@ -14,7 +14,7 @@ use Rattle.wl_wire.specs.Argument.{WireArgument}
 use Rattle.wl_wire.specs.Message.{WireMessage}
 use Rattle.wl_wire.specs.MessageRows.{next_interface}
 use Rattle.wl_wire.specs.Table.{InterfaceRow, MessageRow}
-use Rattle.wl_link.proofs.Calls.Branches.{either_bool, either_option}
+use Rattle.wl_link.proofs.Calls.Branches.{either_bool, either_option, either_result}
 use Rattle.wl_link.proofs.Ids.StoreLaws.{removed_here, removed_other, rewritten_here, rewritten_other, stored_here, stored_other}
 use Rattle.wl_link.specs.declared.object.Object.{Object}
 use Rattle.wl_link.specs.Exchange.{Queue, Sending}
@@ -259,7 +259,7 @@ module _ {T U : Type 0} (sends : T → Queue → Result ℕ IoFault → T → Ty
       (reading_by left mid turns rest end more)
     where
       turned : (m : WireMessage) (link : LinkState T) → ReadsAs sends client start (Ok m) link → mid.core.store ≡ (objects_after (handling start.core.table (objects_in start.core) m)).store
-          → ByMessage n start.core.table (objects_in start.core) m (handling start.core.table (objects_in start.core) m) → ByTurn (Handled es) start mid
+          → ByMessage n of_client start.core.table (objects_in start.core) m (handling start.core.table (objects_in start.core) m) → ByTurn (Handled es) start mid
       turned m link read is (inl same) = inl (ap (λ store. held store n) is ∙ same)
       turned m link read is (inr (delete, same)) = inr ((m, link, read, delete), ap (λ store. held store n) is ∙ same)
   reading_by left start (Unread es ∷ turns) out end (on, (v, link, first, lacked, mid, rest, (read, same, is), by, split, more)) =
@@ -479,14 +479,10 @@ module _ {T U : Type 0} (n : ℕ) where
 
     requests : (u : Option U) (spec : Option Spec) → Requested sends s m u spec answer after → Keeps n s.store after.store
     requests u spec h =
-        elim (by_check (request_check s.table s.store m (is_some u) spec) h) [
+        elim (either_result (request_check s.table s.store m (is_some u) spec) h) [
           | inl (g, w) ↦ sent_as g.child u (ended_by s.store m g.is_destructor) (ended_there g.is_destructor) w
           | inr (e, (is, same)) ↦ same_store n s after s same refl
         ]
-      where
-        by_check : {A E : Type 0} {P : A → Type 0} {Q : E → Type 0} (r : Result A E) → MatchResult r P Q → ((x : A) × P x) ⊎ ((e : E) × Q e)
-        by_check (Ok x) p = inl (x, p)
-        by_check (Err e) q = inr (e, q)
 
 -- ---- a deed
 
@@ -531,7 +527,7 @@ module _ {T U : Type 0} (sends : T → Queue → Result ℕ IoFault → T → Ty
             elim (cases_eq n id.number) [
               | inl e ↦
                   subst (λ (o : Option (Object (Kept U))). MatchOption o ((y : Object (Kept U)) → held after.store n ≡ Some y → y.value.id_deleted ≡ false)
-                      (λ x. KeepsNumber sends receives n x s d after ⊎ LeavesNumber sends receives n x s d after))
+                  (λ x. KeepsNumber sends receives n x s d after ⊎ LeavesNumber sends receives n x s d after))
                   (sym (ap (held s.store) e ∙ there))
                   (inr (ap (λ (a : SessionState T U). held a.store n) same ∙ removed_here s.store id.number n e, over, inl flag))
               | inr other ↦
@@ -578,7 +574,7 @@ module _ {T U : Type 0} (sends : T → Queue → Result ℕ IoFault → T → Ty
   has_or_left s [] after same x there = inl (x, ap (λ (a : SessionState T U). held a.store n) same ∙ there, refl)
   has_or_left s (d ∷ deeds) after (mid, by, leads) x there =
       at (subst (λ (o : Option (Object (Kept U))). MatchOption o ((y : Object (Kept U)) → held mid.store n ≡ Some y → y.value.id_deleted ≡ false)
-          (λ x. KeepsNumber sends receives n x s d mid ⊎ LeavesNumber sends receives n x s d mid)) there (number_moves s d mid by))
+      (λ x. KeepsNumber sends receives n x s d mid ⊎ LeavesNumber sends receives n x s d mid)) there (number_moves s d mid by))
       (λ y is. has_or_left mid deeds after leads y is)
     where
       later : (y : Object (Kept U)) → y.value.serial ≡ x.value.serial → HasOrLeft sends receives n y mid deeds after → HasOrLeft sends receives n x s (d ∷ deeds) after
