@@ -1,7 +1,7 @@
 -- When the number of an object is free again: both sides have given the object up. The client has destroyed it, and the server
 -- has deleted its id. That is said of the numbers of the client's range, which requests take. Those of the server's range the
 -- server uses again as it likes.
-use Rattle.std.specs.Prelude.{◌≡◌, ℕ, ◌⊎◌, List, [], ◌∷◌, ◌++◌, Bool, true, false, None, Some, Result, Ok, MatchOption}
+use Rattle.std.specs.Prelude.{◌≡◌, ℕ, ◌⊎◌, List, [], ◌∷◌, ◌++◌, true, false, None, Some, Result, Ok, MatchOption}
 use Rattle.wl_wire.specs.declared.argument.Argument.TheVariants as arg
 use Rattle.wl_wire.specs.declared.error.IoFault.{IoFault}
 use Rattle.wl_wire.specs.Message.{WireMessage}

@@ -153,9 +153,9 @@ agrees_parts there said e =
     elim (differ_from 0 there.requests said.requests) as (λ o. differ_from 0 there.requests said.requests ≡ o → (differ_from 0 there.requests said.requests ≡ None) × (differ_from 0 there.events said.events ≡ None)) [
       | Some k ↦ λ f. let g : difference there said ≡ Some (at_request k) = rw (difference, f) refl in absurd (cc)
       | None ↦ λ f. elim (differ_from 0 there.events said.events) as (λ o. differ_from 0 there.events said.events ≡ o → (differ_from 0 there.requests said.requests ≡ None) × (differ_from 0 there.events said.events ≡ None)) [
-          | Some k ↦ λ g. let h : difference there said ≡ Some (at_event k) = rw (difference, f, g) refl in absurd (cc)
-          | None ↦ λ g. (f, g)
-        ] refl
+        | Some k ↦ λ g. let h : difference there said ≡ Some (at_event k) = rw (difference, f, g) refl in absurd (cc)
+        | None ↦ λ g. (f, g)
+      ] refl
     ] refl
 
 covers_all : (there said : InterfaceRow) → difference there said ≡ None → has_more there said ≡ false → Covers there said
@@ -232,19 +232,19 @@ has_extended table more said h =
     elim (slice_get table more.place) as (λ o. slice_get table more.place ≡ o → HasAt (option_map_or (λ row. set table more.place (extended_row more row)) o table) said) [
       | None ↦ λ e. h
       | Some row ↦ λ e. elim (eqb more.place h.place) as (λ b. eqb more.place h.place ≡ b → HasAt (set table more.place (extended_row more row)) said) [
-          | true ↦ λ same.
-              let p : more.place ≡ h.place = eqb-true more.place h.place same in
-              let t : slice_get table h.place ≡ Some h.there = first_there (is_named said.name) table h.place h.there h.first in
-              let r : row ≡ h.there = cc in
-              let f = first_set (is_named said.name) table h.place h.there (extended_row more h.there) h.first (first_passes (is_named said.name) table h.place h.there h.first) in
-              record { place = h.place; there = extended_row more h.there; first = rw (p, r) f; covers = covers_extended more h.there said h.covers }
-          | false ↦ λ apart. record {
-              place = h.place;
-              there = h.there;
-              first = first_kept (is_named said.name) table more.place h.place row h.there (extended_row more row) h.first e (eqb-false more.place h.place apart) refl;
-              covers = h.covers;
-            }
-        ] refl
+        | true ↦ λ same.
+            let p : more.place ≡ h.place = eqb-true more.place h.place same in
+            let t : slice_get table h.place ≡ Some h.there = first_there (is_named said.name) table h.place h.there h.first in
+            let r : row ≡ h.there = cc in
+            let f = first_set (is_named said.name) table h.place h.there (extended_row more h.there) h.first (first_passes (is_named said.name) table h.place h.there h.first) in
+            record { place = h.place; there = extended_row more h.there; first = rw (p, r) f; covers = covers_extended more h.there said h.covers }
+        | false ↦ λ apart. record {
+          place = h.place;
+          there = h.there;
+          first = first_kept (is_named said.name) table more.place h.place row h.there (extended_row more row) h.first e (eqb-false more.place h.place apart) refl;
+          covers = h.covers;
+        }
+      ] refl
     ] refl
 
 -- ---- a row that the table is still to take
@@ -444,10 +444,13 @@ module _ (table : List InterfaceRow) where
       let now = first_before (is_named said.name) table added k there f.3 in
       elim (has_more there said) as (λ b. has_more there said ≡ b → Ready table (table ++ added) said × ((part_of table at said).new_rows ≡ [])) [
         | true ↦ λ more. (inr (record { place = k; there = there; was = f.3; is = now; agrees = d; lacks = more }), rw (part_of, e, t, longer_part, more) refl)
-        | false ↦ λ whole. (inl (record {
+        | false ↦ λ whole. (
+          inl (record {
             has = record { place = k; there = there; first = now; covers = covers_all there said d whole };
             nothing = λ at. rw (part_of, e, t, longer_part, whole) refl;
-          }), rw (part_of, e, t, longer_part, whole) refl)
+          }),
+          rw (part_of, e, t, longer_part, whole) refl,
+        )
       ] refl
 
   all_ready : (front new rows : List InterfaceRow) → ((name : List ℕ) → is_taken front name ≡ false → is_taken new name ≡ false) → Fit front rows
@@ -485,8 +488,8 @@ module _ {S : Type 0} (Grows : S → Growth → Result (Unit {0}) TableError →
       let fit = all_fit table [] rows h.0 in
       let k = h.1 in
       elim k.1 as (λ a. Grows before (NewRows (parts_of table rows).new_rows) a k.0
-          → MatchResult a (λ _. Lengthens Grows k.0 (parts_of table rows).longer taken after) (λ e. (taken ≡ Err (told_of_new (parts_of table rows).new_at (fault_of e))) × (after ≡ k.0))
-          → AllByRecursion (HasRow (table_of after)) rows) [
+      → MatchResult a (λ _. Lengthens Grows k.0 (parts_of table rows).longer taken after) (λ e. (taken ≡ Err (told_of_new (parts_of table rows).new_at (fault_of e))) × (after ≡ k.0))
+      → AllByRecursion (HasRow (table_of after)) rows) [
         | Ok u ↦ λ g m.
             let t : table_of k.0 ≡ table ++ (parts_of table rows).new_rows = follows before (NewRows (parts_of table rows).new_rows) u k.0 g in
             let r = all_ready table [] [] rows (λ name e. e) fit in

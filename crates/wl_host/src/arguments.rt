@@ -171,7 +171,13 @@ fn flat_argument<Id, O: Objects<Id>>(
         Argument::Str(None) => FlatArgument::of_number(kind::NULL_STRING, 0),
         Argument::Str(Some(text)) => {
             let from = text.as_bytes();
-            write_bytes(kind::STRING, from, zeros_behind_string(from.len()), bytes, at)
+            write_bytes(
+                kind::STRING,
+                from,
+                zeros_behind_string(from.len()),
+                bytes,
+                at,
+            )
         }
         Argument::Object(id) => flat_object(objects, kind::OBJECT, id),
         Argument::NewId(id) => flat_object(objects, kind::NEW_ID, id),

@@ -1,5 +1,5 @@
 -- That an object leaves its number only where both sides have given it up.
-use Rattle.std.proofs.Common.{◌≡◌, ◌≢◌, ◌⊎◌, ℕ, Bool, true, false, cond, eqb, eqb-true, List, [], ◌∷◌, ◌++◌, ◌+◌, ◌&&◌, Option, None, Some, is_some, Result, Ok, Err, MatchResult, refl, sym, ap, subst, ◌∙◌, true≢false, arith}
+use Rattle.std.proofs.Common.{◌≡◌, ◌≢◌, ◌⊎◌, ℕ, Bool, true, false, cond, eqb, eqb-true, List, [], ◌∷◌, ◌++◌, ◌+◌, ◌&&◌, Option, None, Some, is_some, Result, Ok, Err, MatchResult, refl, sym, ap, subst, ◌∙◌, true≢false}
 use mathlib.Core.Logic.{inl, inr}
 use Rattle.std.proofs.lemmas.Bool.{cases_eq}
 use Rattle.std.proofs.lemmas.Option.{same_Some}
@@ -17,12 +17,12 @@ use Rattle.wl_wire.specs.Table.{InterfaceRow, MessageRow}
 use Rattle.wl_link.proofs.Calls.Branches.{either_bool, either_option, either_result}
 use Rattle.wl_link.proofs.Ids.StoreLaws.{removed_here, removed_other, rewritten_here, rewritten_other, stored_here, stored_other}
 use Rattle.wl_link.specs.declared.object.Object.{Object}
-use Rattle.wl_link.specs.Exchange.{Queue, Sending}
+use Rattle.wl_link.specs.Exchange.{Queue}
 use Rattle.wl_link.specs.Identity.{Objects}
 use Rattle.wl_link.specs.Link.{FilledBy, LinkState, count_of, counted_answer}
 use Rattle.wl_link.specs.Puts.{lacks_memory}
-use Rattle.wl_link.specs.Reader.{CarriesOut, Gives, Handled, ReaderState, Reads, ReadsAs, Received, Turn, Unread, Verdict, stops, with_link}
-use Rattle.wl_link.specs.Store.{Store, held, is_free, is_server_number, removed, rewritten, stored}
+use Rattle.wl_link.specs.Reader.{CarriesOut, Gives, Handled, ReaderState, Reads, ReadsAs, Received, Turn, Unread, Verdict, with_link}
+use Rattle.wl_link.specs.Store.{Store, held, is_server_number, removed, rewritten, stored}
 use Rattle.wl_client.specs.declared.error.EventError.{EventError}
 use Rattle.wl_client.specs.declared.error.FlushError.{FlushError}
 use Rattle.wl_client.specs.declared.error.RequestError.{RequestError}
@@ -32,11 +32,11 @@ use Rattle.wl_client.specs.declared.event_fault.EventFault.TheVariants as wrong
 use Rattle.wl_client.specs.declared.objects.Kept.{Kept}
 use Rattle.wl_client.specs.declared.step.Step.{Step}
 use Rattle.wl_client.specs.declared.step.Step.TheVariants as step
-use Rattle.wl_client.specs.Events.{Converted, Converting, Deletes, DisplayEvent, Fails, Outcome, Unreadable, Whole, Wrong, convert, convert_one, delete_event, deleted, deleted_at, display_event, error_event, error_of, going_on, is_valid_new, made_object, object_argument, start, vacated, with_new_argument, with_new_at, with_object_argument}
-use Rattle.wl_client.specs.Finish.{FinishesEvent, Finishes, FlushEnds, SessionFlushed, after_destructor, core_finished, data_given, refusal, with_data_for, with_dead}
+use Rattle.wl_client.specs.Events.{Converted, Converting, Outcome, Unreadable, Whole, Wrong, convert, convert_one, delete_event, deleted, deleted_at, display_event, error_event, error_of, going_on, is_valid_new, made_object, object_argument, start, vacated, with_new_argument, with_new_at, with_object_argument}
+use Rattle.wl_client.specs.Finish.{Finishes, FlushEnds, SessionFlushed, after_destructor, core_finished, data_given, refusal, with_data_for, with_dead}
 use Rattle.wl_client.specs.Handling.{Breaks, Handling, HandsOut, Swallows, event_of, handling, of_converted, of_display, of_event, opened_of, row_in}
 use Rattle.wl_client.specs.Histories.{Called, Changed, Deed, Does, Grown, History}
-use Rattle.wl_client.specs.Numbers.{DeletesId, HasOrLeft, IsDelete, KeepsNumber, LeavesNumber, LeftNumber, NumberMoves, ReadsDelete, SomeTookDelete, TookDelete}
+use Rattle.wl_client.specs.Numbers.{DeletesId, HasOrLeft, IsDelete, KeepsNumber, LeavesNumber, NumberMoves, ReadsDelete, SomeTookDelete, TookDelete}
 use Rattle.wl_client.specs.ObjectId.{IdParts}
 use Rattle.wl_client.specs.Objects.{DataSet, DestroyedBy, ReclaimedBy, destroyable}
 use Rattle.wl_client.specs.Reading.{NextEvent, client, core_after, event_content, faulted, objects_in, reader_state_of, receives_allowed, starved_to}

@@ -15,10 +15,10 @@ use Rattle.wl_link.proofs.Calls.Branches.{at_true}
 use Rattle.wl_link.proofs.Ids.StoreLaws.{held_removed, held_rewritten, held_stored}
 use Rattle.wl_link.specs.declared.object.Object.{Object}
 use Rattle.wl_link.specs.Identity.{Objects, named_in}
-use Rattle.wl_link.specs.Store.{Store, held, removed, rewritten, stored}
+use Rattle.wl_link.specs.Store.{Store, held, stored}
 use Rattle.wl_client.specs.declared.objects.Kept.{Kept}
 use Rattle.wl_client.specs.declared.event_fault.EventFault.TheVariants as wrong
-use Rattle.wl_client.specs.Events.{Converted, Converting, Deletes, DisplayEvent, Fails, Outcome, Unreadable, Whole, Wrong, convert, convert_one, display_event, going_on, is_destroyed, is_valid_new, made_object, object_argument, start, deleted, deleted_at, vacated, with_made_object, with_new_argument, with_new_at, with_object_argument}
+use Rattle.wl_client.specs.Events.{Converted, Converting, Deletes, DisplayEvent, Fails, Outcome, Unreadable, Whole, Wrong, convert, convert_one, display_event, going_on, is_valid_new, made_object, object_argument, start, deleted, deleted_at, vacated, with_made_object, with_new_argument, with_new_at, with_object_argument}
 use Rattle.wl_client.specs.Handling.{Breaks, Handling, HandsOut, Swallows, event_of, handling, of_converted, of_display, of_event, opened_of, row_in}
 use Rattle.wl_client.specs.ObjectId.{IdParts}
 use Rattle.wl_client.specs.Plain.{IdsStay, IsOld, StaysAs}
@@ -84,7 +84,7 @@ module _ {U : Type 0} where
       flags is true same = refl
       flags is false true =
           subst (λ (b : Bool). MatchBool b ((Some (with_id_deleted y) ≡ Some y) ⊎ (Some (with_id_deleted y) ≡ None))
-              ((Some (with_id_deleted y) ≡ Some y) ⊎ (Some (with_id_deleted y) ≡ Some (with_id_deleted y)))) (sym is) (inr refl)
+          ((Some (with_id_deleted y) ≡ Some y) ⊎ (Some (with_id_deleted y) ≡ Some (with_id_deleted y)))) (sym is) (inr refl)
       flags is false false = refl
 
       at : (b : Bool) → y.value.client_destroyed ≡ b → StaysAs (names_at id (Some y)) (names_at id (cond b None (Some (with_id_deleted y))))
