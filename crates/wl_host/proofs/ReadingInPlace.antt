@@ -80,8 +80,11 @@ module _ {Id : Type 0} (flat : Id → FlatObjectId) (user_data : Id → ℕ) whe
       let w = whole_eights a in
       let i = in_place_from (queue_after q a) (before ++ bytes_of a) args (omega arith) (omega arith) in
       let s = append_assoc before (bytes_of a) (all_bytes args) in
-      (one_in_place q before (all_bytes args) a e (omega arith), rw (← l, ← s) i)
+      let behind = λ (all : List ℕ) (at : ℕ). AllByRecursion (IsReadInPlace all) (flat_arguments flat user_data (queue_after q a) at args) in
+      let j : behind ((before ++ bytes_of a) ++ all_bytes args) (length before + length (bytes_of a)) =
+      subst (λ (at : ℕ). behind ((before ++ bytes_of a) ++ all_bytes args) at) l i in
+      (one_in_place q before (all_bytes args) a e (omega arith), subst (λ (all : List ℕ). behind all (length before + length (bytes_of a))) s j)
 
   pub in_place : (q : Descriptors) (args : List (Argument Id Token)) → length (all_bytes args) < 2 ^ 32
       → AllByRecursion (IsReadInPlace (all_bytes args)) (flat_arguments flat user_data q 0 args)
-  in_place q args h = in_place_from q [] args refl h
+  in_place q args h = in_place_from q [] args refl (omega arith)

@@ -14,7 +14,8 @@ loop-arg-preserved g c =
     let e = c.flat_argument.ensures in
     let n = length_more (drop l.arg-index args) (drop (l.arg-index + 1) args) a d in
     let r : l.at + length (bytes_of a) ≤ length l.bytes = omega arith in
-    let b : l.at + c.length_of-at.result ≡ l.at + length (bytes_of a) = ap (λ k. l.at + k) c.length_of-at.ensures in
+    let small : c.length_of-at.result ≡ length (bytes_of a) = grind (arith, common_steps) in
+    let b : l.at + c.length_of-at.result ≡ l.at + length (bytes_of a) = ap (λ k. l.at + k) small in
     record {
       counted = omega arith;
       arguments = argument_more g.O.Objects.flat_of (g.O.Objects.data_of c.args.objects.now) l.arguments l.count c.flat_argument.result l.descriptors c.flat_argument.new.descriptors l.at (l.at + c.length_of-at.result) (drop l.arg-index args) (drop (l.arg-index + 1) args) a _ (omega arith) d e.flat e.descriptors b l.invariant.arguments;

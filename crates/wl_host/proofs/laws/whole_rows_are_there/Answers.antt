@@ -4,7 +4,8 @@ use Rattle.wl_server.specs.Backend.{IsGrowth}
 use Rattle.wl_server.specs.Globals.{Offer}
 use Rattle.wl_server.specs.Steps.{offer_after}
 use Rattle.wl_host.proofs.RowsAreThere.{no_fault, rows_are_there}
-use Rattle.wl_host.specs.Calls.{CoreState, HostGlobal, world}
+use Rattle.wl_host.specs.Calls.{CoreState, world}
+use Rattle.wl_host.specs.declared.server.HostGlobal.{HostGlobal}
 use Rattle.wl_host.specs.Client.{ClientCore}
 use Rattle.wl_host.specs.Extending.{fault_as_told}
 use Rattle.wl_host.specs.Tables.{ClientGrows}
