@@ -139,11 +139,11 @@ fn next(
     room: usize,
     most: usize,
 ) -> Result<Status, Fail> {
-    if room > 16 || most > 16 {
+    if room > 16 || most > 24 {
         return Err(Fail::new("too much room"));
     }
     let mut arguments = [NO_ARGUMENT; 16];
-    let mut bytes = [0u8; 16];
+    let mut bytes = [0u8; 24];
     let mut action = FlatAction::none();
     let status = server.next_action(
         client,
