@@ -88,7 +88,8 @@ impl<T: Drop, U: Drop> Backend<T, U> {
         ensures refused { self.new.refused ≡ self.old.refused }
     {
         if let (Some(id), Some(user_data)) = (created, user_data) {
-            // The object is still there: objects leave the map only in a reading, and there is none while the event is open.
+            // The object is still there: it leaves the map only in a reading, or after one that deletes its id, and there is none
+            // while the event is open.
             let _ = give_data(&mut self.objects, &id, user_data);
         }
     }

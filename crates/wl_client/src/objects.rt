@@ -280,9 +280,10 @@ impl<T: Drop, U: Drop> Backend<T, U> {
     /// Destroys the object that the id names, on the client's side. It is noted, if it has user data.
     ///
     /// It stands for `wayland_backend::client::Backend::destroy_object`. The object leaves the map when the server deletes its
-    /// id after that (`wl_display.delete_id`). If the server deleted it before, `reclaim` takes the object out. The error is `InvalidId` if the id names no object, or the display,
-    /// or an object that the client has destroyed before, and else `OutOfMemory` if there is no memory for the note. An
-    /// error changes nothing.
+    /// id after that (`wl_display.delete_id`). If the server deleted it before, `reclaim` takes the object out.
+    ///
+    /// The error is `InvalidId` if the id names no object, or the display, or an object that the client has destroyed before,
+    /// and else `OutOfMemory` if there is no memory for the note. An error changes nothing.
     pub fn destroy_object(&mut self, id: &ObjectId) -> Result<(), DestroyError>
         ensures call { CallsLocally self.old (step.DestroyObject id.now) (reply.DestroyObject result) self.new }
         ensures plain { DestroysObject self.old.session id.now result self.new.session }
