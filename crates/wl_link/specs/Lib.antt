@@ -1,6 +1,7 @@
 -- What a call of the object map does.
 pub mod Store
 pub mod ObjectMap
+pub mod Unused
 -- What a transport is asked and answers, and what a call of a link does.
 pub mod Exchange
 pub mod Script

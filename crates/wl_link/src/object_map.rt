@@ -6,6 +6,7 @@ ghost use Rattle.std.specs.FinMap as map;
 ghost use Rattle.wl_link.specs.declared.object.Object.{Object as ObjectOf};
 ghost use Rattle.wl_link.specs.Store.{client_range, server_range, empty_store, first_unused, held, is_free, is_vacant, removed, stored, IsWalk};
 ghost use Rattle.wl_link.specs.ObjectMap.{InsertsAt, InsertsNew, NextNew, InsertionsGive, WordsRead, Lends};
+ghost use Rattle.wl_link.specs.Unused.{NextUnused, all_numbers};
 ghost use Rattle.wl_link.specs.Inside.PlaceList.{IsPlaceOf};
 ghost use Rattle.wl_link.specs.declared.object_map.InsertError.TheVariants as insert;
 ghost use Rattle.wl_link.specs.declared.object_map.NewError.TheVariants as new;
@@ -265,6 +266,17 @@ impl<Data: Drop> ObjectMap<Data> {
             SERVER_ID_LIMIT,
             SERVER_PLACES,
         )
+    }
+
+    /// The least number of both ranges that was never in use; `None` if each was. It allocates nothing.
+    pub fn peek_unused(&self) -> Option<u32>
+        ensures next { NextUnused all_numbers self.now.store result }
+        ensures free { IfSome result (λ number. is_free self.now.store number ≡ true) }
+    {
+        match number_of(self.clients.places(), 1, CLIENT_PLACES) {
+            Some(number) => Some(number),
+            None => number_of(self.servers.places(), SERVER_ID_LIMIT, SERVER_PLACES),
+        }
     }
 
     /// How many words of the tree the last search for a number read; 0 before the first search.

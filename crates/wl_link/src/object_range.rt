@@ -64,6 +64,13 @@ impl<Data: Drop> ObjectRange<Data> {
         }
     }
 
+    /// How many places there are.
+    pub(crate) fn places(&self) -> usize
+        ensures { result ≡ length self.now.slots.items }
+    {
+        self.slots.len()
+    }
+
     /// The first place without an object, which may be the one after the last. `words_read` becomes the number of words
     /// that the search read.
     pub(crate) fn first_free(&self, words_read: &mut u32) -> usize

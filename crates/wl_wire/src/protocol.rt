@@ -49,7 +49,9 @@ impl TableError {
             TableError::ZeroInName(at) => Some((at, "a name holds a zero byte")),
             TableError::DuplicateName(at) => Some((at, "the name is taken")),
             TableError::UnknownInterface(at) => {
-                Some((at, "a message names an interface outside the table"))
+                let text =
+                    "a message names an interface outside the table, or this one takes no more messages";
+                Some((at, text))
             }
             TableError::TooManyNewIds(at) => Some((at, "a message has more than one new id")),
             TableError::MissingChild(at) => {
