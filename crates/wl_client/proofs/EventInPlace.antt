@@ -1,7 +1,8 @@
 -- A message that is handled in place is handled as any other.
 use Rattle.std.proofs.Common.{◌≡◌, ◌≢◌, ◌≤◌, ◌∙◌, ◌+◌, ◌-◌, ◌++◌, ℕ, arith, ◌==◌, Bool, cond, false, List, [], ◌∷◌, append-nil, append_assoc, drop, take, length, Option, None, Some, is_some, option_map, Ok, MatchOption, refl, sym, ap, ap₂, subst, true≢false}
+use Rattle.std.proofs.Math.Path.{subst₂}
 use mathlib.Core.Logic.{inr}
-use Rattle.std.proofs.lemmas.Bool.{le-leb, ne_eqb}
+use Rattle.std.proofs.lemmas.Bool.{eq-eqb, le-leb, ne_eqb}
 use Rattle.std.proofs.lemmas.List.{length-drop, take-append-drop, take_all}
 use Rattle.std.specs.Int.{w32, cast_signed}
 use Rattle.std.specs.Prelude.{IfSome, fold}
@@ -21,14 +22,16 @@ use Rattle.wl_link.specs.Link.{LinkState, after_first, with_incoming}
 use Rattle.wl_link.specs.Store.{Store, held}
 use Rattle.wl_client.specs.declared.event.OpenEvent.{OpenEvent}
 use Rattle.wl_client.specs.declared.objects.Kept.{Kept}
-use Rattle.wl_client.specs.Events.{Converted, Converting, Whole, convert, convert_one, going_on, start, deleted}
-use Rattle.wl_client.specs.Handling.{Handling, HandsOut, handling, row_in}
+use Rattle.wl_client.specs.Events.{Converted, Converting, Whole, convert, convert_one, going_on, start, deleted, display_event}
+use Rattle.wl_client.specs.Freeing.{deleted_number, destroyed_at, destroyed_id, first_new_id, freed_as, freed_by, frees, with_freed}
+use Rattle.wl_client.specs.Handling.{Handling, HandsOut, handling_by, is_passed_over, row_in, signature_in}
 use Rattle.wl_client.specs.ObjectId.{IdParts}
 use Rattle.wl_client.specs.Reading.{with_link}
 use Rattle.wl_client.specs.Requests.{SessionMessage, session_content}
 use Rattle.wl_client.specs.Session.{SessionState, id_at, objects_of}
 use Rattle.wl_client.specs.Inside.EventInPlace.{DeleteWaits, NumbersAre, NumbersWait, number_argument}
-use Rattle.wl_client.specs.Inside.ReadingLoop.{GaveEvent, HandledTo, HandlesMessage, ReadsIn, WentOn}
+use Rattle.wl_client.specs.Inside.ReadingLoop.{GaveEvent, HandledOf, HandledTo, HandlesMessage, ReadsIn, WentOn}
+use Rattle.wl_client.proofs.Handling.{known_freed, known_handled, known_signature}
 
 abbrev one_uint : List ArgumentType
 one_uint = kind.Uint ∷ []
@@ -63,25 +66,44 @@ module _ {T U : Type 0} (table : List InterfaceRow) (store : Store (Kept U)) (li
   abbrev message : ℕ → WireMessage
   message n = record { sender = 1; opcode = 1; args = arg.Uint n ∷ [] }
 
-  pub reads : (n : ℕ) → sender_of bytes ≡ 1 → DeleteWaits table store link n → ReadsIn table store link (Ok (message n)) (taken link)
-  reads n display waits =
+  pub reads : (passes : Bool) (n : ℕ) → sender_of bytes ≡ 1 → DeleteWaits table store link n → ReadsIn passes table store link (Ok (message n)) (taken link)
+  reads passes n display waits =
       rw (le-leb 8 (length bytes) waits.whole.header) (
         Some one_uint,
-        sym waits.signature,
+        sym (known_signature passes table store (sender_of bytes) (opcode_of bytes) one_uint waits.signature),
         (record { whole = waits.whole; sender = sym display; opcode = sym waits.opcode; args = one_word bytes link.incoming.tokens n waits.word }, refl),
       )
 
+-- where there is a signature, there is a row
+has_row : (r : Option MessageRow) (signature : List ArgumentType) → option_map (λ row. row.signature) r ≡ Some signature → (row : MessageRow) × (r ≡ Some row)
+has_row None signature is = absurd (true≢false (ap is_some (sym is)))
+has_row (Some row) signature is = (row, refl)
+
 -- the message was taken, and the id was deleted
-pub deleted_in_place : {T U : Type 0} (s : SessionState T U) (link : LinkState T) (store : Store (Kept U)) (n : ℕ) → sender_of s.link.incoming.bytes ≡ 1
-    → DeleteWaits s.table s.store s.link n → link ≡ taken s.link → store ≡ deleted s.store n
-    → HandlesMessage s WentOn (record s { link = link; store = store })
-deleted_in_place {T} {U} s link store n display waits taken_is deleted_is =
+pub deleted_in_place : {T U : Type 0} (s : SessionState T U) (link : LinkState T) (store : Store (Kept U)) (kept keeps : Bool) (before freed : List IdParts) (n : ℕ)
+    → sender_of s.link.incoming.bytes ≡ 1 → DeleteWaits s.table s.store s.link n → (kept ≡ s.keeps_freed) × (before ≡ s.freed) → link ≡ taken s.link
+    → store ≡ deleted s.store n → keeps ≡ kept → freed ≡ with_freed kept before (destroyed_id n (held s.store n))
+    → HandlesMessage s WentOn (record s { link = link; store = store; keeps_freed = keeps; freed = freed })
+deleted_in_place {T} {U} s link store kept keeps before freed n display waits stays taken_is deleted_is keeps_is freed_is =
+    let m : WireMessage = message s.table s.store s.link n in
+    let after : SessionState T U = record s { link = link; store = store; keeps_freed = keeps; freed = freed } in
+    let has : signature_in s.table s.store 1 1 ≡ Some one_uint
+    = ap₂ (λ (k opcode : ℕ). signature_in s.table s.store k opcode) (sym display) (sym waits.opcode) ∙ waits.signature in
+    let (row, is) = has_row (row_in s.table (held s.store 1) 1) one_uint has in
     inr (
-      message s.table s.store s.link n,
+      m,
       taken s.link,
-      reads s.table s.store s.link n display waits,
-      ap₂ (λ (l : LinkState T) (x : Store (Kept U)). let after : SessionState T U = record s { link = l; store = x } in after) taken_is deleted_is,
+      reads s.table s.store s.link s.passes_over n display waits,
+      subst₂ (λ (id : Option IdParts) (h : Handling U). HandledTo (frees (with_link s (taken s.link)) id) h WentOn after)
+          (sym (known_freed s.passes_over s.table (objects_of s) m row is)) (sym (known_handled s.passes_over s.table (objects_of s) m row is))
+          (λ i. let now : SessionState T U = record s { link = taken_is i; store = deleted_is i; keeps_freed = kept_is i; freed = told i } in now),
     )
+  where
+    kept_is : keeps ≡ s.keeps_freed
+    kept_is = keeps_is ∙ stays.0
+
+    told : freed ≡ with_freed s.keeps_freed s.freed (destroyed_id n (held s.store n))
+    told = freed_is ∙ ap₂ (λ (b : Bool) (ids : List IdParts). with_freed b ids (destroyed_id n (held s.store n))) stays.0 stays.1
 
 -- ---- an event whose arguments are numbers
 
@@ -179,11 +201,11 @@ module _ {T U : Type 0} (s : SessionState T U) (m : SessionMessage) (opened : Op
   row_is = ap (λ o. row_in s.table o (opcode_of front)) waits.holds ∙ waits.has
 
   numbers_read : (args : List WireArgument) → BecomeAll U waits.row.signature waits.values (payload_of front) s.link.incoming.tokens args
-      → ReadsIn s.table s.store s.link (Ok (event_message args)) (taken s.link)
+      → ReadsIn s.passes_over s.table s.store s.link (Ok (event_message args)) (taken s.link)
   numbers_read args all =
       rw (le-leb 8 (length front) waits.whole.header) (
         Some waits.row.signature,
-        sym (ap (option_map (λ r. r.signature)) row_is),
+        sym (known_signature s.passes_over s.table s.store (sender_of front) (opcode_of front) waits.row.signature (ap (option_map (λ r. r.signature)) row_is)),
         (
           record { whole = waits.whole; sender = refl; opcode = refl; args = all.reads },
           ap (with_incoming s.link s.link.transport) (no_tokens waits.row.signature s.link.incoming all.none),
@@ -192,8 +214,20 @@ module _ {T U : Type 0} (s : SessionState T U) (m : SessionMessage) (opened : Op
 
   is_handled : (args : List WireArgument) → (sender_of front == 1) ≡ false
       → convert waits.receiver.version false (start (objects_of s) waits.row) [] args ≡ Whole (start (objects_of s) waits.row) waits.values
-      → handling s.table (objects_of s) (event_message args) ≡ HandsOut given opens (objects_of s)
-  is_handled args other converts = rw (other, waits.holds, waits.has, waits.live, converts) refl
+      → handling_by s.passes_over s.table (objects_of s) (event_message args) ≡ HandsOut given opens (objects_of s)
+  is_handled args other converts =
+      known_handled s.passes_over s.table (objects_of s) (event_message args) waits.row row_is
+      ∙ rw (other, waits.holds, waits.has, waits.live, converts) refl
+
+  -- no object leaves its number
+  none_freed : (args : List WireArgument) → sender_of front ≢ 1
+      → freed_as s.passes_over s.table (objects_of s) (event_message args) (HandsOut given opens (objects_of s)) ≡ None
+  none_freed args other =
+      ap (λ (r : Option MessageRow). cond (is_passed_over s.passes_over (held s.store (sender_of front)) r) None
+      (freed_by (objects_of s) (event_message args) (objects_of s))) row_is ∙
+      ap (λ (b : Bool). cond b (destroyed_at s.store (deleted_number (display_event (opcode_of front) args)))
+      (cond (s.last_serial == s.last_serial) None (destroyed_at s.store (first_new_id args)))) (ne_eqb (sender_of front) 1 other)
+      ∙ ap (λ (b : Bool). cond b None (destroyed_at s.store (first_new_id args))) (eq-eqb s.last_serial s.last_serial refl)
 
   -- the message was taken, and the event was handed out
   pub numbers_handled : (event : Message IdParts Token) (link : LinkState T) → sender_of front ≢ 1 → session_content event ≡ m → link ≡ taken s.link
@@ -206,7 +240,8 @@ module _ {T U : Type 0} (s : SessionState T U) (m : SessionMessage) (opened : Op
         event_message all.0,
         taken s.link,
         numbers_read all.0 all.1,
-        subst (λ (h : Handling U). HandledTo (with_link s (taken s.link)) h (GaveEvent event) after)
+        subst (λ (h : Handling U). HandledOf (with_link s (taken s.link)) (event_message all.0) h (GaveEvent event) after)
             (sym (is_handled all.0 (ne_eqb (sender_of front) 1 other) (all.1.converts waits.receiver.version (start (objects_of s) waits.row) [])))
-            (content ∙ waits.is, ap₂ over is waits.opens),
+            (subst (λ (id : Option IdParts). HandledTo (frees (with_link s (taken s.link)) id) (HandsOut given opens (objects_of s)) (GaveEvent event) after)
+            (sym (none_freed all.0 other)) (content ∙ waits.is, ap₂ over is waits.opens)),
       )

@@ -11,4 +11,6 @@ pub mod NewIds
 pub mod Readings
 mod Flushing
 mod EventInPlace
+pub mod Freeing
+mod Taking
 mod Rows

@@ -10,3 +10,4 @@ pub mod AccountLaws
 pub mod ScriptedLaws
 pub mod HeardLaws
 pub mod NumberLaws
+pub mod FreedLaws

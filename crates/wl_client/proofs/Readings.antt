@@ -10,7 +10,8 @@ use Rattle.wl_wire.specs.declared.error.MessageParseError.{MessageParseError}
 use Rattle.wl_wire.specs.declared.error.MessageParseError.TheVariants as parse
 use Rattle.wl_wire.specs.declared.message.Message.{Message}
 use Rattle.wl_wire.specs.Message.{WireMessage}
-use Rattle.wl_wire.specs.Parse.{length_of}
+use Rattle.wl_wire.specs.Parse.{length_of, opcode_of, sender_of}
+use Rattle.wl_wire.specs.Table.{MessageRow}
 use Rattle.wl_link.specs.Exchange.{Queue}
 use Rattle.wl_link.specs.Link.{LinkState, Filled, FindsRoom, ReadFound, grown_capacity}
 use Rattle.wl_link.specs.Puts.{lacks_memory}
@@ -25,11 +26,13 @@ use Rattle.wl_client.specs.declared.error.WaylandError.{WaylandError}
 use Rattle.wl_client.specs.declared.event.OpenEvent.{OpenEvent}
 use Rattle.wl_client.specs.declared.message.NoEvent.{NoEvent}
 use Rattle.wl_client.specs.ObjectId.{IdParts}
-use Rattle.wl_client.specs.Handling.{Handling, Swallows, HandsOut, Breaks, handling}
+use Rattle.wl_client.specs.Freeing.{freed_asks}
+use Rattle.wl_client.specs.Handling.{Handling, Swallows, HandsOut, Breaks, handling_by}
 use Rattle.wl_client.specs.Reading.{NextEvent, Lacks, ReadsAs, ReadsTo, answered, by_fault, client, faulted, handed_by, reader_state_of, reads_on, receives_allowed, row_asks, verdict, with_link}
 use Rattle.wl_client.specs.Requests.{SessionMessage, session_content}
 use Rattle.wl_client.specs.Session.{Core, SessionState, core_of, objects_of}
-use Rattle.wl_client.specs.Inside.ReadingLoop.{MessageResult, GaveEvent, WentOn, LacksMore, Ended, EndsAs, HandledTo, ReadSoFar, Live, NotTaken, ReceivedTo, HandlesMessage, event_answer, event_refused, malformed}
+use Rattle.wl_client.proofs.Handling.{known_signature}
+use Rattle.wl_client.specs.Inside.ReadingLoop.{MessageResult, GaveEvent, WentOn, LacksMore, Ended, EndsAs, HandledOf, HandledTo, ReadSoFar, Live, NotTaken, ReceivedTo, HandlesMessage, event_answer, event_refused, freed_session, malformed}
 
 abbrev ok_answer : WireMessage → Result WireMessage MessageParseError
 ok_answer m = Ok m
@@ -126,11 +129,12 @@ module _ {T U : Type 0} where
   module _ (sends : T → Queue → Result ℕ IoFault → T → Type 0) (receives : T → ℕ → Result Queue IoFault → T → Type 0) where
     -- a message that was taken and handled
     took : (before after : SessionState T U) (m : WireMessage) (link : LinkState T) (message_result : MessageResult) → ReadsAs before (Ok m) link
-        → HandledTo (with_link before link) (handling before.table (objects_of before) m) message_result after
+        → HandledOf (with_link before link) m (handling_by before.passes_over before.table (objects_of before) m) message_result after
         → Handles sends client (reader_state_of before) (given_by message_result) (refused_by message_result) (reader_state_of after)
     took before after m link message_result read h =
-        let came : Handling U = handling before.table (objects_of before) m in
-        (verdict (core_of before) came, link, [], inl (m, read, refl), carried sends (with_link before link) came message_result after h)
+        let came : Handling U = handling_by before.passes_over before.table (objects_of before) m in
+        let told : SessionState T U = freed_session (with_link before link) m came in
+        (verdict (core_of told) came, link, [], inl (m, read, refl), carried sends told came message_result after h)
 
     left_there : (before after : SessionState T U) (message_result : MessageResult) → ReadsAs before (Err parse.Malformed) before.link → HandledTo before (malformed before) message_result after
         → Handles sends client (reader_state_of before) (given_by message_result) (refused_by message_result) (reader_state_of after)
@@ -146,7 +150,7 @@ module _ {T U : Type 0} where
     pub on_more : (start before after : SessionState T U) → Live before → ReadSoFar sends receives start before → HandlesMessage before WentOn after → Live after × ReadSoFar sends receives start after
     on_more start before after live leads (inl impossible) = absurd impossible
     on_more start before after live leads (inr (m, link, read, h)) = (
-      lives (with_link before link) after (handling before.table (objects_of before) m) live h,
+      lives (freed_session (with_link before link) m (handling_by before.passes_over before.table (objects_of before) m)) after (handling_by before.passes_over before.table (objects_of before) m) live h,
       then start before after [] false leads live (took before after m link WentOn read h),
     )
 
@@ -160,7 +164,7 @@ module _ {T U : Type 0} where
           lacked = false;
           stopped = None;
           short = false;
-          ends = ends_there sends receives client (reader_state_of start) (reader_state_of after) gave false on (opens (with_link before link) after (handling before.table (objects_of before) m) e h);
+          ends = ends_there sends receives client (reader_state_of start) (reader_state_of after) gave false on (opens (freed_session (with_link before link) m (handling_by before.passes_over before.table (objects_of before) m)) after (handling_by before.passes_over before.table (objects_of before) m) e h);
           answer_is = refl;
           refused_is = refl;
         }
@@ -182,7 +186,8 @@ module _ {T U : Type 0} where
     pub end_ends : (start before after : SessionState T U) (end : NoEvent) → Live before → ReadSoFar sends receives start before → HandlesMessage before (Ended end) after
         → EndsAs sends receives start (Err end) after
     end_ends start before after end live leads (inr (m, link, read, h)) =
-        stored start before after end live leads (took before after m link (Ended end) read h) (fails (with_link before link) after (handling before.table (objects_of before) m) end h)
+        stored start before after end live leads (took before after m link (Ended end) read h)
+        (fails (freed_session (with_link before link) m (handling_by before.passes_over before.table (objects_of before) m)) after (handling_by before.passes_over before.table (objects_of before) m) end h)
     end_ends start before after end live leads (inl (inl (read, h))) =
         stored start before after end live leads (left_there before after (Ended end) read h) (fails before after (malformed before) end h)
     end_ends start before after end live leads (inl (inr (is, asks, same))) =
@@ -199,14 +204,20 @@ module _ {T U : Type 0} where
         asked : NotTaken before parse.OutOfMemory → FrontAsks sends client (reader_state_of before)
         asked (inl read) = inr read
         asked (inr (same, (row, front, asks, there))) =
-            inl (ap row_asks front ∙ asks, (row.signature, ap (option_map (λ r. r.signature)) front, there))
+            let sender = sender_of before.link.incoming.bytes in
+            let opcode = opcode_of before.link.incoming.bytes in
+            let signed = known_signature before.passes_over before.table before.store sender opcode row.signature (ap (option_map (λ r. r.signature)) front) in
+            inl (
+              ap (λ (o : Option MessageRow). row_asks o || freed_asks before.keeps_freed sender opcode) front ∙ asks,
+              (row.signature, signed, there),
+            )
 
     pub shorter : (before after : SessionState T U) → HandlesMessage before WentOn after → length after.link.incoming.bytes < length before.link.incoming.bytes
     shorter before after (inl impossible) = absurd impossible
     shorter before after (inr (m, link, read, h)) =
-        subst (λ (l : LinkState T). length l.incoming.bytes < length before.link.incoming.bytes) (sym (link_is (handling before.table (objects_of before) m) h)) (shorter_at _ _ before.link m link read)
+        subst (λ (l : LinkState T). length l.incoming.bytes < length before.link.incoming.bytes) (sym (link_is (handling_by before.passes_over before.table (objects_of before) m) h)) (shorter_at _ _ before.link m link read)
       where
-        link_is : (h : Handling U) → HandledTo (with_link before link) h WentOn after → after.link ≡ link
+        link_is : (h : Handling U) → HandledOf (with_link before link) m h WentOn after → after.link ≡ link
         link_is (Swallows o) same = ap (λ (x : SessionState T U). x.link) same
         link_is (HandsOut m' event o) f = absurd f
         link_is (Breaks e o) f = absurd f
@@ -215,9 +226,9 @@ module _ {T U : Type 0} where
         → Live after × Lacks after × ReadSoFar sends receives start after
     lacks_waits start before after live leads (inl (lacks, same)) =
         subst (λ (s : SessionState T U). Live s × Lacks s × ReadSoFar sends receives start s) (sym same) (live, lacks, leads)
-    lacks_waits start before after live leads (inr (m, link, read, h)) = absurd (nothing (handling before.table (objects_of before) m) h)
+    lacks_waits start before after live leads (inr (m, link, read, h)) = absurd (nothing (handling_by before.passes_over before.table (objects_of before) m) h)
       where
-        nothing : (h : Handling U) → HandledTo (with_link before link) h LacksMore after → ⊥
+        nothing : (h : Handling U) → HandledOf (with_link before link) m h LacksMore after → ⊥
         nothing (Swallows o) f = f
         nothing (HandsOut m event o) f = f
         nothing (Breaks e o) f = f

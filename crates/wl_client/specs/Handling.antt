@@ -1,7 +1,7 @@
 -- How a message is handled: it does nothing more, or is an event to hand out, or ends the session.
 --
 -- This is a function of the table, the objects and the message, and says what the objects are after it.
-use Rattle.std.specs.Prelude.{ℕ, List, [], ◌∷◌, ◌==◌, if◌then◌else◌, Option, None, Some, option_map}
+use Rattle.std.specs.Prelude.{ℕ, List, [], ◌∷◌, Bool, false, ◌&&◌, ◌==◌, if◌then◌else◌, Option, None, Some, is_none, option_map}
 use Rattle.wl_wire.specs.declared.argument.Argument.{Argument}
 use Rattle.wl_wire.specs.declared.argument.ArgumentType.{ArgumentType}
 use Rattle.wl_wire.specs.declared.argument.Token.{Token}
@@ -19,7 +19,7 @@ use Rattle.wl_client.specs.declared.event.OpenEvent.{OpenEvent}
 use Rattle.wl_client.specs.ObjectId.{IdParts}
 use Rattle.wl_client.specs.Events.{Outcome, Whole, Wrong, convert, start, error_of, DisplayEvent, Fails, Deletes, Unreadable, display_event, told_error, deleted}
 use Rattle.wl_client.specs.Requests.{SessionMessage}
-use Rattle.wl_client.specs.Session.{id_at}
+use Rattle.wl_client.specs.Session.{alive, id_at}
 
 -- ---- what the table says of an event
 
@@ -30,6 +30,19 @@ module _ {U : Type 0} where
 
   abbrev pub signature_in : List InterfaceRow → Store (Kept U) → ℕ → ℕ → Option (List ArgumentType)
   signature_in table store sender opcode = option_map (λ row. row.signature) (row_in table (held store sender) opcode)
+
+  -- A session that passes over messages of unknown senders passes over one for which the table has no event, if its number
+  -- holds no object, or one that the client destroyed.
+  abbrev pub is_passed_over : Bool → Option (Object (Kept U)) → Option MessageRow → Bool
+  is_passed_over passes sender (Some row) = false
+  is_passed_over passes sender None = passes && is_none (alive sender)
+
+  -- The signature by which a message is read. One that is passed over has an empty one: nothing is known of its arguments, which
+  -- stay unread, and it takes no token. Any other has that of the table.
+  abbrev pub signature_by : Bool → List InterfaceRow → Store (Kept U) → ℕ → ℕ → Option (List ArgumentType)
+  signature_by passes table store sender opcode =
+      if is_passed_over passes (held store sender) (row_in table (held store sender) opcode) then Some []
+      else signature_in table store sender opcode
 
   -- the event at the front of the bytes, if the number there holds an object that has it
   abbrev pub front_row : List InterfaceRow → Store (Kept U) → List ℕ → Option MessageRow
@@ -74,6 +87,19 @@ module _ {U : Type 0} (table : List InterfaceRow) (objects : Objects (Kept U)) w
   handling m =
       if m.sender == 1 then of_display (display_event m.opcode m.args)
       else of_event m (held objects.store m.sender) (row_in table (held objects.store m.sender) m.opcode)
+
+module _ {U : Type 0} where
+  -- a message that is passed over does nothing; any other is handled
+  abbrev pub handling_by : Bool → List InterfaceRow → Objects (Kept U) → WireMessage → Handling U
+  handling_by passes table objects m =
+      if is_passed_over passes (held objects.store m.sender) (row_in table (held objects.store m.sender) m.opcode) then Swallows objects
+      else handling table objects m
+
+-- the objects after it
+abbrev pub objects_after : {U : Type 0} → Handling U → Objects (Kept U)
+objects_after (Swallows objects) = objects
+objects_after (HandsOut m event objects) = objects
+objects_after (Breaks e objects) = objects
 
 -- what is handed out
 abbrev pub handed : {U : Type 0} → Handling U → List SessionMessage

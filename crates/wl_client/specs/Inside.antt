@@ -3,3 +3,4 @@ pub mod Sending
 pub mod Conversion
 pub mod ReadingLoop
 pub mod EventInPlace
+pub mod Freed

@@ -3,9 +3,11 @@ pub mod ObjectId
 pub mod Session
 pub mod Lending
 pub mod Objects
+pub mod ByNumber
 pub mod Requests
 pub mod Events
 pub mod Handling
+pub mod Freeing
 pub mod Reading
 pub mod Finish
 pub mod Plain
@@ -24,6 +26,7 @@ pub mod Cutting
 pub mod Stretches
 pub mod Heard
 pub mod Numbers
+pub mod Freed
 pub mod Accounts
 -- What only the functions inside promise each other.
 pub mod Inside

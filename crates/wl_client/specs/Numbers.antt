@@ -1,6 +1,6 @@
--- When the number of an object is free again: both sides have given the object up. The client has destroyed it, and the server
--- has deleted its id. That is said of the numbers of the client's range, which requests take. Those of the server's range the
--- server uses again as it likes.
+-- When the number of an object is free again: not before both sides have given the object up. The client has destroyed it, or an
+-- event did; and the server has deleted its id. That is said of the numbers of the client's range, which requests take. Those of
+-- the server's range the server uses again without a `delete_id`, once the client has destroyed the object.
 use Rattle.std.specs.Prelude.{◌≡◌, ℕ, ◌⊎◌, List, [], ◌∷◌, ◌++◌, true, false, None, Some, Result, Ok, MatchOption}
 use Rattle.wl_wire.specs.declared.argument.Argument.TheVariants as arg
 use Rattle.wl_wire.specs.declared.error.IoFault.{IoFault}
@@ -73,8 +73,8 @@ module _ {T U : Type 0} (sends : T → Queue → Result ℕ IoFault → T → Ty
 
   -- ---- over a history
 
-  -- the deed of a history in which the object leaves its number
-  pub record LeftNumber (n : ℕ) (x : Object (Kept U)) (begins : SessionState T U) (deeds : List (Deed T U)) : Type 0 where
+  -- the deed of a history in which the object leaves its number; the deeds before it lead there, and the later ones on
+  pub record LeftNumber (n : ℕ) (x : Object (Kept U)) (begins : SessionState T U) (deeds : List (Deed T U)) (ends : SessionState T U) : Type 0 where
     pub earlier : List (Deed T U)
     pub deed : Deed T U
     pub later : List (Deed T U)
@@ -83,6 +83,7 @@ module _ {T U : Type 0} (sends : T → Queue → Result ℕ IoFault → T → Ty
     pub after : SessionState T U
     pub leads : History (CallOf sends receives) begins earlier before
     pub does : Does (CallOf sends receives) before deed after
+    pub goes_on : History (CallOf sends receives) after later ends
     pub object : Object (Kept U)
     pub holds : held before.store n ≡ Some object
     pub same : object.value.serial ≡ x.value.serial
@@ -91,4 +92,4 @@ module _ {T U : Type 0} (sends : T → Queue → Result ℕ IoFault → T → Ty
   -- the object still has its number after the history, or it left it in one of the deeds
   abbrev pub HasOrLeft : ℕ → Object (Kept U) → SessionState T U → List (Deed T U) → SessionState T U → Type 0
   HasOrLeft n x begins deeds ends =
-      ((y : Object (Kept U)) × (held ends.store n ≡ Some y) × (y.value.serial ≡ x.value.serial)) ⊎ LeftNumber n x begins deeds
+      ((y : Object (Kept U)) × (held ends.store n ≡ Some y) × (y.value.serial ≡ x.value.serial)) ⊎ LeftNumber n x begins deeds ends

@@ -5,7 +5,7 @@ use Rattle.wl_client.specs.Histories.{Called, Changed, Deed, Grown}
 use Rattle.wl_client.specs.Replies.{SameReply}
 
 module _ {T U : Type 0} where
-  -- The same calls were made, the transport became the same by the same changes, and the same interfaces were to be added.
+  -- The same calls were made, the transport became the same by the same changes, and the table was asked to take the same.
   -- Memory was not refused in any of them.
   abbrev pub SameDeeds : List (Deed T U) → List (Deed T U) → Type 0
   SameDeeds [] [] = Unit {0}
@@ -15,7 +15,7 @@ module _ {T U : Type 0} where
       (rows ≡ rows') × (refused_growth p ≡ false) × (refused_growth q ≡ false) × SameDeeds deeds others
   SameDeeds _ _ = ⊥
 
-  -- the calls had the same replies, and the interfaces the same answers
+  -- the calls had the same replies, and the growths of the table the same answers
   abbrev pub SameAnswers : List (Deed T U) → List (Deed T U) → Type 0
   SameAnswers [] [] = Unit {0}
   SameAnswers (Called e ∷ deeds) (Called f ∷ others) = SameReply e.answer f.answer × SameAnswers deeds others

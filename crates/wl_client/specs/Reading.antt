@@ -25,7 +25,8 @@ use Rattle.wl_client.specs.declared.event.OpenEvent.{OpenEvent}
 use Rattle.wl_client.specs.ObjectId.{IdParts}
 use Rattle.wl_client.specs.Events.{error_of}
 use Rattle.wl_client.specs.Finish.{core_finished, refusal}
-use Rattle.wl_client.specs.Handling.{Handling, Swallows, HandsOut, Breaks, handed, handling, row_in, signature_in}
+use Rattle.wl_client.specs.Freeing.{freed_as, freed_asks, freeing}
+use Rattle.wl_client.specs.Handling.{Handling, Swallows, HandsOut, Breaks, handed, handling_by, row_in, signature_by}
 use Rattle.wl_client.specs.Requests.{SessionMessage, session_content}
 use Rattle.wl_client.specs.Session.{Core, SessionState, alive, core_of, named}
 
@@ -81,6 +82,13 @@ module _ {U : Type 0} where
     events = λ d. handed h;
   }
 
+  -- the object that leaves its number in the handling of this message is told, if that is wanted
+  abbrev pub freed_core : Core U → WireMessage → Handling U → Core U
+  freed_core c m h = freeing c (freed_as c.passes_over c.table (objects_in c) m h)
+
+  abbrev pub verdict_of : Core U → WireMessage → Handling U → Verdict (Core U) SessionMessage
+  verdict_of c m h = verdict (freed_core c m h) h
+
   -- ---- a finish
 
   abbrev pub has_data : Option (Object (Kept U)) → Bool
@@ -119,9 +127,9 @@ module _ {U : Type 0} where
   abbrev pub client : Reader (Core U) SessionMessage (Option U)
   client = record {
     reads_on = reads_on;
-    signature = λ c sender opcode. signature_in c.table c.store sender opcode;
-    asks = λ c sender opcode. row_asks (row_in c.table (held c.store sender) opcode);
-    handles = λ c m. verdict c (handling c.table (objects_in c) m);
+    signature = λ c sender opcode. signature_by c.passes_over c.table c.store sender opcode;
+    asks = λ c sender opcode. row_asks (row_in c.table (held c.store sender) opcode) || freed_asks c.keeps_freed sender opcode;
+    handles = λ c m. verdict_of c m (handling_by c.passes_over c.table (objects_in c) m);
     malformed = λ c. verdict c (Breaks (error_of c.table wrong.Malformed) (objects_in c));
     takes = λ c u. finish c c.error c.open_event u;
     broken = λ c f. fails_by c (Io f);
@@ -163,7 +171,7 @@ module _ {T U : Type 0} where
 
   -- what a read of the message at the front answers, and the link after it
   abbrev pub ReadsAs : SessionState T U → Result WireMessage MessageParseError → LinkState T → Type 0
-  ReadsAs s answer link = ReadOne (λ sender opcode found. found ≡ signature_in s.table s.store sender opcode) s.link answer link
+  ReadsAs s answer link = ReadOne (λ sender opcode found. found ≡ signature_by s.passes_over s.table s.store sender opcode) s.link answer link
 
   -- of the message at the front bytes or tokens are lacking
   abbrev pub Lacks : SessionState T U → Type 0

@@ -14,7 +14,8 @@ use Rattle.wl_client.specs.declared.event.OpenEvent.{OpenEvent}
 use Rattle.wl_client.specs.ObjectId.{IdParts}
 
 -- the table, the link to the server, the kept objects, the last serial given out, the error that ended the session,
--- the event that was handed out and not finished yet, and the notes that were not taken yet
+-- the event that was handed out and not finished yet, the notes that were not taken yet, and whether messages of unknown
+-- senders are passed over; whether the ids of objects that leave their numbers are kept, and those that were not taken yet
 pub record SessionState (T U : Type 0) : Type 0 where
   pub table : List InterfaceRow
   pub link : LinkState T
@@ -23,6 +24,9 @@ pub record SessionState (T U : Type 0) : Type 0 where
   pub error : Option WaylandError
   pub open_event : Option OpenEvent
   pub notes : List Note
+  pub passes_over : Bool
+  pub keeps_freed : Bool
+  pub freed : List IdParts
 
 -- what contracts see of a client: its session, and whether memory was refused in its last call
 pub record ClientState (T U : Type 0) : Type 0 where
@@ -37,6 +41,9 @@ pub record Core (U : Type 0) : Type 0 where
   pub error : Option WaylandError
   pub open_event : Option OpenEvent
   pub notes : List Note
+  pub passes_over : Bool
+  pub keeps_freed : Bool
+  pub freed : List IdParts
 
 -- the greatest serial
 abbrev pub last_possible_serial : ℕ
@@ -132,6 +139,9 @@ module _ {T U : Type 0} where
     error = s.error;
     open_event = s.open_event;
     notes = s.notes;
+    passes_over = s.passes_over;
+    keeps_freed = s.keeps_freed;
+    freed = s.freed;
   }
 
   -- the session with another core, over the same link
@@ -144,6 +154,9 @@ module _ {T U : Type 0} where
     error = c.error;
     open_event = c.open_event;
     notes = c.notes;
+    passes_over = c.passes_over;
+    keeps_freed = c.keeps_freed;
+    freed = c.freed;
   }
 
   -- the kept objects and the last serial
@@ -173,4 +186,7 @@ module _ {T U : Type 0} where
         error = None;
         open_event = None;
         notes = [];
+        passes_over = false;
+        keeps_freed = false;
+        freed = [];
       })

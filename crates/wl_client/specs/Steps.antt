@@ -25,6 +25,7 @@ use Rattle.wl_client.specs.declared.step.Step.TheVariants as step
 use Rattle.wl_client.specs.declared.step.Reply.{Reply}
 use Rattle.wl_client.specs.declared.step.Reply.TheVariants as reply
 use Rattle.wl_client.specs.Finish.{Finishes, SessionFlushed}
+use Rattle.wl_client.specs.Freeing.{HandsFreed, kept_freed}
 use Rattle.wl_client.specs.Objects.{DataSet, DestroyedBy, ReclaimedBy}
 use Rattle.wl_client.specs.Reading.{NextEvent, event_content}
 use Rattle.wl_client.specs.Requests.{Requested, session_content}
@@ -106,8 +107,13 @@ module _ {T U : Type 0} where
   LocalCall before (step.SetMaxBufferSize limit) answer refused after =
       (answer ≡ reply.SetMaxBufferSize) × (refused ≡ false)
       × ((link : LinkState T) × LimitSet before.link limit link × (after ≡ record before { link = link }))
+  LocalCall before (step.PassOverUnknownSenders passes) answer refused after =
+      (answer ≡ reply.PassOverUnknownSenders) × (refused ≡ false) × (after ≡ record before { passes_over = passes })
   LocalCall before step.TakeNotes answer refused after =
       (notes : _) × (answer ≡ reply.TakeNotes notes) × (refused ≡ false) × (notes.items ≡ before.notes) × (after ≡ record before { notes = [] })
+  LocalCall before (step.KeepFreed keeps) answer refused after = (answer ≡ reply.KeepFreed) × (refused ≡ false) × (after ≡ kept_freed before keeps)
+  LocalCall before step.NextFreed answer refused after =
+      (id : _) × (answer ≡ reply.NextFreed id) × (refused ≡ false) × HandsFreed before.freed before id after
   LocalCall before _ answer refused after = ⊥
 
 module _ {T U : Type 0} (sends : T → Queue → Result ℕ IoFault → T → Type 0) (receives : T → ℕ → Result Queue IoFault → T → Type 0) where

@@ -7,7 +7,7 @@ ghost use Rattle.wl_wire.specs.Table.{AnswersExtension, AnswersGrowth, IsAccepte
 ghost use Rattle.wl_link.specs.Link.{LinkState, LimitSet};
 ghost use Rattle.wl_link.specs.Store.{empty_store, stored};
 ghost use Rattle.wl_client.specs.Accounts.{CallsLocally, IsGrowth};
-ghost use Rattle.wl_client.specs.Plain.Calls.{AddsInterfaces, ExtendsInterface, FailsBy, SetsLimit, TakesNotes};
+ghost use Rattle.wl_client.specs.Plain.Calls.{AddsInterfaces, ExtendsInterface, FailsBy, SetsLimit, SetsPassingOver, TakesNotes};
 ghost use Rattle.wl_client.specs.Session.{IsConnected, display_object, failed_by};
 ghost use Rattle.wl_client.specs.Steps.{CallOf};
 ghost use Rattle.wl_client.specs.declared.step.Reply.TheVariants as reply;
@@ -15,9 +15,11 @@ ghost use Rattle.wl_client.specs.declared.step.Step.TheVariants as step;
 
 use crate::error::WaylandError;
 use crate::event::OpenEvent;
+use crate::freed::Freed;
 use crate::object_id::ObjectId;
 use crate::objects::{Kept, Note, fresh_object};
 use std::alloc::Global;
+use std::collections::VecDeque;
 use std::marker::Model;
 use std::{fmt, mem};
 use wl_link::{BufferedSocket, MessagePlace, ObjectMap, Transport};
@@ -49,6 +51,10 @@ pub struct Backend<T, U> {
     pub(crate) open_event: Option<OpenEvent>,
     /// The notes that were not taken yet, the oldest first.
     pub(crate) notes: Vec<Note>,
+    /// Whether messages of unknown senders are passed over.
+    pub(crate) passes_over: bool,
+    /// The ids of the objects that left their numbers, if they are kept.
+    pub(crate) freed: Freed,
     /// Whether memory ran out in the last call that took `&mut self`.
     pub(crate) refused: bool,
     /// The message that is being read. It is kept here, so that no new one is made for each message.
@@ -79,6 +85,9 @@ impl<T, U> Model for Backend<T, U> {
         error = b.error;
         open_event = b.open_event;
         notes = b.notes.items;
+        passes_over = b.passes_over;
+        keeps_freed = b.freed.kept;
+        freed = b.freed.ids.items;
       };
       refused = b.refused;
     } };
@@ -123,6 +132,11 @@ impl<T: Drop, U: Drop> Backend<T, U> {
             error: None,
             open_event: None,
             notes: Vec::new(alloc),
+            passes_over: false,
+            freed: Freed {
+                kept: false,
+                ids: VecDeque::new(alloc),
+            },
             refused: false,
             place: MessagePlace::new(alloc),
         })
@@ -166,8 +180,8 @@ impl<T: Drop, U: Drop> Backend<T, U> {
         self.refused
     }
 
-    /// The session's error, if it has one: a fault of the transport, an error that the server sent, or what was wrong with
-    /// an event.
+    /// The session's error, if it has one: a fault of the transport, an error that the server sent, what was wrong with an
+    /// event, or what the program gave `fail`.
     ///
     /// A session that has an error reads and flushes no more. Its other calls go on. If a later request meets a fault while
     /// it is written, that fault takes the place of the error.
@@ -236,6 +250,28 @@ impl<T: Drop, U: Drop> Backend<T, U> {
     {
         self.refused = false;
         self.socket.set_max_buffer_size(max_buffer_size);
+    }
+
+    /// Sets whether messages of unknown senders are *passed over*, as libwayland does. In a new session they are not, and such a
+    /// message ends the session as malformed.
+    ///
+    /// The sender of a message is unknown if its number holds no object: none was ever made there, or the server has deleted
+    /// the id of one that the client destroyed. Nothing is known of the arguments of such a message: its bytes are passed over,
+    /// and it takes no descriptor. If it had some, the next message that takes descriptors gets them.
+    ///
+    /// An object that the client destroyed, and whose id is not deleted yet, is known, and so are its events: with this setting
+    /// and without it they are dropped with their descriptors. With it one that its interface does not have is passed over, too.
+    /// An object that the client has not destroyed has to get events of its interface.
+    ///
+    /// Set it before the first reading: what was received and is not read yet is read by it. It allocates nothing.
+    pub fn pass_over_unknown_senders(&mut self, passes: bool)
+        ensures call { CallsLocally self.old (step.PassOverUnknownSenders passes) reply.PassOverUnknownSenders self.new }
+        ensures plain { SetsPassingOver self.old.session passes self.new.session }
+        ensures set { self.new.session ≡ record self.old.session { passes_over = passes } }
+        ensures refused { self.new.refused ≡ false }
+    {
+        self.refused = false;
+        self.passes_over = passes;
     }
 
     /// Does nothing and returns `Ok(0)`: there is no inner queue.

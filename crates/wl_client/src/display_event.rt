@@ -16,7 +16,7 @@ pub enum DisplayMessage<'m> {
     /// `wl_display.error`: the error that ends the session. It has the code, the number of the object that it is about, and
     /// the text.
     Fails(u32, u32, &'m CString),
-    /// `wl_display.delete_id`: the server has given up this number.
+    /// `wl_display.delete_id`: the server deletes the id of this number.
     Deletes(u32),
     /// An error without a text, or no event of the display.
     Unreadable,

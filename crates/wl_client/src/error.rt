@@ -11,7 +11,8 @@ use wl_wire::{IoFault, ProtocolError};
 #[error("Invalid ObjectId")]
 pub struct InvalidId;
 
-/// The error that a session keeps. It stands for `wayland_backend::client::WaylandError`.
+/// The error that a session keeps. It stands for `wayland_backend::client::WaylandError`. The variants say what the session
+/// itself keeps; `Backend::fail` may give it any.
 #[derive(Debug, PartialEq, Eq, Drop, Error)]
 pub enum WaylandError {
     /// A fault of the transport; or a request was too long to be sent (`TooBig`); or there was no memory for an error's

@@ -188,8 +188,12 @@ impl<T: Transport + Drop, U: Drop> Backend<T, U> {
         let Some(number) = waiting else {
             return false;
         };
+        // Without a place for the id it is taken as any other message, for which there is no memory then.
+        if self.freed.reserve().is_err() {
+            return false;
+        }
         self.socket.skip_message();
-        delete_id(&mut self.objects, number);
+        delete_id(&mut self.objects, &mut self.freed, number);
         true
     }
 

@@ -73,7 +73,7 @@ impl<T: Drop, U: Drop> Backend<T, U> {
         Ok(())
     }
 
-    /// The event that is open: it was handed out, and `finish_event` has not ended it. `None` if no event is open.
+    /// The event that is open: it was handed out, and neither `finish_event` nor `fail` has ended it. `None` if no event is open.
     ///
     /// It says what the table says of the event and which object the event made, so a program need not look that up.
     pub fn open_event(&self) -> Option<OpenEvent>

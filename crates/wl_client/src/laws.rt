@@ -8,7 +8,7 @@
 //! a change of it (`calls_over_scripts_are_steps`). An id *names* an object if its number has that object and its serial is
 //! that object's.
 
-ghost use Rattle.std.specs.Prelude.{◌≡◌, ◌∷◌, ◌++◌, ◌↔◌, ◌⊎◌, [], Bool, List, Option, None, Some, Result, Ok, Err, IsSome, IsTrue, Vec, false, length, map, ℕ};
+ghost use Rattle.std.specs.Prelude.{◌≡◌, ◌∷◌, ◌++◌, ◌↔◌, ◌⊎◌, [], Bool, List, Option, None, Some, Result, Ok, Err, IsSome, IsTrue, Vec, false, true, length, map, ℕ};
 ghost use Rattle.std.specs.Global.{Global};
 ghost use Rattle.wl_wire.specs.declared.argument.Token.{Token};
 ghost use Rattle.wl_wire.specs.declared.error.IoFault.{IoFault};
@@ -32,6 +32,7 @@ ghost use Rattle.wl_client.specs.declared.step.Step.{Step};
 ghost use Rattle.wl_client.specs.declared.step.Step.TheVariants as step;
 ghost use Rattle.wl_client.specs.Accounts.{Calls, CallsLocally, IsAccountedFor, IsChange};
 ghost use Rattle.wl_client.specs.Failed.{StaysFailed};
+ghost use Rattle.wl_client.specs.Freed.{AllKeep, TellsWhatLeft};
 ghost use Rattle.wl_client.specs.Handed.{HasOwnIds};
 ghost use Rattle.wl_client.specs.Heard.{AllHeard, Hears, events_in, finished_in};
 ghost use Rattle.wl_client.specs.Histories.{Called, Changed, Deed, Does, EachStandsFor, History, called};
@@ -87,15 +88,25 @@ pub fn each_object_that_ends_is_noted_once<T: Transport, U>()
 /// The law of numbers: no object takes the number of another one, unless both sides have given that up.
 ///
 /// It is about the numbers of the client's range, and holds of every history. An object leaves its number only in a step before
-/// which the client had destroyed it; and its id was deleted before, or the step is a reading of the server's
+/// which the client had destroyed it, or an event had; and its id was deleted before, or the step is a reading of the server's
 /// `wl_display.delete_id`. An id counts as deleted only by such a reading, and not for a new object (`step`). So an object that
 /// has a number before a history has it after that, or left it in one of its steps in this way (`history`). Numbers of its own
 /// range the server uses again without a `delete_id`, but only once the client has destroyed the object.
-pub fn a_number_is_free_once_both_sides_gave_it_up<T: Transport, U>()
+pub fn a_number_is_free_only_once_both_sides_gave_it_up<T: Transport, U>()
     ensures step { (before after : SessionState T U) (d : Deed T U) (n : ℕ) → is_server_number n ≡ false →
         Does (CallOf T.sends T.receives) before d after → NumberMoves T.sends T.receives n before d after }
     ensures history { (begun after : SessionState T U) (deeds : List (Deed T U)) (n : ℕ) (x : Object (Kept U)) → is_server_number n ≡ false →
         History (CallOf T.sends T.receives) begun deeds after → held begun.store n ≡ Some x → HasOrLeft T.sends T.receives n x begun deeds after }
+{}
+
+/// The law of free numbers: each object that leaves its number is told once, while the session keeps such ids.
+///
+/// It holds of every history over which ids are kept (`Backend::keep_freed`). The ids that were taken, followed by those that still
+/// wait, are those that waited before it, followed by those of the objects that left their numbers in it, in order. What
+/// `Backend::reclaim` takes out is not among them: its answer tells that.
+pub fn each_number_that_is_left_is_told_once<T: Transport, U>()
+    ensures every { (before after : SessionState T U) (deeds : List (Deed T U)) → before.keeps_freed ≡ true → AllKeep deeds →
+        History (CallOf T.sends T.receives) before deeds after → TellsWhatLeft (CallOf T.sends T.receives) before deeds after }
 {}
 
 /// The law of errors: a session that has an error keeps one. Over every history that begins with such a session, each reading

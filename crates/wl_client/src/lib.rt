@@ -13,25 +13,29 @@
 //!
 //! | Calls | Code | Relations, in `specs/` |
 //! |---|---|---|
-//! | `connect`, `take_notes`, the limit, `transport_mut`, .. | `backend`: read it first | `Session`, `Lending`, `Plain/Calls` |
+//! | `connect`, `take_notes`, `fail`, the limit, `transport_mut`, .. | `backend`: read it first | `Session`, `Lending`, `Plain/Calls` |
 //! | `send_request`, `send_request_lent`, `flush` | `request`, `send_request`, `flush` | `Requests`, `Steps`, `Finish`, `Plain/Calls` |
 //! | `next_event`, `next_event_into` | `next_event`, `message`, `event_in_place`, `event`, `event_arguments`, `display_event` | `Reading`, `ReadingEnds`, `Handling`, `Events`, `Cutting` |
 //! | `finish_event`, `open_event` | `finish_event` | `Finish`, `Steps`, `Cutting` |
-//! | `info`, `get_data`, `set_data`, `with_data`, `destroy_object` | `objects` | `Objects`, `Plain/Calls` |
+//! | `info`, `get_data`, `set_data`, `with_data`, `destroy_object`, `reclaim` | `objects` | `Objects`, `Plain/Calls` |
+//! | `keep_freed`, `next_freed` | `freed` | `Freeing`, `Freed`, `Plain/Calls` |
+//! | `object_for_protocol_id` | `by_number` | `ByNumber` |
 //! | `replay` | `step`, `replay` | `Steps`, `Handed`, `Named`, `Noted`, `Replies`, `Stretches` |
 //!
 //! The clause `call` of a call through `&mut self` says that it is a step of a history (`Steps`, `Histories`), of which the laws
 //! hold (`Accounts`). A clause `plain` says what a program finds after it (`Plain`, `Plain/Calls`).
 //!
 //! The functions of [`laws`] do nothing. Their contracts are the laws of runs of calls, in the words of these files:
-//! `Handed` and `Named` (ids), `Noted` (notes), `Failed` (errors), `Replies` (there is one outcome), `Cutting`, `Heard` and
-//! `Stretches` (it does not matter how bytes are cut; the words of a reader are in `Reader` and `Served` of `wl_link`),
-//! `ReadingEnds` (why a reading ends), `Scripted` (calls of `Memory` as steps).
+//! `Handed` and `Named` (ids), `Noted` (notes), `Numbers` (when a number is free again), `Failed` (errors), `Replies` (there is
+//! one outcome), `Cutting`, `Heard` and `Stretches` (it does not matter how bytes are cut; the words of a reader are in `Reader`
+//! and `Served` of `wl_link`), `ReadingEnds` (why a reading ends), `Scripted` (calls of `Memory` as steps).
 #![tactic(auto)]
 
-/// The session: its fields, `connect`, `display_id`, `last_error`, `take_notes`, the table, the transport, the limit.
+/// The session: its fields, `connect`, `display_id`, `last_error`, `fail`, `take_notes`, the table, the transport, the limit.
 mod backend;
-/// What the events of the display say: an error, or that a number is given up.
+/// The object that a number holds.
+mod by_number;
+/// What the events of the display say: an error, or that the id of a number is deleted.
 mod display_event;
 /// The errors of calls, and the error that ends a session.
 mod error;
@@ -45,6 +49,8 @@ mod event_fault;
 mod event_in_place;
 /// `finish_event` ends an event that was handed out; `open_event` says which event is open.
 mod finish_event;
+/// `keep_freed`, `next_freed`: the ids of objects that left their numbers.
+mod freed;
 /// `flush`: sends what waits to be sent.
 mod flush;
 /// Laws that follow from the definitions alone: of runs of calls, and of one reading.

@@ -1,6 +1,6 @@
 //! Takes the first message off what was received, and handles it.
 
-ghost use Rattle.std.specs.Prelude.{◌≡◌, ◌≤◌, ℕ, Option, [], true, false, Some, MatchResult, length, OnErr, OnOk, option_copied, option_map};
+ghost use Rattle.std.specs.Prelude.{◌≡◌, ◌≤◌, ◌||◌, ℕ, Option, [], true, false, None, Some, IfOk, IfSome, MatchResult, length, OnErr, OnOk, option_copied, option_map};
 ghost use Rattle.std.specs.List.{list_any};
 ghost use Rattle.smallvec.specs.SmallVec.{HasRoomFor};
 ghost use Rattle.wl_wire.specs.Argument.{type_of};
@@ -8,30 +8,35 @@ ghost use Rattle.wl_wire.specs.Message.{content};
 ghost use Rattle.wl_wire.specs.MessageRows.{creates};
 ghost use Rattle.wl_wire.specs.Parse.{IsThere};
 ghost use Rattle.wl_wire.specs.Table.{is_new_id, message_row};
+ghost use Rattle.wl_link.specs.Link.{ReadOne, read_into};
 ghost use Rattle.wl_link.specs.Store.{held};
 ghost use Rattle.wl_wire.specs.declared.error.IoFault.TheVariants as io;
 ghost use Rattle.wl_client.specs.declared.error.EventError.TheVariants as no_event;
 ghost use Rattle.wl_client.specs.declared.error.WaylandError.TheVariants.{Io, Protocol as ProtocolFault};
-ghost use Rattle.wl_client.specs.Events.{error_of};
-ghost use Rattle.wl_client.specs.Handling.{handling, row_in};
+ghost use Rattle.wl_client.specs.Events.{display_event, error_of};
+ghost use Rattle.wl_client.specs.Freeing.{deleted_number, destroyed_at, freed_asks, with_freed};
+ghost use Rattle.wl_client.specs.Handling.{handling, is_passed_over, row_in};
 ghost use Rattle.wl_client.specs.Reading.{row_asks};
 ghost use Rattle.wl_client.specs.Inside.Conversion.{objects_in};
+ghost use Rattle.wl_client.specs.Inside.Freed.{FreedStays, HasPlace};
 ghost use Rattle.wl_wire.specs.declared.argument.Token.{Token};
 ghost use Rattle.wl_wire.specs.declared.message.Message.{Message};
 ghost use Rattle.wl_client.specs.declared.event.OpenEvent.{OpenEvent as OpenEventOf};
 ghost use Rattle.wl_client.specs.ObjectId.{IdParts};
-ghost use Rattle.wl_client.specs.Inside.ReadingLoop.{Carries, EndsWith, IsHeader, NotTaken, NotTakenTo, Stores, TakenTo, TookWith, HandlesMessage, message_result};
+ghost use Rattle.wl_client.specs.Inside.ReadingLoop.{Carries, EndsWith, IsHeader, NotTaken, NotTakenTo, Stores, TakenTo, TookWith, HandlesMessage, message_result, unknown_signature};
 
 use crate::backend::Backend;
 use crate::display_event::{DisplayMessage, display_event, told_error};
 use crate::error::{EventError, WaylandError};
-use crate::event::handle_event;
+use crate::event::handle_and_tell;
 use crate::event_fault::{EventFault, fault_text};
 use crate::event_in_place::InPlace;
+use crate::freed::Freed;
 use crate::object_id::ObjectId;
 use crate::objects::{Kept, delete_id};
 use std::alloc::Global;
 use wl_link::{BufferedSocket, Object, ObjectMap, Transport, clear_message};
+use wl_wire::opcodes::DELETE_ID;
 use wl_wire::{
     Args, DISPLAY, INLINE_ARGS, IoFault, Message, MessageDesc, MessageParseError, OutOfMemory,
     Protocol, ProtocolError, Text, Token,
@@ -83,14 +88,16 @@ pub fn desc_of<'p, U: Drop>(
     protocol.event(object.interface, opcode)
 }
 
-/// Makes room for what the first message becomes, if it is complete: for its arguments, and for the object that it may
-/// make.
+/// Makes room for what the first message becomes, if it is complete: for its arguments, for the object that it may make, and for
+/// the id of one that may leave its number. It has this header.
 ///
 /// If the message is not complete, this asks for no memory.
 fn make_room<T: Drop, U: Drop>(
     objects: &mut ObjectMap<Kept<U>>,
     converted: &mut Args<ObjectId>,
+    freed: &mut Freed,
     socket: &BufferedSocket<T>,
+    header: (u32, u16),
     desc: &MessageDesc,
 ) -> Result<(), OutOfMemory>
     requires empty { converted.old.items ≡ [] }
@@ -102,11 +109,17 @@ fn make_room<T: Drop, U: Drop>(
         → length desc.now.signature.items ≤ converted.new.capacity) }
     ensures can_make { OnOk result (IsThere socket.now.incoming.bytes desc.now.signature.items socket.now.incoming.tokens
         → creates (message_row desc.now) ≡ true → objects.new.reserved ≡ true) }
-    ensures asked { OnErr result ((row_asks (Some (message_row desc.now)) ≡ true)
+    ensures freed { FreedStays freed.old freed.new }
+    ensures makes { OnOk result (IsThere socket.now.incoming.bytes desc.now.signature.items socket.now.incoming.tokens
+        → creates (message_row desc.now) ≡ true → HasPlace freed.new) }
+    ensures deletes { OnOk result (IsThere socket.now.incoming.bytes desc.now.signature.items socket.now.incoming.tokens
+        → header.0 ≡ 1 → header.1 ≡ 1 → HasPlace freed.new) }
+    ensures asked { OnErr result (((row_asks (Some (message_row desc.now)) || freed_asks freed.old.kept header.0 header.1) ≡ true)
         × IsThere socket.now.incoming.bytes desc.now.signature.items socket.now.incoming.tokens) }
 {
     let creates = desc.creates_object();
-    let asks = creates || desc.signature.len() > INLINE_ARGS;
+    let deletes = freed.kept && header.0 == DISPLAY && header.1 == DELETE_ID;
+    let asks = creates || desc.signature.len() > INLINE_ARGS || deletes;
     if !asks || !socket.holds_message(desc.signature.as_slice()) {
         return Ok(());
     }
@@ -114,43 +127,82 @@ fn make_room<T: Drop, U: Drop>(
     if creates {
         objects.reserve()?;
     }
+    if creates || deletes {
+        freed.reserve()?;
+    }
     Ok(())
 }
 
-/// Takes the first message off what was received. It has this sender and opcode. Returns its description in the table.
+/// Takes the first message off what was received, of this sender, for which the table has no event. Its arguments stay unread,
+/// and it takes no token. If it is not passed over, it is malformed.
+#[cold]
+#[inline(never)]
+fn pass_over<T: Drop, U: Drop>(
+    passes: bool,
+    objects: &ObjectMap<Kept<U>>,
+    socket: &mut BufferedSocket<T>,
+    sender: u32,
+    message: &mut Message<u32, Token>,
+) -> Result<(), MessageParseError>
+    requires header { 8 ≤ length socket.old.incoming.bytes }
+    requires place { INLINE_ARGS ≤ message.old.args.capacity }
+    ensures read { ReadOne (λ _ _ found. found ≡ unknown_signature passes (held objects.now.store sender)) socket.old
+        (read_into result message.new) socket.new }
+    ensures passed { OnOk result (is_passed_over passes (held objects.now.store sender) None ≡ true) }
+    ensures empty { OnOk result (message.new.args.items ≡ []) }
+    ensures place { INLINE_ARGS ≤ message.new.args.capacity }
+{
+    let is_known = match objects.find(sender) {
+        Some(object) => !object.value.client_destroyed,
+        None => false,
+    };
+    if !passes || is_known {
+        return Err(MessageParseError::Malformed);
+    }
+    socket.read_with_signature(&[], message)
+}
+
+/// Takes the first message off what was received. It has this sender and opcode. Returns its description in the table; `None`
+/// if there is none, and the message is passed over.
 ///
-/// First it makes room for what the message becomes: in `converted`, which is emptied, for its arguments, and in the map
-/// for the object that it may make.
+/// First it makes room for what the message becomes: in `converted`, which is emptied, for its arguments, in the map for the
+/// object that it may make, and in `freed` for the id of one that may leave its number.
 fn take<'p, T: Drop, U: Drop>(
+    passes: bool,
     protocol: &'p Protocol,
     objects: &mut ObjectMap<Kept<U>>,
+    freed: &mut Freed,
     socket: &mut BufferedSocket<T>,
     header: (u32, u16),
     message: &mut Message<u32, Token>,
     converted: &mut Args<ObjectId>,
-) -> Result<&'p MessageDesc, MessageParseError>
+) -> Result<Option<&'p MessageDesc>, MessageParseError>
     requires header { IsHeader socket.old header }
     requires inline { INLINE_ARGS ≤ converted.old.capacity }
     requires place { INLINE_ARGS ≤ message.old.args.capacity }
-    ensures took { TookWith protocol.now objects.old.store socket.old result (content message.new) socket.new }
+    ensures took { TookWith passes protocol.now objects.old.store freed.old.kept socket.old result (content message.new) socket.new }
     ensures store { objects.new.store ≡ objects.old.store }
     ensures room { OnOk result (HasRoomFor converted.new (length message.new.args.items)) }
     ensures inline { INLINE_ARGS ≤ converted.new.capacity }
     ensures empty { converted.new.items ≡ [] }
     ensures can_make { OnOk result (list_any (λ x. is_new_id (type_of x)) message.new.args.items ≡ true → objects.new.reserved ≡ true) }
     ensures place { INLINE_ARGS ≤ message.new.args.capacity }
+    ensures freed { FreedStays freed.old freed.new }
+    ensures makes { OnOk result (list_any (λ x. is_new_id (type_of x)) message.new.args.items ≡ true → HasPlace freed.new) }
+    ensures deletes { IfOk result (λ desc. IfSome desc (λ _. message.new.sender_id ≡ 1 → message.new.opcode ≡ 1 → HasPlace freed.new)) }
 {
     converted.clear();
     let (sender, opcode) = header;
     let Some(desc) = event_desc(protocol, objects, sender, opcode) else {
-        return Err(MessageParseError::Malformed);
+        pass_over(passes, objects, socket, sender, message)?;
+        return Ok(None);
     };
     let signature = desc.signature.as_slice();
-    let Ok(()) = make_room(objects, converted, socket, desc) else {
+    let Ok(()) = make_room(objects, converted, freed, socket, header, desc) else {
         return Err(MessageParseError::OutOfMemory);
     };
     socket.read_with_signature(signature, message)?;
-    Ok(desc)
+    Ok(Some(desc))
 }
 
 /// Stores the error. If there was no memory for its texts, it stores `OutOfMemory`.
@@ -208,18 +260,23 @@ fn fail_by(
 fn handle_display<U: Drop>(
     protocol: &Protocol,
     objects: &mut ObjectMap<Kept<U>>,
+    freed: &mut Freed,
     stored: &mut Option<WaylandError>,
     message: &Message<u32, Token>,
 ) -> MessageEnd
-    requires { message.now.sender_id ≡ 1 }
-    ensures { (last_serial : ℕ) (event : Message IdParts Token) (open_event : Option OpenEventOf)
+    requires sender { message.now.sender_id ≡ 1 }
+    requires place { message.now.opcode ≡ 1 → HasPlace freed.old }
+    ensures kept { freed.new.kept ≡ freed.old.kept }
+    ensures freed { freed.new.ids.items ≡ with_freed freed.old.kept freed.old.ids.items
+        (destroyed_at objects.old.store (deleted_number (display_event message.now.opcode message.now.args.items))) }
+    ensures carries { (last_serial : ℕ) (event : Message IdParts Token) (open_event : Option OpenEventOf)
         → Carries (handling protocol.now (objects_in objects.old last_serial) (content message.now)) (message_result result event) (objects_in objects.new last_serial)
         stored.old stored.new open_event open_event }
 {
     let alloc = *message.args.allocator();
     match display_event(message) {
         DisplayMessage::Deletes(number) => {
-            delete_id(objects, number);
+            delete_id(objects, freed, number);
             MessageEnd::Continues
         }
         DisplayMessage::Fails(code, number, text) => {
@@ -295,20 +352,32 @@ impl<T: Transport + Drop, U: Drop> Backend<T, U> {
         ensures inline { INLINE_ARGS ≤ event.new.args.capacity }
     {
         let message = &mut self.place.message;
-        let desc = take(
+        let taken = take(
+            self.passes_over,
             &self.protocol,
             &mut self.objects,
+            &mut self.freed,
             &mut self.socket,
             header,
             message,
             &mut event.args,
         )?;
+        let Some(desc) = taken else {
+            return Ok(MessageEnd::Continues);
+        };
         if message.sender_id == DISPLAY {
-            return Ok(handle_display(&self.protocol, &mut self.objects, &mut self.error, message));
+            return Ok(handle_display(
+                &self.protocol,
+                &mut self.objects,
+                &mut self.freed,
+                &mut self.error,
+                message,
+            ));
         }
-        let handled = handle_event(
+        let handled = handle_and_tell(
             &mut self.objects,
             &mut self.last_serial,
+            &mut self.freed,
             &mut self.open_event,
             desc,
             message,

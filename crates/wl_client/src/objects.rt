@@ -7,6 +7,8 @@ ghost use Rattle.wl_client.specs.Session.{named, noted, alive, fresh_object as t
 ghost use Rattle.std.specs.Fn.{FnOnceReturnsAtMut};
 ghost use Rattle.wl_client.specs.Objects.{info_of, user_data_of, DataSet, DestroyedBy, LendsData, LendsDataIn, LendsDataOf, ReclaimedBy};
 ghost use Rattle.wl_client.specs.Finish.{data_given};
+ghost use Rattle.wl_client.specs.Freeing.{destroyed_id, with_freed};
+ghost use Rattle.wl_client.specs.Inside.Freed.{HasPlace};
 ghost use Rattle.wl_client.specs.Inside.Sending.{given_up_at};
 ghost use Rattle.wl_client.specs.Accounts.{CallsLocally, LendsAsCall};
 ghost use Rattle.wl_client.specs.Plain.Calls.{DestroysObject, ReclaimsObject, SetsData, SetsWhatIsLeft};
@@ -16,6 +18,7 @@ ghost use Rattle.wl_client.specs.declared.step.Step.TheVariants as step;
 
 use crate::backend::Backend;
 use crate::error::{DestroyError, InvalidId};
+use crate::freed::Freed;
 use crate::object_id::ObjectId;
 use wl_link::{Object, ObjectMap};
 use wl_wire::{DISPLAY, InterfaceId, ObjectInfo, OutOfMemory};
@@ -191,9 +194,12 @@ pub fn vacate<U: Drop>(objects: &mut ObjectMap<Kept<U>>, number: u32)
 }
 
 /// The server deletes the id of this number. Its object, if there is one, is taken out of the map if the client has destroyed it,
-/// and is flagged if not.
-pub fn delete_id<U: Drop>(objects: &mut ObjectMap<Kept<U>>, number: u32)
-    ensures { objects.new.store ≡ deleted objects.old.store number }
+/// which is told then, and is flagged if not.
+pub fn delete_id<U: Drop>(objects: &mut ObjectMap<Kept<U>>, freed: &mut Freed, number: u32)
+    requires { HasPlace freed.old }
+    ensures store { objects.new.store ≡ deleted objects.old.store number }
+    ensures kept { freed.new.kept ≡ freed.old.kept }
+    ensures freed { freed.new.ids.items ≡ with_freed freed.old.kept freed.old.ids.items (destroyed_id number (held objects.old.store number)) }
 {
     let Some(object) = objects.find(number) else {
         return;
@@ -204,7 +210,9 @@ pub fn delete_id<U: Drop>(objects: &mut ObjectMap<Kept<U>>, number: u32)
         });
         return;
     }
+    let id = id_at(number, object);
     objects.remove(number);
+    freed.push(Some(id));
 }
 
 impl<T: Drop, U: Drop> Backend<T, U> {

@@ -104,7 +104,16 @@ impl<U: Drop> Backend<Memory, U> {
                 self.set_max_buffer_size(max_buffer_size);
                 Reply::SetMaxBufferSize
             }
+            Step::PassOverUnknownSenders(passes) => {
+                self.pass_over_unknown_senders(passes);
+                Reply::PassOverUnknownSenders
+            }
             Step::TakeNotes => Reply::TakeNotes(self.take_notes()),
+            Step::KeepFreed(keeps) => {
+                self.keep_freed(keeps);
+                Reply::KeepFreed
+            }
+            Step::NextFreed => Reply::NextFreed(self.next_freed()),
             Step::Arrive(..)
             | Step::ArriveFault(_)
             | Step::Accept(_)

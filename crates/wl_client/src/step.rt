@@ -35,8 +35,14 @@ pub enum Step<U> {
     DispatchInnerQueue,
     /// `Backend::set_max_buffer_size`, with the limit in bytes.
     SetMaxBufferSize(Option<usize>),
+    /// `Backend::pass_over_unknown_senders`, with whether messages of unknown senders are passed over.
+    PassOverUnknownSenders(bool),
     /// `Backend::take_notes`.
     TakeNotes,
+    /// `Backend::keep_freed`, with whether ids are kept.
+    KeepFreed(bool),
+    /// `Backend::next_freed`.
+    NextFreed,
     /// `Memory::arrive`, with the bytes and tokens that a receive will give.
     Arrive(Vec<u8>, Vec<Token>),
     /// `Memory::arrive_fault`, with the fault that a receive will return.
@@ -78,8 +84,14 @@ pub enum Reply<U> {
     DispatchInnerQueue(Result<usize, WaylandError>),
     /// The answer to `Step::SetMaxBufferSize`, which returns nothing.
     SetMaxBufferSize,
+    /// The answer to `Step::PassOverUnknownSenders`, which returns nothing.
+    PassOverUnknownSenders,
     /// The answer to `Step::TakeNotes`.
     TakeNotes(Vec<Note>),
+    /// The answer to `Step::KeepFreed`, which returns nothing.
+    KeepFreed,
+    /// The answer to `Step::NextFreed`.
+    NextFreed(Option<ObjectId>),
     /// The answer to `Step::Arrive`.
     Arrive(Result<(), ArriveError>),
     /// The answer to `Step::ArriveFault`.

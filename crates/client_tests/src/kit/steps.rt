@@ -29,8 +29,14 @@ pub enum Call {
     Dispatch,
     /// `Step::SetMaxBufferSize`.
     Limit(Option<usize>),
+    /// `Step::PassOverUnknownSenders`.
+    PassOver(bool),
     /// `Step::TakeNotes`.
     Notes,
+    /// `Step::KeepFreed`.
+    KeepFreed(bool),
+    /// `Step::NextFreed`.
+    Freed,
     /// `Step::Arrive`, of no descriptors.
     Arrive(&'static [u8]),
     /// `Step::ArriveFault`.
@@ -69,7 +75,10 @@ fn step(alloc: Global, call: Call) -> Result<Step<u32>, Fail> {
         Call::Fail(fault) => Ok(Step::Fail(WaylandError::Io(fault))),
         Call::Dispatch => Ok(Step::DispatchInnerQueue),
         Call::Limit(limit) => Ok(Step::SetMaxBufferSize(limit)),
+        Call::PassOver(passes) => Ok(Step::PassOverUnknownSenders(passes)),
         Call::Notes => Ok(Step::TakeNotes),
+        Call::KeepFreed(keeps) => Ok(Step::KeepFreed(keeps)),
+        Call::Freed => Ok(Step::NextFreed),
         Call::Arrive(bytes) => arrive(alloc, bytes),
         Call::ArriveFault(fault) => Ok(Step::ArriveFault(fault)),
         Call::Accept(count) => Ok(Step::Accept(count)),

@@ -136,6 +136,14 @@ pub fn write_open(log: &mut String, event: &Option<OpenEvent>) -> Result<(), All
     }
 }
 
+/// Writes the number and the serial of the object that a number holds, or that it holds none.
+pub fn write_held(log: &mut String, held: &Option<ObjectId>) -> Result<(), AllocError> {
+    match held {
+        Some(id) => writeln!(log, "holds {}, {}", id.protocol_id(), id.serial()),
+        None => writeln!(log, "holds none"),
+    }
+}
+
 /// Writes the answer to the end of an event: or why not, and the data that come back.
 pub fn write_finished(
     log: &mut String,
@@ -158,6 +166,14 @@ pub fn write_notes(log: &mut String, notes: &[Note]) -> Result<(), AllocError> {
         write!(log, " {}, {}", id.protocol_id(), id.serial())?;
     }
     writeln!(log)
+}
+
+/// Writes the number and the serial of an object that left its number.
+pub fn write_freed(log: &mut String, freed: Option<ObjectId>) -> Result<(), AllocError> {
+    match freed {
+        Some(id) => writeln!(log, "freed {}, {}", id.protocol_id(), id.serial()),
+        None => writeln!(log, "none freed"),
+    }
 }
 
 /// Writes bytes in hex.
@@ -216,7 +232,10 @@ pub fn write_reply(log: &mut String, reply: &Reply<u32>) -> Result<(), AllocErro
         Reply::DispatchInnerQueue(answer) => write_dispatched(log, answer),
         Reply::Fail => writeln!(log, "failed"),
         Reply::SetMaxBufferSize => writeln!(log, "limit set"),
+        Reply::PassOverUnknownSenders => writeln!(log, "passing over set"),
         Reply::TakeNotes(notes) => write_notes(log, notes.as_slice()),
+        Reply::KeepFreed => writeln!(log, "keeping set"),
+        Reply::NextFreed(freed) => write_freed(log, *freed),
         Reply::Arrive(answer) => write_done(log, "done", answer),
         Reply::ArriveFault(answer) | Reply::Accept(answer) | Reply::AcceptFault(answer) => {
             write_done(log, "done", answer)

@@ -23,6 +23,8 @@ pub type Client = Backend<Memory, u32>;
 pub enum Act {
     /// Sets the limit of the buffers.
     Limit(usize),
+    /// Sets whether messages of unknown senders are passed over.
+    PassOver(bool),
     /// Sends a request.
     Send(Request),
     /// Sends a request with these data and this wish for the object that it makes.
@@ -51,6 +53,10 @@ pub enum Act {
     Reclaim(Object),
     /// Takes the notes.
     Notes,
+    /// Has the ids of objects that leave their numbers kept, or no more.
+    KeepFreed(bool),
+    /// Takes the next of them.
+    Freed,
     /// Adds an interface of this name and of version 1, whose only event, `gone`, ends its object.
     Add(&'static str),
     /// Adds a request and an event `tip`, without arguments, to an interface, which then has at least this version.
@@ -72,6 +78,8 @@ pub enum Look {
     Data(Object),
     /// The text of an object's id.
     Text(Object),
+    /// The object that a number holds.
+    At(u32),
     /// The session's error.
     LastError,
     /// The event that is open.
@@ -300,6 +308,13 @@ fn notes(client: &mut Client, log: &mut String) -> Result<(), Fail> {
     told(client, written)
 }
 
+/// Takes the next id of an object that left its number.
+fn freed(client: &mut Client, log: &mut String) -> Result<(), Fail> {
+    let freed = client.next_freed();
+    let written = write_freed(log, freed);
+    told(client, written)
+}
+
 /// Tells the text of the object's id.
 fn text(alloc: Global, client: &Client, log: &mut String, object: Object) -> Result<(), Fail> {
     let text = object.id().display(alloc, client.protocol())?;
@@ -372,6 +387,7 @@ fn look_at(alloc: Global, client: &Client, log: &mut String, look: Look) -> Resu
         }
         Look::Data(object) => write_or(log, "data", &client.get_data(&object.id())),
         Look::Text(object) => return text(alloc, client, log, object),
+        Look::At(number) => write_held(log, &client.object_for_protocol_id(number)),
         Look::LastError => write_last_error(client, log),
         Look::Open => write_open(log, &client.open_event()),
         Look::Arrivals => writeln!(log, "{} arrivals", client.transport().arrivals_left()),
@@ -409,6 +425,10 @@ fn perform(
             client.set_max_buffer_size(Some(bytes));
             told(client, Ok(()))
         }
+        Act::PassOver(passes) => {
+            client.pass_over_unknown_senders(passes);
+            told(client, Ok(()))
+        }
         Act::Send(request) => send(alloc, client, log, way, request),
         Act::SendWith(request, child) => send_with(alloc, client, log, way, request, child),
         Act::SendInWant(request) => send_in_want(alloc, client, log, way, request),
@@ -422,6 +442,11 @@ fn perform(
         Act::Fail(number) => fail(client, log, number),
         Act::AddToData(object, more) => add_to_data(client, log, object, more),
         Act::Notes => notes(client, log),
+        Act::KeepFreed(keeps) => {
+            client.keep_freed(keeps);
+            told(client, Ok(()))
+        }
+        Act::Freed => freed(client, log),
         Act::Add(name) => add(alloc, client, log, name),
         Act::Extend(interface, version) => extend(alloc, client, log, interface, version),
         Act::Replay(calls) => replay(alloc, client, log, calls),

@@ -36,7 +36,7 @@ const NOTHING_IS_GONE: [Act; 5] = [
 ];
 
 /// The rows.
-static ROWS: [Row; 4] = [
+static ROWS: [Row; 5] = [
     Row {
         name: "the answer to a sync",
         before: Act::Send(Request::Sync),
@@ -61,6 +61,17 @@ static ROWS: [Row; 4] = [
         ],
         after: &NOTHING_IS_GONE,
         told: "sent: 2, 1\nsent: 3, 2\nwould block\nversion 1\nversion 1\nversion 3\nno error\nsent: 4, 3\n",
+    },
+    // A message of 13 bytes by object 99, and then `wl_display.error` of code 7 for it, with the text `no`.
+    Row {
+        name: "an unknown sender that is passed over",
+        before: Act::PassOver(true),
+        arrives: &[
+            99, 0, 0, 0, 5, 0, 13, 0, 1, 2, 3, 4, 5, 1, 0, 0, 0, 0, 0, 24, 0, 99, 0, 0, 0, 7, 0, 0,
+            0, 3, 0, 0, 0, 110, 111, 0, 0,
+        ],
+        after: &ERROR,
+        told: "the session failed\nProtocol error 7 on object <unknown>@99: no\n",
     },
     Row {
         name: "a new id of the client's range",

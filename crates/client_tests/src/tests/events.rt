@@ -126,7 +126,7 @@ static ROWS: [Row; 10] = [
             Act::Next,
             Act::Look(Look::LastError),
         ],
-        told: "sent: 2, 1\nsent: 3, 2\nthe interface has no request of that opcode\nevent 0 of 3: 5\nfinished\ninterface 0: a message names an interface outside the table\ninterface 0: a message names an interface outside the table\ndone\nevent 3 of 3:\nfinished\nsent: 0, 0\nflushed\n0100000001000c000200000002000000000020000100000005000000717561640000000003000000030000000300000005000800\nthe session failed\nProtocol error 0 on object @0: Malformed Wayland message.\n",
+        told: "sent: 2, 1\nsent: 3, 2\nthe interface has no request of that opcode\nevent 0 of 3: 5\nfinished\ninterface 0: a message names an interface outside the table, or this one takes no more messages\ninterface 0: a message names an interface outside the table, or this one takes no more messages\ndone\nevent 3 of 3:\nfinished\nsent: 0, 0\nflushed\n0100000001000c000200000002000000000020000100000005000000717561640000000003000000030000000300000005000800\nthe session failed\nProtocol error 0 on object @0: Malformed Wayland message.\n",
     },
     // `wl_registry.global` of the name 1 and the version 3, whose string has the length 4 and is `quad` without a zero.
     Row {

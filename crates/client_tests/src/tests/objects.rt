@@ -21,7 +21,7 @@ const MADE_AND_DELETED: [u8; 24] = [
 ];
 
 /// The runs, and what they tell.
-static ROWS: [Row; 14] = [
+static ROWS: [Row; 15] = [
     // An object that the server makes, ended and made again.
     Row {
         name: "run of made objects",
@@ -114,6 +114,29 @@ static ROWS: [Row; 14] = [
             Act::Send(Request::Sync),
         ],
         told: "sent: 2, 1\nsent: 3, 2\ndestroyed\nInvalid ObjectId\nInvalid ObjectId\ndata 6\nwould block\nwould block\nInvalid ObjectId\nsent: 3, 3\n",
+    },
+    // A number holds its object until it is free, then none, and then the next one.
+    Row {
+        name: "objects by their numbers",
+        acts: &[
+            Act::Look(Look::At(0)),
+            Act::Look(Look::At(1)),
+            Act::Bound,
+            Act::Look(Look::At(3)),
+            Act::Look(Look::At(4)),
+            Act::Script(Cue::Arrive(&MADE)),
+            Act::Next,
+            Act::Look(Look::At(0xFF00_0000)),
+            Act::Finish(Some(7)),
+            Act::Destroy(Object::Quad),
+            Act::Look(Look::At(3)),
+            Act::Script(Cue::Arrive(&DELETE_3)),
+            Act::Next,
+            Act::Look(Look::At(3)),
+            Act::Send(Request::Sync),
+            Act::Look(Look::At(3)),
+        ],
+        told: "holds none\nholds 1, 0\nsent: 2, 1\nsent: 3, 2\nholds 3, 2\nholds none\nevent 1 of 3: new 4278190080, 3\nholds 4278190080, 3\nfinished\ndestroyed\nholds 3, 2\nwould block\nholds none\nsent: 3, 4\nholds 3, 4\n",
     },
     // `quad.gone`, whose object is destroyed before the event is finished: one note.
     Row {

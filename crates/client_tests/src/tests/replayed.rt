@@ -44,7 +44,8 @@ pub fn replay(
 }
 
 /// A callback's life, in a run that has each step. `wl_callback.done` and `wl_display.delete_id` end it.
-const LIFE: [Call; 20] = [
+const LIFE: [Call; 22] = [
+    Call::KeepFreed(true),
     Call::Send(Request::Sync),
     Call::Accept(5),
     Call::AcceptFault(IoFault::WouldBlock),
@@ -63,6 +64,7 @@ const LIFE: [Call; 20] = [
     Call::Notes,
     Call::Reclaim(Object::Callback),
     Call::Next,
+    Call::Freed,
     Call::SetData(Object::Callback, 8),
     Call::Limit(Some(0)),
     Call::Dispatch,
@@ -101,7 +103,7 @@ static ROWS: [Row; 4] = [
     Row {
         name: "each step has its reply",
         acts: &[Act::Replay(&LIFE)],
-        told: "sent: 2, 1\ndone\ndone\nwould block\nflushed\n0100000000\n000c0002000000\ndone\ndone\nevent 0 of 2: 0\ndone\nthere is no new object for the user data, 7 is back\nfinished\nInvalid ObjectId\nnotes: 2, 1\nInvalid ObjectId\nwould block\nInvalid ObjectId\nlimit set\n0 dispatched\nsent: 2, 2\nrefused: false\n",
+        told: "keeping set\nsent: 2, 1\ndone\ndone\nwould block\nflushed\n0100000000\n000c0002000000\ndone\ndone\nevent 0 of 2: 0\ndone\nthere is no new object for the user data, 7 is back\nfinished\nInvalid ObjectId\nnotes: 2, 1\nInvalid ObjectId\nwould block\nfreed 2, 1\nInvalid ObjectId\nlimit set\n0 dispatched\nsent: 2, 2\nrefused: false\n",
     },
     Row {
         name: "interfaces are added",

@@ -13,7 +13,7 @@ use Rattle.wl_client.specs.declared.error.FlushError.TheVariants as flush
 use Rattle.wl_client.specs.declared.step.Reply.{Reply}
 use Rattle.wl_client.specs.declared.step.Step.{Step}
 use Rattle.wl_client.specs.ObjectId.{IdParts}
-use Rattle.wl_client.proofs.OverRuns.ChangeLaws.{StepMoves, call_moves, step_moves}
+use Rattle.wl_client.proofs.OverRuns.ChangeLaws.{CallTells, StepMoves, call_moves, step_moves}
 use Rattle.wl_client.specs.Failed.{AnswersFailed, StaysFailed}
 use Rattle.wl_client.specs.Finish.{SessionFlushed}
 use Rattle.wl_client.specs.Handed.{ids_in, notes_in}
@@ -46,7 +46,7 @@ step_failed s call answer refused after h1 h2 = grind (arith, call_failed)
 -- each step changes the objects and the notes as it says, and answers by the error that the session has
 pub record IsKept {T U : Type 0} (makes : Making T U) : Type 0 where
   pub moves : (s : SessionState T U) (call : Step U) (answer : Reply U) (refused : Bool) (after : SessionState T U)
-      → makes s call answer refused after → StepMoves s (ids_in answer) (notes_in answer) after
+      → makes s call answer refused after → StepMoves s (ids_in answer) (notes_in answer) (CallTells s call answer after) after
   pub fails : (s : SessionState T U) (call : Step U) (answer : Reply U) (refused : Bool) (after : SessionState T U)
       → IsSome s.error → makes s call answer refused after → AnswersFailed call answer
 

@@ -34,17 +34,18 @@ use Rattle.wl_client.specs.declared.step.Step.{Step}
 use Rattle.wl_client.specs.declared.step.Step.TheVariants as step
 use Rattle.wl_client.specs.Events.{Converted, Converting, Outcome, Unreadable, Whole, Wrong, convert, convert_one, delete_event, deleted, deleted_at, display_event, error_event, error_of, going_on, is_valid_new, made_object, object_argument, start, vacated, with_new_argument, with_new_at, with_object_argument}
 use Rattle.wl_client.specs.Finish.{Finishes, FlushEnds, SessionFlushed, after_destructor, core_finished, data_given, refusal, with_data_for, with_dead}
-use Rattle.wl_client.specs.Handling.{Breaks, Handling, HandsOut, Swallows, event_of, handling, of_converted, of_display, of_event, opened_of, row_in}
+use Rattle.wl_client.specs.Handling.{Breaks, Handling, HandsOut, Swallows, event_of, handling, handling_by, objects_after, of_converted, of_display, of_event, opened_of, row_in}
 use Rattle.wl_client.specs.Histories.{Called, Changed, Deed, Does, Grown, History}
 use Rattle.wl_client.specs.Numbers.{DeletesId, HasOrLeft, IsDelete, KeepsNumber, LeavesNumber, NumberMoves, ReadsDelete, SomeTookDelete, TookDelete}
 use Rattle.wl_client.specs.ObjectId.{IdParts}
 use Rattle.wl_client.specs.Objects.{DataSet, DestroyedBy, ReclaimedBy, destroyable}
-use Rattle.wl_client.specs.Reading.{NextEvent, client, core_after, event_content, faulted, objects_in, reader_state_of, receives_allowed, starved_to}
+use Rattle.wl_client.specs.Reading.{NextEvent, client, core_after, event_content, faulted, freed_core, objects_in, reader_state_of, receives_allowed, starved_to}
 use Rattle.wl_client.specs.ReadingEnds.{TurnLeads}
 use Rattle.wl_client.specs.Requests.{Numbered, Requested, Sent, SentAs, SentWithChild, SessionMessage, Spec, Written, ended_by, error_after, new_child, number_of_new, request_check, session_content, wire_message, with_born, with_ended}
 use Rattle.wl_client.specs.Session.{Core, SessionState, core_of, flagged, last_possible_serial, named, with_id_deleted, with_user_data}
 use Rattle.wl_client.specs.Steps.{CallOf, Entry}
-use Rattle.wl_client.proofs.OverRuns.ReadingLaws.{objects_after}
+use Rattle.wl_client.proofs.Handling.{either_way}
+use Rattle.wl_client.proofs.Freeing.{hands_freed}
 use Rattle.wl_client.proofs.Plain.Calls.{named_destroyable}
 use Rattle.wl_client.proofs.Plain.Naming.{names_so}
 use Rattle.wl_client.proofs.Plain.Opening.{vacated_elsewhere}
@@ -199,6 +200,9 @@ module _ {U : Type 0} (n : ℕ) (of_client : is_server_number n ≡ false) where
         at true is = display_by (eqb-true m.sender 1 is)
         at false is = event_by (held o.store m.sender) (row_in table (held o.store m.sender) m.opcode)
 
+    handled_by_either : (passes : Bool) → ByMessage (handling_by passes table o m)
+    handled_by_either passes = either_way ByMessage passes table o m (inl refl) handled_by
+
 -- ---- a reading
 
 module _ {U : Type 0} where
@@ -252,14 +256,14 @@ module _ {T U : Type 0} (sends : T → Queue → Result ℕ IoFault → T → Ty
         | inr (f, failed, (over, is_out, same)) ↦ inl (ap at_number same ∙ ap (λ store. held store n) (faulted_store start.core f))
       ]
   reading_by left start (Handled es ∷ turns) out end (on, (v, link, first, lacked, mid, rest, (m, read, is), by, split, more)) =
-      let h = handling start.core.table (objects_in start.core) m in
-      let came = carries sends receives start.core h link es first lacked mid (subst (λ (w : Verdict (Core U) SessionMessage). CarriesOut sends client w link es first lacked mid) is by) in
+      let h = handling_by start.core.passes_over start.core.table (objects_in start.core) m in
+      let came = carries sends receives (freed_core start.core m h) h link es first lacked mid (subst (λ (w : Verdict (Core U) SessionMessage). CarriesOut sends client w link es first lacked mid) is by) in
       by_then (Handled es) turns start mid end (v, link, first, lacked, (m, read, is), by)
-      (turned m link read (after_store start.core mid.core h came.1) (handled_by n of_client start.core.table (objects_in start.core) m))
+      (turned m link read (after_store (freed_core start.core m h) mid.core h came.1) (handled_by_either n of_client start.core.table (objects_in start.core) m start.core.passes_over))
       (reading_by left mid turns rest end more)
     where
-      turned : (m : WireMessage) (link : LinkState T) → ReadsAs sends client start (Ok m) link → mid.core.store ≡ (objects_after (handling start.core.table (objects_in start.core) m)).store
-          → ByMessage n of_client start.core.table (objects_in start.core) m (handling start.core.table (objects_in start.core) m) → ByTurn (Handled es) start mid
+      turned : (m : WireMessage) (link : LinkState T) → ReadsAs sends client start (Ok m) link → mid.core.store ≡ (objects_after (handling_by start.core.passes_over start.core.table (objects_in start.core) m)).store
+          → ByMessage n of_client start.core.table (objects_in start.core) m (handling_by start.core.passes_over start.core.table (objects_in start.core) m) → ByTurn (Handled es) start mid
       turned m link read is (inl same) = inl (ap (λ store. held store n) is ∙ same)
       turned m link read is (inr (delete, same)) = inr ((m, link, read, delete), ap (λ store. held store n) is ∙ same)
   reading_by left start (Unread es ∷ turns) out end (on, (v, link, first, lacked, mid, rest, (read, same, is), by, split, more)) =
@@ -559,7 +563,10 @@ module _ {T U : Type 0} (sends : T → Queue → Result ℕ IoFault → T → Ty
   called s e after (step.Fail f) is (a, calm, same) = quiet s (Called e) after (same_store n s after _ same refl)
   called s e after step.DispatchInnerQueue is (a, calm, same) = quiet s (Called e) after (same_store n s after s same refl)
   called s e after (step.SetMaxBufferSize limit) is (a, calm, (link, set, same)) = quiet s (Called e) after (same_store n s after _ same refl)
+  called s e after (step.PassOverUnknownSenders passes) is (a, calm, same) = quiet s (Called e) after (same_store n s after _ same refl)
   called s e after step.TakeNotes is (notes, a, calm, taken, same) = quiet s (Called e) after (same_store n s after _ same refl)
+  called s e after (step.KeepFreed keeps) is (a, calm, same) = quiet s (Called e) after (same_store n s after _ same refl)
+  called s e after step.NextFreed is (id, a, calm, h) = quiet s (Called e) after (same_store n s after _ (hands_freed s id after h).0 refl)
   called s e after _ is h = absurd h
 
   pub number_moves : (s : SessionState T U) (d : Deed T U) (after : SessionState T U) → Does (CallOf sends receives) s d after → NumberMoves sends receives n s d after
@@ -588,6 +595,7 @@ module _ {T U : Type 0} (sends : T → Queue → Result ℕ IoFault → T → Ty
         after = left.after;
         leads = (mid, by, left.leads);
         does = left.does;
+        goes_on = left.goes_on;
         object = left.object;
         holds = left.holds;
         same = left.same ∙ same;
@@ -606,6 +614,7 @@ module _ {T U : Type 0} (sends : T → Queue → Result ℕ IoFault → T → Ty
         after = mid;
         leads = refl;
         does = by;
+        goes_on = leads;
         object = x;
         holds = there;
         same = refl;

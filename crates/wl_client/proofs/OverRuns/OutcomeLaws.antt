@@ -33,6 +33,7 @@ use Rattle.wl_client.specs.ObjectId.{IdParts}
 use Rattle.wl_client.specs.Finish.{FinishesEvent, Finishes, FlushEnds, refusal, SessionFlushed}
 use Rattle.wl_client.specs.Objects.{DataSet, DestroyedBy, ReclaimedBy, destroyable}
 use Rattle.wl_client.specs.Reading.{event_content}
+use Rattle.wl_client.proofs.Freeing.{hands_one}
 use Rattle.wl_client.proofs.OverRuns.ReadingLaws.{SameEnd, next_event_one, same_end}
 use Rattle.wl_client.specs.OneOutcome.{SameAnswers, SameDeeds}
 use Rattle.wl_client.specs.Replies.{SameReply, SameReplies}
@@ -205,8 +206,14 @@ module _ {T U : Type 0} (sends : T → Queue → Result ℕ IoFault → T → Ty
     same_reply p q reply.SetMaxBufferSize reply.SetMaxBufferSize is is' refl,
     same ∙ ap (λ (l : LinkState T). record s { link = l }) (limit_set_one s.link limit link link' set set') ∙ sym same',
   )
+  call_one s x y (step.PassOverUnknownSenders passes) p q (is, unasked, same) (is', unasked', same') =
+      (same_reply p q reply.PassOverUnknownSenders reply.PassOverUnknownSenders is is' refl, same ∙ sym same')
   call_one s x y step.TakeNotes p q (notes, is, unasked, items, same) (notes', is', unasked', items', same') =
       (same_reply p q (reply.TakeNotes notes) (reply.TakeNotes notes') is is' (items ∙ sym items'), same ∙ sym same')
+  call_one s x y (step.KeepFreed keeps) p q (is, unasked, same) (is', unasked', same') = (same_reply p q reply.KeepFreed reply.KeepFreed is is' refl, same ∙ sym same')
+  call_one s x y step.NextFreed p q (id, is, unasked, h) (id', is', unasked', h') =
+      let (one, same) = hands_one s.freed s id id' x y h h' in
+      (same_reply p q (reply.NextFreed id) (reply.NextFreed id') is is' (ap reply.NextFreed one), same)
   call_one s x y _ p q h g = absurd h
 
 module _ {U : Type 0} where
@@ -228,7 +235,11 @@ module _ {U : Type 0} where
   step_one s x y (step.Fail e) p q h g = call_one ScriptSends ScriptReceives script_sends_function script_receives_function s x y (step.Fail e) p q h g
   step_one s x y step.DispatchInnerQueue p q h g = call_one ScriptSends ScriptReceives script_sends_function script_receives_function s x y step.DispatchInnerQueue p q h g
   step_one s x y (step.SetMaxBufferSize limit) p q h g = call_one ScriptSends ScriptReceives script_sends_function script_receives_function s x y (step.SetMaxBufferSize limit) p q h g
+  step_one s x y (step.PassOverUnknownSenders passes) p q h g =
+      call_one ScriptSends ScriptReceives script_sends_function script_receives_function s x y (step.PassOverUnknownSenders passes) p q h g
   step_one s x y step.TakeNotes p q h g = call_one ScriptSends ScriptReceives script_sends_function script_receives_function s x y step.TakeNotes p q h g
+  step_one s x y (step.KeepFreed keeps) p q h g = call_one ScriptSends ScriptReceives script_sends_function script_receives_function s x y (step.KeepFreed keeps) p q h g
+  step_one s x y step.NextFreed p q h g = call_one ScriptSends ScriptReceives script_sends_function script_receives_function s x y step.NextFreed p q h g
 
   -- ---- a run
 

@@ -30,8 +30,10 @@ use Rattle.wl_client.specs.declared.step.Step.{Step}
 use Rattle.wl_client.specs.declared.step.Step.TheVariants as step
 use Rattle.wl_client.specs.Cutting.{CutsFinish, CutsReading, GoesOn, IsCut, IsServed, no_sends}
 use Rattle.wl_client.specs.Events.{error_of}
-use Rattle.wl_client.specs.Handling.{Handling, Swallows, HandsOut, Breaks, handed, handling}
+use Rattle.wl_client.specs.Handling.{Handling, Swallows, HandsOut, Breaks, handed, handling_by, objects_after}
 use Rattle.wl_client.specs.Finish.{FinishesEvent, Finishes, core_finished, refusal}
+use Rattle.wl_client.specs.Freeing.{freed_as, freeing, with_freed}
+use Rattle.wl_client.specs.ObjectId.{IdParts}
 use Rattle.wl_client.specs.Reading.{NextEvent, answered, core_after, client, event_content, faulted, finish, finish_verdict, handed_by, objects_in, reader_state_of, receives_allowed, starved_to, verdict}
 use Rattle.wl_client.specs.Requests.{SessionMessage}
 use Rattle.wl_client.specs.Session.{Core, SessionState, core_of, with_core}
@@ -48,13 +50,10 @@ session_of p = record {
   error = p.core.error;
   open_event = p.core.open_event;
   notes = p.core.notes;
+  passes_over = p.core.passes_over;
+  keeps_freed = p.core.keeps_freed;
+  freed = p.core.freed;
 }
-
--- the objects after the handling of a message
-abbrev pub objects_after : {U : Type 0} → Handling U → Objects (Kept U)
-objects_after (Swallows objects) = objects
-objects_after (HandsOut m event objects) = objects
-objects_after (Breaks e objects) = objects
 
 -- ---- one look at what two outcomes share
 
@@ -154,31 +153,41 @@ none_put [] others same = refl
 none_put (m ∷ put) others same = absurd (true≢false (ap is_nil same))
 
 module _ {U : Type 0} (R : Core U → List (Given SessionMessage) → Core U → Type 0) where
-  -- a relation of cores and of what was handed out between them: of the cores only the objects and the notes count
+  -- the core has these objects, the same notes, and the ids that waited before, with that of an object that left its number
+  abbrev pub Follows : Core U → Objects (Kept U) → Option IdParts → Core U → Type 0
+  Follows c o id d = (objects_in d ≡ o) × (d.notes ≡ c.notes) × (d.keeps_freed ≡ c.keeps_freed) × (d.freed ≡ with_freed c.keeps_freed c.freed id)
+
+  -- a relation of cores and of what was handed out between them: of the cores only the objects, the notes and the ids of those that
+  -- left their numbers count
   pub record SeesObjects : Type 0 where
     pub joins : (c d e : Core U) (g h : List (Given SessionMessage)) → R c g d → R d h e → R c (g ++ h) e
-    pub handles : (c : Core U) (m : WireMessage) (d : Core U) → objects_in d ≡ objects_after (handling c.table (objects_in c) m) → d.notes ≡ c.notes
-        → R c (map HandedOut (handed (handling c.table (objects_in c) m))) d
-    pub fails : (c d : Core U) → objects_in d ≡ objects_in c → d.notes ≡ c.notes → R c [] d
+    pub handles : (c : Core U) (m : WireMessage) (h : Handling U) (d : Core U) → h ≡ handling_by c.passes_over c.table (objects_in c) m
+        → Follows c (objects_after h) (freed_as c.passes_over c.table (objects_in c) m h) d → R c (map HandedOut (handed h)) d
+    pub fails : (c d : Core U) → Follows c (objects_in c) None d → R c [] d
 
   -- a message leads to this core, or for want of memory to that
-  pub keeps : (c : Core U) (h : Handling U) → R c (map HandedOut (handed h)) (core_after c h) → R c (map HandedOut (handed h)) (starved_to c h) → Keeps client R c (verdict c h)
-  keeps c h came starved = grind (arith, put_and_gave, handed, comes_to, client, verdict, core_after, none_put)
+  pub keeps : (c from : Core U) (h : Handling U) → R c (map HandedOut (handed h)) (core_after from h) → R c (map HandedOut (handed h)) (starved_to from h)
+      → Keeps client R c (verdict from h)
+  keeps c from h came starved = grind (arith, put_and_gave, handed, comes_to, client, verdict, core_after, none_put)
 
   module _ (sees : SeesObjects) where
     faults : (c : Core U) (f : IoFault) → R c [] (faulted c f)
     faults c f = grind (arith)
 
     -- with or without memory, the objects are as the message says
-    sees_handling : (c : Core U) (h : Handling U) → ((d : Core U) → objects_in d ≡ objects_after h → d.notes ≡ c.notes → R c (map HandedOut (handed h)) d) → Keeps client R c (verdict c h)
-    sees_handling c h h1 = grind (arith, keeps)
+    sees_handling : (c : Core U) (id : Option IdParts) (h : Handling U) → ((d : Core U) → Follows c (objects_after h) id d → R c (map HandedOut (handed h)) d)
+        → Keeps client R c (verdict (freeing c id) h)
+    sees_handling c id (Swallows o) each = keeps c (freeing c id) (Swallows o) (each _ (refl, refl, refl, refl)) (each _ (refl, refl, refl, refl))
+    sees_handling c id (HandsOut m event o) each = keeps c (freeing c id) (HandsOut m event o) (each _ (refl, refl, refl, refl)) (each _ (refl, refl, refl, refl))
+    sees_handling c id (Breaks e o) each = keeps c (freeing c id) (Breaks e o) (each _ (refl, refl, refl, refl)) (each _ (refl, refl, refl, refl))
 
     respects : RespectsReading client R
     respects = record {
-      same = λ c. sees.fails c c refl refl;
+      same = λ c. sees.fails c c (refl, refl, refl, refl);
       joins = sees.joins;
-      handles = λ c m on. sees_handling c (handling c.table (objects_in c) m) (sees.handles c m);
-      malformed = λ c on. sees_handling c (Breaks (error_of c.table wrong.Malformed) (objects_in c)) (sees.fails c);
+      handles = λ c m on. sees_handling c _ (handling_by c.passes_over c.table (objects_in c) m)
+          (λ d. sees.handles c m (handling_by c.passes_over c.table (objects_in c) m) d refl);
+      malformed = λ c on. sees_handling c None (Breaks (error_of c.table wrong.Malformed) (objects_in c)) (sees.fails c);
       faulted = λ c f on. faults c f;
     }
 

@@ -19,8 +19,8 @@ use Rattle.wl_client.specs.declared.error.WaylandError.TheVariants.{Io}
 use Rattle.wl_client.specs.declared.event.OpenEvent.{OpenEvent}
 use Rattle.wl_client.specs.Events.{error_of}
 use Rattle.wl_client.specs.Finish.{core_finished, refusal, with_data_for, with_dead}
-use Rattle.wl_client.specs.Handling.{Handling, handling}
-use Rattle.wl_client.specs.Reading.{EndsWithRoom, NextEvent, core_after, client, finish, finish_verdict, objects_in, reader_state_of, starved_to, verdict}
+use Rattle.wl_client.specs.Handling.{Handling, handling_by}
+use Rattle.wl_client.specs.Reading.{EndsWithRoom, NextEvent, core_after, client, finish, finish_verdict, freed_core, objects_in, reader_state_of, starved_to, verdict}
 use Rattle.wl_client.proofs.OverRuns.ReadingLaws.{keeps}
 use Rattle.wl_client.specs.Requests.{SessionMessage}
 use Rattle.wl_client.specs.Session.{Core, SessionState, named}
@@ -54,7 +54,7 @@ module _ {T U : Type 0} (sends : T → Queue → Result ℕ IoFault → T → Ty
   EndsOtherwise c gave d = c.error ≡ None → NotEnded d
 
   ends_otherwise : (c : Core U) (h : Handling U) → Keeps client EndsOtherwise c (verdict c h)
-  ends_otherwise c h = grind (arith, keeps, broken, core_after, starved_to)
+  ends_otherwise c h = grind (arith, keeps EndsOtherwise c c, broken, core_after, starved_to)
 
   not_ended : (c : Core U) (h : Handling U) (before : LinkState T) (es : List Sending) (gave : List (Given SessionMessage)) (lacked : Bool) (mid : ReaderState T (Core U))
       → c.error ≡ None → CarriesOut sends client (verdict c h) before es gave lacked mid → NotEnded mid.core
@@ -96,7 +96,8 @@ module _ {T U : Type 0} (sends : T → Queue → Result ℕ IoFault → T → Ty
       )
   none_came left p after (Handled es ∷ turns) out (on, (v, link, first, lacked, mid, rest, (m, read, is'), carried, split, more)) none is =
       heard_none left mid after turns rest more (λ on'. none_came left mid after turns rest more on' is) is
-      (not_ended p.core (handling p.core.table (objects_in p.core) m) link es first lacked mid none
+      (not_ended (freed_core p.core m (handling_by p.core.passes_over p.core.table (objects_in p.core) m))
+      (handling_by p.core.passes_over p.core.table (objects_in p.core) m) link es first lacked mid none
       (subst (λ (w : Verdict (Core U) SessionMessage). CarriesOut sends client w link es first lacked mid) is' carried))
   none_came left p after (Unread es ∷ turns) out (on, (v, link, first, lacked, mid, rest, (read, same, is'), carried, split, more)) none is = grind (arith, heard_none, not_ended, error_of, objects_in, client)
 

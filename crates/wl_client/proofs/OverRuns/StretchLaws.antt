@@ -24,6 +24,7 @@ use Rattle.wl_link.proofs.Stretches.StretchLaws.{acts_keep, arrived-append, cut_
 use Rattle.wl_client.specs.declared.error.EventError.{EventError}
 use Rattle.wl_client.specs.declared.error.EventError.TheVariants as no_event
 use Rattle.wl_client.specs.declared.error.FinishRefused.{FinishRefused}
+use Rattle.wl_client.specs.declared.event_fault.EventFault.TheVariants as wrong
 use Rattle.wl_client.specs.declared.event.OpenEvent.{OpenEvent}
 use Rattle.wl_client.specs.declared.step.Reply.{Reply}
 use Rattle.wl_client.specs.declared.step.Reply.TheVariants as reply
@@ -32,7 +33,8 @@ use Rattle.wl_client.specs.declared.step.Step.TheVariants as step
 use Rattle.wl_client.specs.ObjectId.{IdParts}
 use Rattle.wl_client.specs.Events.{error_of}
 use Rattle.wl_client.specs.Finish.{FinishesEvent, Finishes, refusal}
-use Rattle.wl_client.specs.Handling.{Handling, handling, signature_in}
+use Rattle.wl_client.specs.Freeing.{freeing}
+use Rattle.wl_client.specs.Handling.{Breaks, Handling, handling_by, signature_by}
 use Rattle.wl_client.specs.Reading.{NextEvent, answered, client, event_content, faulted, handed_by, objects_in, reader_state_of, reads_on, receives_allowed, verdict}
 use Rattle.wl_client.proofs.OverRuns.ReadingLaws.{finish_as, finish_ends, keeps}
 use Rattle.wl_client.specs.Requests.{SessionMessage}
@@ -77,14 +79,20 @@ module _ {U : Type 0} where
   StaysTidy c gave d = Tidy c → Tidy d
 
   -- a message to a client that has neither leaves it tidy
-  handled_tidy : (c : Core U) (h : Handling U) → (c.error ≡ None) × (c.open_event ≡ None) → Keeps client StaysTidy c (verdict c h)
-  handled_tidy c h h1 = grind (arith, keeps)
+  handled_tidy : (c : Core U) (id : Option IdParts) (h : Handling U) → (c.error ≡ None) × (c.open_event ≡ None) → Keeps client StaysTidy c (verdict (freeing c id) h)
+  handled_tidy c id h h1 = grind (arith, keeps StaysTidy c (freeing c id))
 
   faulted_open : (c : Core U) (f : IoFault) → (faulted c f).open_event ≡ c.open_event
   faulted_open c f = grind (arith)
 
   readings_tidy : RespectsReading client StaysTidy
-  readings_tidy = grind (arith, handled_tidy, handling, objects_in, both_none, error_of, faulted, faulted_open)
+  readings_tidy = record {
+    same = λ c tidy. tidy;
+    joins = λ c d e g h first second tidy. second (first tidy);
+    handles = λ c m on. handled_tidy c _ (handling_by c.passes_over c.table (objects_in c) m) (both_none c.error c.open_event on);
+    malformed = λ c on. handled_tidy c None (Breaks (error_of c.table wrong.Malformed) (objects_in c)) (both_none c.error c.open_event on);
+    faulted = λ c f on tidy. inr (faulted_open c f ∙ (both_none c.error c.open_event on).1);
+  }
 
   -- ---- what an entry does
 
@@ -262,8 +270,8 @@ module _ {U : Type 0} where
       }
     where
       in_time : (core : Core U) → core_of after ≡ faulted core fault.Pipe
-          → ReadOne (λ sender opcode found. found ≡ signature_in core.table core.store sender opcode) after.link (Err parse.MissingFD) after.link → ⊥
-      in_time core is late = grind (arith, signature_in)
+          → ReadOne (λ sender opcode found. found ≡ signature_by core.passes_over core.table core.store sender opcode) after.link (Err parse.MissingFD) after.link → ⊥
+      in_time core is late = grind (arith, signature_by)
 
   pub stretch_served : (before after : SessionState Script U) (run : List (Entry U)) → Leads before run after → IsStretch before run after → IsRunServed before run after
   stretch_served before after run leads stretch =

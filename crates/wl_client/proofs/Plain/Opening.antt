@@ -30,12 +30,13 @@ use Rattle.wl_client.specs.declared.objects.Kept.{Kept}
 use Rattle.wl_client.specs.declared.event_fault.EventFault.{EventFault}
 use Rattle.wl_client.specs.declared.event_fault.EventFault.TheVariants as wrong
 use Rattle.wl_client.specs.Events.{Converted, Converting, DisplayEvent, Outcome, Whole, Wrong, convert, convert_one, display_event, going_on, is_destroyed, is_valid_new, made_object, object_argument, start, deleted, vacated, with_new_argument, with_new_at, with_object_argument}
-use Rattle.wl_client.specs.Handling.{Breaks, Handling, HandsOut, Swallows, event_of, handling, of_converted, of_display, of_event, opened_of, row_in, signature_in}
+use Rattle.wl_client.specs.Handling.{Breaks, Handling, HandsOut, Swallows, event_of, handling, handling_by, is_passed_over, of_converted, of_display, of_event, opened_of, row_in, signature_by, signature_in}
 use Rattle.wl_client.specs.ObjectId.{IdParts}
 use Rattle.wl_client.specs.Plain.{IsMade, new_id_in}
 use Rattle.wl_client.specs.Reading.{client}
 use Rattle.wl_client.specs.Requests.{SessionMessage}
 use Rattle.wl_client.specs.Session.{Core, alive, id_at, last_possible_serial, with_id_deleted}
+use Rattle.wl_client.proofs.Handling.{either_way}
 
 both : (a b : Bool) → (a && b) ≡ true → (a ≡ true) × (b ≡ true)
 both true b is = (refl, is)
@@ -102,7 +103,7 @@ module _ {T U : Type 0} (sends : T → Queue → Result ℕ IoFault → T → Ty
   -- it makes an object by the table exactly if one of its arguments is a new number
   pub makes_new : ReadsAs sends client p (Ok m) link → (row : MessageRow) → row_in p.core.table (held p.core.store m.sender) m.opcode ≡ Some row
       → creates row ≡ list_any is_new m.args
-  makes_new read row has = grind (arith, either_bool, nat_le, no_error, signature_in, sender_of, opcode_of, creates, list_any, ap₂, option_map, is_new_id, new_in_both)
+  makes_new read row has = grind (arith, either_bool, nat_le, no_error, signature_by, signature_in, is_passed_over, sender_of, opcode_of, creates, list_any, ap₂, option_map, is_new_id, new_in_both)
 
 -- ---- objects that the client has not destroyed
 
@@ -334,7 +335,7 @@ module _ {U : Type 0} (table : List InterfaceRow) where
         all objects.store x row m.sender live (start objects row) [] m.args
         (record { receiver = is; stay = λ k some. some; named = refl; made = refl }))
 
-    pub opens : OpensIn objects.store (handling table objects m)
+    opens : OpensIn objects.store (handling table objects m)
     opens = at (m.sender == 1) refl
       where
         at : (b : Bool) → (m.sender == 1) ≡ b
@@ -343,3 +344,6 @@ module _ {U : Type 0} (table : List InterfaceRow) where
         at true is = of_display_none (display_event m.opcode m.args)
         at false is =
             event (λ same. true≢false (sym (eq-eqb m.sender 1 same) ∙ is)) (held objects.store m.sender) refl (row_in table (held objects.store m.sender) m.opcode) refl
+
+    pub opens_by : (passes : Bool) → OpensIn objects.store (handling_by passes table objects m)
+    opens_by passes = either_way (OpensIn objects.store) passes table objects m (λ k some. some) opens

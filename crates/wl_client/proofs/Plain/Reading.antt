@@ -15,13 +15,15 @@ use Rattle.wl_client.specs.declared.event.OpenEvent.{OpenEvent}
 use Rattle.wl_client.specs.declared.objects.Kept.{Kept}
 use Rattle.wl_client.specs.declared.event_fault.EventFault.TheVariants as wrong
 use Rattle.wl_client.specs.Events.{error_of}
-use Rattle.wl_client.specs.Handling.{Breaks, Handling, HandsOut, Swallows, handed, handling}
+use Rattle.wl_client.specs.Freeing.{freed_as, freeing}
+use Rattle.wl_client.specs.Handling.{Breaks, Handling, HandsOut, Swallows, handed, handling_by}
+use Rattle.wl_client.specs.ObjectId.{IdParts}
 use Rattle.wl_client.specs.Plain.{CanRead, EventIsOpen, HasFailed, IdsStay, KeepsRest, ReadsEvent, new_id_in}
-use Rattle.wl_client.specs.Reading.{NextEvent, answered, client, core_after, event_in, faulted, objects_in, reader_state_of, reads_on, receives_allowed, starved_to, verdict}
+use Rattle.wl_client.specs.Reading.{NextEvent, answered, client, core_after, event_in, faulted, freed_core, objects_in, reader_state_of, reads_on, receives_allowed, starved_to, verdict}
 use Rattle.wl_client.specs.Requests.{SessionMessage}
 use Rattle.wl_client.specs.Session.{Core, SessionState, core_of}
-use Rattle.wl_client.proofs.Plain.Opening.{Opens, OpensIn, Stay, had_none, makes_new, opens}
-use Rattle.wl_client.proofs.Plain.Staying.{IdsStayIn, ids_same, ids_stay, ids_then}
+use Rattle.wl_client.proofs.Plain.Opening.{Opens, OpensIn, Stay, had_none, makes_new, opens_by}
+use Rattle.wl_client.proofs.Plain.Staying.{IdsStayIn, ids_same, ids_stay_by, ids_then}
 
 pub when_true : {P : Type 0} (Q : Type 0) (b : Bool) → b ≡ true → MatchBool b P Q → P
 when_true Q true is h = h
@@ -82,7 +84,7 @@ module _ {T U : Type 0} (sends : T → Queue → Result ℕ IoFault → T → Ty
       → (first ≡ map HandedOut (handed h)) × ((mid.core ≡ core_after c h) ⊎ (mid.core ≡ starved_to c h))
   carries c h link es first lacked mid h1 = grind (arith, put_and_gave, handed, came_to, client, verdict)
 
-  module _ (c : Core U) (live : CanRead c) (left : ℕ) (first : List (Given SessionMessage)) (lacked : Bool) (mid after : ReaderState T (Core U)) (turns : List Turn)
+  module _ (c : Core U) (id : Option IdParts) (live : CanRead c) (left : ℕ) (first : List (Given SessionMessage)) (lacked : Bool) (mid after : ReaderState T (Core U)) (turns : List Turn)
       (out rest : Gives SessionMessage) (split : out ≡ given_first first lacked rest) (more : Reads sends client receives left mid turns rest after)
       (again : CanRead mid.core → Ended mid.core rest after.core) where
     -- each id but those that were made names what it named
@@ -90,7 +92,7 @@ module _ {T U : Type 0} (sends : T → Queue → Result ℕ IoFault → T → Ty
     stayed d ids is = subst (λ (e : Core U). IdsStay (objects_in c) (objects_in e)) (sym is) ids
 
     -- the message did nothing more, and the reading goes on
-    goes_on : (o : Objects (Kept U)) → Stay c.store o.store → IdsStay (objects_in c) o → first ≡ [] → mid.core ≡ core_after c (Swallows o) → Ended c out after.core
+    goes_on : (o : Objects (Kept U)) → Stay c.store o.store → IdsStay (objects_in c) o → first ≡ [] → mid.core ≡ core_after (freeing c id) (Swallows o) → Ended c out after.core
     goes_on o stay ids none is = grind (arith, given_first, ids_then, objects_in, stayed, came_before)
 
     -- the reading ends here
@@ -99,14 +101,14 @@ module _ {T U : Type 0} (sends : T → Queue → Result ℕ IoFault → T → Ty
     ends_at gave is off kept came = grind (arith, stopped, ap₂, given_first)
 
     fails : (o : Objects (Kept U)) (w : WaylandError) → IdsStay (objects_in c) o → first ≡ []
-        → mid.core ≡ record c { store = o.store; last_serial = o.last_serial; error = Some w } → Ended c out after.core
+        → mid.core ≡ record (freeing c id) { store = o.store; last_serial = o.last_serial; error = Some w } → Ended c out after.core
     fails o w ids none is =
         let failed : IsSome mid.core.error = ap (λ (d : Core U). is_some d.error) is in
         ends_at [] none (failed_off mid.core failed) (ap (λ (d : Core U). d.table) is, ap (λ (d : Core U). d.notes) is, stayed _ ids is)
         (inr (refl, (failed, ap (λ (d : Core U). d.open_event) is ∙ live.1)))
 
     hands : (m : SessionMessage) (event : OpenEvent) (o : Objects (Kept U)) → Opens c.table c.store m event o → IdsStay (objects_in c) o → first ≡ HandedOut m ∷ []
-        → mid.core ≡ record c { store = o.store; last_serial = o.last_serial; open_event = Some event } → Ended c out after.core
+        → mid.core ≡ record (freeing c id) { store = o.store; last_serial = o.last_serial; open_event = Some event } → Ended c out after.core
     hands m event o so ids is same =
         ends_at (HandedOut m ∷ []) is (opened_off mid.core event (ap (λ (d : Core U). d.open_event) same))
         (ap (λ (d : Core U). d.table) same, ap (λ (d : Core U). d.notes) same, stayed _ ids same)
@@ -130,7 +132,7 @@ module _ {T U : Type 0} (sends : T → Queue → Result ℕ IoFault → T → Ty
         ))
 
     handled : (h : Handling U) → OpensIn c.table c.store h → IdsStayIn (objects_in c) h → first ≡ map HandedOut (handed h)
-        → (mid.core ≡ core_after c h) ⊎ (mid.core ≡ starved_to c h) → Ended c out after.core
+        → (mid.core ≡ core_after (freeing c id) h) ⊎ (mid.core ≡ starved_to (freeing c id) h) → Ended c out after.core
     handled (Swallows o) so ids is (inl came) = goes_on o so ids is came
     handled (Swallows o) so ids is (inr came) = goes_on o so ids is came
     handled (HandsOut m event o) so ids is (inl came) = hands m event o so ids is came
@@ -164,14 +166,14 @@ module _ {T U : Type 0} (sends : T → Queue → Result ℕ IoFault → T → Ty
           subst (λ (q : ReaderState T (Core U)). Ended p.core out q.core) (sym same)
           (subst (λ (g : Gives SessionMessage). Ended p.core g (faulted p.core f)) (sym out_is) (record { kept = so.1; came = so.0 }))
   reads_end left p after (Handled es ∷ turns) out (on, (v, link, first, lacked, mid, rest, (m, read, is), carried, split, more)) live =
-      let h = handling p.core.table (objects_in p.core) m in
-      let so = carries p.core h link es first lacked mid (subst (λ (w : Verdict (Core U) SessionMessage). CarriesOut sends client w link es first lacked mid) is carried) in
-      handled p.core live left first lacked mid after turns out rest split more (λ on. reads_end left mid after turns rest more on) h
-      (opens p.core.table (objects_in p.core) m (makes_new sends p m link read)) (ids_stay p.core.table (objects_in p.core) m) so.0 so.1
+      let h = handling_by p.core.passes_over p.core.table (objects_in p.core) m in
+      let so = carries (freed_core p.core m h) h link es first lacked mid (subst (λ (w : Verdict (Core U) SessionMessage). CarriesOut sends client w link es first lacked mid) is carried) in
+      handled p.core (freed_as p.core.passes_over p.core.table (objects_in p.core) m h) live left first lacked mid after turns out rest split more (λ on. reads_end left mid after turns rest more on) h
+      (opens_by p.core.table (objects_in p.core) m (makes_new sends p m link read) p.core.passes_over) (ids_stay_by p.core.table (objects_in p.core) m p.core.passes_over) so.0 so.1
   reads_end left p after (Unread es ∷ turns) out (on, (v, link, first, lacked, mid, rest, (read, same, is), carried, split, more)) live =
       let h : Handling U = Breaks (error_of p.core.table wrong.Malformed) (objects_in p.core) in
       let so = carries p.core h link es first lacked mid (subst (λ (w : Verdict (Core U) SessionMessage). CarriesOut sends client w link es first lacked mid) is carried) in
-      handled p.core live left first lacked mid after turns out rest split more (λ on. reads_end left mid after turns rest more on) h tt (ids_same (objects_in p.core)) so.0 so.1
+      handled p.core None live left first lacked mid after turns out rest split more (λ on. reads_end left mid after turns rest more on) h tt (ids_same (objects_in p.core)) so.0 so.1
 
   -- the answer, by how the reading ended
   answers_so : (s after : SessionState T U) → CanRead (core_of s) → KeepsRest (core_of s) (core_of after) → (stopped : Option IoFault) (gave : List (Given SessionMessage))

@@ -34,14 +34,15 @@ use Rattle.wl_client.specs.declared.objects.Kept.{Kept}
 use Rattle.wl_client.specs.declared.event_fault.EventFault.{EventFault}
 use Rattle.wl_client.specs.declared.event_fault.EventFault.TheVariants as wrong
 use Rattle.wl_client.specs.Events.{Converted, Converting, DisplayEvent, Outcome, Whole, Wrong, convert, convert_one, delete_event, display_event, error_event, error_of, going_on, is_valid_new, made_object, object_argument_of, start, vacated, with_new_argument, with_new_at, with_object_argument}
-use Rattle.wl_client.specs.Handling.{Breaks, Handling, HandsOut, Swallows, event_of, handed, handling, of_converted, of_display, of_event, opened_of, row_in, signature_in}
+use Rattle.wl_client.specs.Freeing.{freed_as, freeing}
+use Rattle.wl_client.specs.Handling.{Breaks, Handling, HandsOut, Swallows, event_of, handed, handling, handling_by, is_passed_over, of_converted, of_display, of_event, opened_of, row_in, signature_by, signature_in}
 use Rattle.wl_client.specs.ObjectId.{IdParts}
 use Rattle.wl_client.specs.Plain.{CanRead, EventIsOpen}
 use Rattle.wl_client.specs.Reading.{NextEvent, answered, client, core_after, event_in, fails_by, faulted, objects_in, reader_state_of, reads_on, receives_allowed, starved_to, verdict, with_objects}
 use Rattle.wl_client.specs.ReadingEnds.{EndsForAReason, FoundError, FoundEvent, HasFailedBy, HasWrongArgument, IsWrong, IsWrongArgument, LastReceiveFailed, ObjectsFit, OfLast, ReadingEnds, TellsError, TurnLeads, has_new, left_behind, on_the_wire}
 use Rattle.wl_client.specs.Requests.{SessionMessage}
 use Rattle.wl_client.specs.Session.{Core, SessionState, id_at, null_parts}
-use Rattle.wl_client.proofs.Plain.Opening.{Opens, OpensIn, makes_new, opens, vacated_elsewhere}
+use Rattle.wl_client.proofs.Plain.Opening.{Opens, OpensIn, makes_new, opens_by, vacated_elsewhere}
 use Rattle.wl_client.proofs.Plain.Reading.{failed_off, live_on, opened_off, stopped, when_true}
 
 none_some : {A : Type 0} {x : A} → None ≡ Some x → ⊥
@@ -318,6 +319,15 @@ module _ {U : Type 0} (c : Core U) (m : WireMessage) where
       at true is = display_so (eqb-true m.sender 1 is)
       at false is = event_so (other_than m.sender 1 is refl) signature signed (held c.store m.sender) refl (row_in c.table (held c.store m.sender) m.opcode) refl
 
+  handling_by_so : (passes : Bool) (signature : List ArgumentType) → signature_by passes c.table c.store m.sender m.opcode ≡ Some signature
+      → So (handling_by passes c.table (objects_in c) m)
+  handling_by_so passes signature = at (is_passed_over passes (held c.store m.sender) (row_in c.table (held c.store m.sender) m.opcode))
+    where
+      at : (b : Bool) → cond b (Some []) (signature_in c.table c.store m.sender m.opcode) ≡ Some signature
+          → So (cond b (Swallows (objects_in c)) (handling c.table (objects_in c) m))
+      at true is = tt
+      at false is = handling_so signature is
+
 -- ---- turns
 
 later_turn : (f : IoFault) (t : Turn) (turns : List Turn) → LastReceiveFailed f turns → LastReceiveFailed f (t ∷ turns)
@@ -339,7 +349,7 @@ split_result (Err e) q = inr (e, refl, q)
 module _ {T U : Type 0} (sends : T → Queue → Result ℕ IoFault → T → Type 0) (receives : T → ℕ → Result Queue IoFault → T → Type 0) where
   -- a message that was read has its signature from the table
   signed : (p : ReaderState T (Core U)) (m : WireMessage) (link : LinkState T) → ReadsAs sends client p (Ok m) link
-      → (signature : List ArgumentType) × (signature_in p.core.table p.core.store m.sender m.opcode ≡ Some signature)
+      → (signature : List ArgumentType) × (signature_by p.core.passes_over p.core.table p.core.store m.sender m.opcode ≡ Some signature)
   signed p m link read =
       elim (either_bool (nat_le 8 (length p.link.incoming.bytes)) read) [
         | inl (found, is, h) ↦ at found is h
@@ -347,11 +357,11 @@ module _ {T U : Type 0} (sends : T → Queue → Result ℕ IoFault → T → Ty
       ]
     where
       at : (found : Option (List ArgumentType))
-          → found ≡ signature_in p.core.table p.core.store (sender_of p.link.incoming.bytes) (opcode_of p.link.incoming.bytes)
-          → ReadFound found p.link (Ok m) link → (signature : List ArgumentType) × (signature_in p.core.table p.core.store m.sender m.opcode ≡ Some signature)
+          → found ≡ signature_by p.core.passes_over p.core.table p.core.store (sender_of p.link.incoming.bytes) (opcode_of p.link.incoming.bytes)
+          → ReadFound found p.link (Ok m) link → (signature : List ArgumentType) × (signature_by p.core.passes_over p.core.table p.core.store m.sender m.opcode ≡ Some signature)
       at None is (none, same) = absurd (no_error none)
       at (Some signature) is (message, after) =
-          (signature, ap₂ (λ (n opcode : ℕ). signature_in p.core.table p.core.store n opcode) message.sender message.opcode ∙ sym is)
+          (signature, ap₂ (λ (n opcode : ℕ). signature_by p.core.passes_over p.core.table p.core.store n opcode) message.sender message.opcode ∙ sym is)
 
   -- what a message gives, and what the core is then, with memory or without
   carries : (c : Core U) (h : Handling U) (link : LinkState T) (es : List Sending) (first : List (Given SessionMessage)) (lacked : Bool) (mid : ReaderState T (Core U))
@@ -359,10 +369,11 @@ module _ {T U : Type 0} (sends : T → Queue → Result ℕ IoFault → T → Ty
       → (first ≡ map HandedOut (handed h)) × ((mid.core ≡ core_after c h) ⊎ ((mid.core ≡ starved_to c h) × (lacked ≡ true)))
   carries c h link es first lacked mid h1 = grind (arith, put_and_gave, handed, came_to, client, verdict)
 
-  abbrev Of : Turn → ReaderState T (Core U) → Handling U → Type 0
-  Of t before (Swallows o) = Unit {0}
-  Of t before (HandsOut event opened o) = (end : ReaderState T (Core U)) → end.core ≡ core_after before.core (HandsOut event opened o) → FoundEvent sends receives event end t before
-  Of t before (Breaks e o) =
+  abbrev Of : Option IdParts → Turn → ReaderState T (Core U) → Handling U → Type 0
+  Of id t before (Swallows o) = Unit {0}
+  Of id t before (HandsOut event opened o) =
+      (end : ReaderState T (Core U)) → end.core ≡ core_after (freeing before.core id) (HandsOut event opened o) → FoundEvent sends receives event end t before
+  Of id t before (Breaks e o) =
       (end : ReaderState T (Core U)) → end.core.store ≡ o.store → end.core.last_serial ≡ o.last_serial → FoundError sends receives e end t before
 
   -- what a turn came to: it gave nothing, and the session is read on; or the reading ends here
@@ -371,27 +382,29 @@ module _ {T U : Type 0} (sends : T → Queue → Result ℕ IoFault → T → Ty
       (CanRead mid.core × (first ≡ []))
       ⊎ ((reads_on mid.core ≡ false) × ((left : ℕ) (refused : Bool) → (lacked ≡ true → refused ≡ true) → ReadingEnds sends receives before (t ∷ []) (event_in first) refused left mid))
 
-  module _ (t : Turn) (before : ReaderState T (Core U)) (live : CanRead before.core) (first : List (Given SessionMessage)) (lacked : Bool) (mid : ReaderState T (Core U)) where
+  module _ (id : Option IdParts) (t : Turn) (before : ReaderState T (Core U)) (live : CanRead before.core) (first : List (Given SessionMessage)) (lacked : Bool) (mid : ReaderState T (Core U)) where
     of_last : (P : Turn → ReaderState T (Core U) → Type 0) → P t before → OfLast sends receives P before (t ∷ [])
     of_last P so = ([], t, before, refl, refl, so)
 
-    broke : (e : ProtocolError) (o : Objects (Kept U)) (why : WaylandError) → Of t before (Breaks e o) → first ≡ [] → mid.core ≡ fails_by (with_objects before.core o) why
+    broke : (e : ProtocolError) (o : Objects (Kept U)) (why : WaylandError) → Of id t before (Breaks e o) → first ≡ []
+        → mid.core ≡ fails_by (with_objects (freeing before.core id) o) why
         → ((refused : Bool) → (lacked ≡ true → refused ≡ true) → FoundError sends receives e mid t before → HasFailedBy sends receives why before (t ∷ []) refused mid)
         → Turned t before first lacked mid
     broke e o why found none is by = grind (arith, failed_off, is_some, event_in)
 
-    turned : (h : Handling U) → Of t before h → first ≡ map HandedOut (handed h) → (mid.core ≡ core_after before.core h) ⊎ ((mid.core ≡ starved_to before.core h) × (lacked ≡ true))
+    turned : (h : Handling U) → Of id t before h → first ≡ map HandedOut (handed h)
+        → (mid.core ≡ core_after (freeing before.core id) h) ⊎ ((mid.core ≡ starved_to (freeing before.core id) h) × (lacked ≡ true))
         → Turned t before first lacked mid
     turned (Swallows o) found none (inl is) = inl ((ap (λ (d : Core U). d.error) is ∙ live.0, ap (λ (d : Core U). d.open_event) is ∙ live.1), none)
     turned (Swallows o) found none (inr (is, was)) = inl ((ap (λ (d : Core U). d.error) is ∙ live.0, ap (λ (d : Core U). d.open_event) is ∙ live.1), none)
     turned (HandsOut event opened o) found one' came = hands (at came)
       where
-        at : (mid.core ≡ core_after before.core (HandsOut event opened o)) ⊎ ((mid.core ≡ starved_to before.core (HandsOut event opened o)) × (lacked ≡ true))
-            → mid.core ≡ core_after before.core (HandsOut event opened o)
+        at : (mid.core ≡ core_after (freeing before.core id) (HandsOut event opened o)) ⊎ ((mid.core ≡ starved_to (freeing before.core id) (HandsOut event opened o)) × (lacked ≡ true))
+            → mid.core ≡ core_after (freeing before.core id) (HandsOut event opened o)
         at (inl is) = is
         at (inr (is, was)) = is
 
-        hands : mid.core ≡ core_after before.core (HandsOut event opened o) → Turned t before first lacked mid
+        hands : mid.core ≡ core_after (freeing before.core id) (HandsOut event opened o) → Turned t before first lacked mid
         hands is = inr (
           opened_off mid.core opened (ap (λ (d : Core U). d.open_event) is),
           λ left refused lacks.
@@ -403,15 +416,15 @@ module _ {T U : Type 0} (sends : T → Queue → Result ℕ IoFault → T → Ty
         broke e o (Io fault.OutOfMemory) found none is (λ refused lacks so. (lacks was, (e, of_last (FoundError sends receives e mid) so)))
 
   -- the event is open then
-  is_open : (c d : Core U) (event : SessionMessage) (opened : OpenEvent) (o : Objects (Kept U)) → CanRead c → Opens c.table c.store event opened o
-      → d ≡ core_after c (HandsOut event opened o) → EventIsOpen c event d
-  is_open c d event opened o live so is = grind (arith)
+  is_open : (c d : Core U) (id : Option IdParts) (event : SessionMessage) (opened : OpenEvent) (o : Objects (Kept U)) → CanRead c → Opens c.table c.store event opened o
+      → d ≡ core_after (freeing c id) (HandsOut event opened o) → EventIsOpen c event d
+  is_open c d id event opened o live so is = grind (arith)
 
   -- a message that was taken
-  handled_of : (es : List Sending) (before : ReaderState T (Core U)) → CanRead before.core → (m : WireMessage) (link : LinkState T) → ReadsAs sends client before (Ok m) link
-      → (h : Handling U) → OpensIn before.core.table before.core.store h → So before.core m h → Of (Handled es) before h
-  handled_of es before live m link read (Swallows o) open' so = tt
-  handled_of es before live m link read (HandsOut event opened o) open' so = λ end is. (
+  handled_of : (id : Option IdParts) (es : List Sending) (before : ReaderState T (Core U)) → CanRead before.core → (m : WireMessage) (link : LinkState T) → ReadsAs sends client before (Ok m) link
+      → (h : Handling U) → OpensIn before.core.table before.core.store h → So before.core m h → Of id (Handled es) before h
+  handled_of id es before live m link read (Swallows o) open' so = tt
+  handled_of id es before live m link read (HandsOut event opened o) open' so = λ end is. (
     m,
     link,
     read,
@@ -427,10 +440,10 @@ module _ {T U : Type 0} (sends : T → Queue → Result ℕ IoFault → T → Ty
       args_are = so.args_are;
       objects_fit =
           subst (λ (s : Store (Kept U)). ObjectsFit before.core.store s so.row.arg_interfaces event.args) (sym (ap (λ (d : Core U). d.store) is)) so.objects_fit;
-      opens = is_open before.core end.core event opened o live open' is;
+      opens = is_open before.core end.core id event opened o live open' is;
     },
   )
-  handled_of es before live m link read (Breaks e o) open' so = λ end same last. (m, link, read, so end.core same last)
+  handled_of id es before live m link read (Breaks e o) open' so = λ end same last. (m, link, read, so end.core same last)
 
   -- ---- over the turns of a reading
 
@@ -512,17 +525,19 @@ module _ {T U : Type 0} (sends : T → Queue → Result ℕ IoFault → T → Ty
             (done_at before (Received got ∷ []) out _ end _ is_out same (receive_ends before can got link n f failed))
       ]
   read_ends left before (Handled es ∷ turns) out end can (on, (v, link, first, lacked, mid, rest, (m, read, is), by, split, more)) =
-      let h = handling before.core.table (objects_in before.core) m in
-      let so = carries before.core h link es first lacked mid (subst (λ (w : Verdict (Core U) SessionMessage). CarriesOut sends client w link es first lacked mid) is by) in
+      let h = handling_by before.core.passes_over before.core.table (objects_in before.core) m in
+      let id = freed_as before.core.passes_over before.core.table (objects_in before.core) m h in
+      let so = carries (freeing before.core id) h link es first lacked mid (subst (λ (w : Verdict (Core U) SessionMessage). CarriesOut sends client w link es first lacked mid) is by) in
       let (signature, has) = signed before m link read in
-      let of' = handled_of es before can m link read h (opens before.core.table (objects_in before.core) m (makes_new sends before m link read)) (handling_so before.core m signature has) in
+      let of' = handled_of id es before can m link read h (opens_by before.core.table (objects_in before.core) m (makes_new sends before m link read) before.core.passes_over)
+      (handling_by_so before.core m before.core.passes_over signature has) in
       then_ends (Handled es) before left mid end turns first lacked rest out split (v, link, first, lacked, (m, read, is), by)
-      (turned (Handled es) before can first lacked mid h of' so.0 so.1) more (λ can'. read_ends left mid turns rest end can' more)
+      (turned id (Handled es) before can first lacked mid h of' so.0 so.1) more (λ can'. read_ends left mid turns rest end can' more)
   read_ends left before (Unread es ∷ turns) out end can (on, (v, link, first, lacked, mid, rest, (read, same, is), by, split, more)) =
       let h : Handling U = Breaks (error_of before.core.table wrong.Malformed) (objects_in before.core) in
       let so = carries before.core h link es first lacked mid (subst (λ (w : Verdict (Core U) SessionMessage). CarriesOut sends client w link es first lacked mid) is by) in
       then_ends (Unread es) before left mid end turns first lacked rest out split (v, link, first, lacked, (read, same, is), by)
-      (turned (Unread es) before can first lacked mid h (λ e store last. (read, refl)) so.0 so.1) more (λ can'. read_ends left mid turns rest end can' more)
+      (turned None (Unread es) before can first lacked mid h (λ e store last. (read, refl)) so.0 so.1) more (λ can'. read_ends left mid turns rest end can' more)
 
   -- a reading of a session that can be read
   pub reading_ends : (left : ℕ) (before after : SessionState T U) (turns : List Turn) (out : Gives SessionMessage) → before.error ≡ None → before.open_event ≡ None

@@ -19,10 +19,11 @@ use Rattle.wl_link.specs.Store.{Store, held, stored}
 use Rattle.wl_client.specs.declared.objects.Kept.{Kept}
 use Rattle.wl_client.specs.declared.event_fault.EventFault.TheVariants as wrong
 use Rattle.wl_client.specs.Events.{Converted, Converting, Deletes, DisplayEvent, Fails, Outcome, Unreadable, Whole, Wrong, convert, convert_one, display_event, going_on, is_valid_new, made_object, object_argument, start, deleted, deleted_at, vacated, with_made_object, with_new_argument, with_new_at, with_object_argument}
-use Rattle.wl_client.specs.Handling.{Breaks, Handling, HandsOut, Swallows, event_of, handling, of_converted, of_display, of_event, opened_of, row_in}
+use Rattle.wl_client.specs.Handling.{Breaks, Handling, HandsOut, Swallows, event_of, handling, handling_by, of_converted, of_display, of_event, opened_of, row_in}
 use Rattle.wl_client.specs.ObjectId.{IdParts}
 use Rattle.wl_client.specs.Plain.{IdsStay, IsOld, StaysAs}
 use Rattle.wl_client.specs.Session.{alive, id_of, named, serial_of, with_id_deleted}
+use Rattle.wl_client.proofs.Handling.{either_way}
 use Rattle.wl_client.proofs.Plain.Naming.{both_none}
 use Rattle.wl_client.proofs.Plain.Opening.{new_number, vacated_elsewhere}
 
@@ -190,5 +191,8 @@ module _ {U : Type 0} (table : List InterfaceRow) (objects : Objects (Kept U)) (
   by_event None (Some row) = ids_same objects
   by_event (Some x) None = ids_same objects
 
-  pub ids_stay : IdsStayIn objects (handling table objects m)
+  ids_stay : IdsStayIn objects (handling table objects m)
   ids_stay = grind (arith, of_display, display_event, of_event, held, row_in, by_display, by_event)
+
+  pub ids_stay_by : (passes : Bool) → IdsStayIn objects (handling_by passes table objects m)
+  ids_stay_by passes = either_way (IdsStayIn objects) passes table objects m (ids_same objects) ids_stay

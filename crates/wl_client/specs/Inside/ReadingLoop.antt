@@ -1,6 +1,7 @@
 -- What the functions of a reading say to each other.
-use Rattle.std.specs.Prelude.{◌≡◌, ◌⊎◌, ◌||◌, ◌≤◌, ℕ, length, List, [], Bool, true, false, Option, None, Some, Result, Ok, Err}
+use Rattle.std.specs.Prelude.{◌≡◌, ◌⊎◌, ◌||◌, ◌≤◌, ℕ, length, List, [], Bool, true, false, if◌then◌else◌, Option, None, Some, Result, Ok, Err}
 use Rattle.std.specs.Borrow.{Bor}
+use Rattle.wl_wire.specs.declared.argument.ArgumentType.{ArgumentType}
 use Rattle.wl_wire.specs.declared.argument.Token.{Token}
 use Rattle.wl_wire.specs.declared.error.IoFault.{IoFault}
 use Rattle.wl_wire.specs.declared.error.IoFault.TheVariants as fault
@@ -34,7 +35,8 @@ use Rattle.wl_client.specs.declared.message.MessageEnd.{MessageEnd}
 use Rattle.wl_client.specs.declared.message.MessageEnd.TheVariants as came
 use Rattle.wl_client.specs.ObjectId.{IdParts}
 use Rattle.wl_client.specs.Events.{Outcome, Whole, Wrong, DisplayEvent, Fails, Deletes, Unreadable, error_of}
-use Rattle.wl_client.specs.Handling.{Handling, Swallows, HandsOut, Breaks, front_row, handling, row_in, signature_in}
+use Rattle.wl_client.specs.Freeing.{freed_as, freed_asks, frees}
+use Rattle.wl_client.specs.Handling.{Handling, Swallows, HandsOut, Breaks, front_row, handling_by, is_passed_over, row_in, signature_by}
 use Rattle.wl_client.specs.Reading.{Lacks, ReadsAs, answered, by_fault, client, handed_by, reader_state_of, row_asks, with_error, with_link}
 use Rattle.wl_client.specs.Requests.{SessionMessage, session_content}
 use Rattle.wl_client.specs.Session.{SessionState, id_at, objects_of, with_objects}
@@ -66,24 +68,33 @@ module _ {U : Type 0} where
   HandledAs m receiver row _ _ event before after objects = ⊥
 
   -- what the read of the message at the front answers under the session's signatures
-  abbrev pub ReadsIn : {T : Type 0} → List InterfaceRow → Store (Kept U) → LinkState T → Result WireMessage MessageParseError → LinkState T → Type 0
-  ReadsIn table store before answer after = ReadOne (λ sender opcode found. found ≡ signature_in table store sender opcode) before answer after
+  abbrev pub ReadsIn : {T : Type 0} → Bool → List InterfaceRow → Store (Kept U) → LinkState T → Result WireMessage MessageParseError → LinkState T → Type 0
+  ReadsIn passes table store before answer after = ReadOne (λ sender opcode found. found ≡ signature_by passes table store sender opcode) before answer after
+
+  -- the signature of a message for which the table has no event
+  abbrev pub unknown_signature : Bool → Option (Object (Kept U)) → Option (List ArgumentType)
+  unknown_signature passes sender = if is_passed_over passes sender None then Some [] else None
 
   -- the message at the front, which is there whole, asks for memory before it is read
-  abbrev pub EventAsks : List InterfaceRow → Store (Kept U) → Queue → Type 0
-  EventAsks table store incoming =
-      (row : MessageRow) × (front_row table store incoming.bytes ≡ Some row) × (row_asks (Some row) ≡ true) × IsThere incoming.bytes row.signature incoming.tokens
+  abbrev pub EventAsks : List InterfaceRow → Store (Kept U) → Bool → Queue → Type 0
+  EventAsks table store keeps incoming =
+      (row : MessageRow) × (front_row table store incoming.bytes ≡ Some row)
+      × ((row_asks (Some row) || freed_asks keeps (sender_of incoming.bytes) (opcode_of incoming.bytes)) ≡ true)
+      × IsThere incoming.bytes row.signature incoming.tokens
 
-  -- the message at the front was taken, with what the table says of it; or it was not, and the link is as before
-  abbrev pub TookWith : {T : Type 0} → List InterfaceRow → Store (Kept U) → LinkState T
-      → Result (Bor MessageDesc) MessageParseError → WireMessage → LinkState T → Type 0
-  TookWith table store before (Ok desc) m after =
-      ReadsIn table store before (Ok m) after
+  -- the message at the front was taken, with what the table says of it, or passed over; or it was not, and the link is as before
+  abbrev pub TookWith : {T : Type 0} → Bool → List InterfaceRow → Store (Kept U) → Bool → LinkState T
+      → Result (Option (Bor MessageDesc)) MessageParseError → WireMessage → LinkState T → Type 0
+  TookWith passes table store keeps before (Ok (Some desc)) m after =
+      ReadsIn passes table store before (Ok m) after
       × (row_in table (held store m.sender) m.opcode ≡ Some (message_row desc.now))
-  TookWith table store before (Err e) m after =
+  TookWith passes table store keeps before (Ok None) m after =
+      ReadsIn passes table store before (Ok m) after
+      × (is_passed_over passes (held store m.sender) (row_in table (held store m.sender) m.opcode) ≡ true)
+  TookWith passes table store keeps before (Err e) m after =
       (after ≡ before)
-      × (ReadsIn table store before (Err e) before
-      ⊎ ((e ≡ parse.OutOfMemory) × EventAsks table store before.incoming))
+      × (ReadsIn passes table store before (Err e) before
+      ⊎ ((e ≡ parse.OutOfMemory) × EventAsks table store keeps before.incoming))
 
 -- what the handling of a message came to, with the event that it hands out
 pub data MessageResult : Type 0 where
@@ -152,7 +163,7 @@ module _ {T U : Type 0} where
 
   -- no message was taken, for this reason
   abbrev pub NotTaken : SessionState T U → MessageParseError → Type 0
-  NotTaken s e = ReadsAs s (Err e) s.link ⊎ ((e ≡ parse.OutOfMemory) × EventAsks s.table s.store s.link.incoming)
+  NotTaken s e = ReadsAs s (Err e) s.link ⊎ ((e ≡ parse.OutOfMemory) × EventAsks s.table s.store s.keeps_freed s.link.incoming)
 
   -- no message was taken, and it came to this
   abbrev pub NotTakenTo : SessionState T U → MessageResult → SessionState T U → Type 0
@@ -162,12 +173,20 @@ module _ {T U : Type 0} where
       ⊎ ((end ≡ record { error = no_event.OutOfMemory; refused = true }) × NotTaken before parse.OutOfMemory × (after ≡ before))
   NotTakenTo before _ after = ⊥
 
+  -- the object that leaves its number in the handling of this message is told, if that is wanted
+  abbrev pub freed_session : SessionState T U → WireMessage → Handling U → SessionState T U
+  freed_session s m h = frees s (freed_as s.passes_over s.table (objects_of s) m h)
+
+  -- so the handling of this message was carried out
+  abbrev pub HandledOf : SessionState T U → WireMessage → Handling U → MessageResult → SessionState T U → Type 0
+  HandledOf before m h to after = HandledTo (freed_session before m h) h to after
+
   -- the message at the front was handled, if one is there
   abbrev pub HandlesMessage : SessionState T U → MessageResult → SessionState T U → Type 0
   HandlesMessage before to after =
       NotTakenTo before to after
       ⊎ ((m : WireMessage) × (link : LinkState T) × ReadsAs before (Ok m) link
-      × HandledTo (with_link before link) (handling before.table (objects_of before) m) to after)
+      × HandledOf (with_link before link) m (handling_by before.passes_over before.table (objects_of before) m) to after)
 
   -- the message at the front was handled, and it came to this; or it was not taken, and nothing is changed
   abbrev pub TakenTo : SessionState T U → Result MessageEnd MessageParseError → Message IdParts Token → SessionState T U → Type 0

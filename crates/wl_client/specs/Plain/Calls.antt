@@ -1,7 +1,8 @@
 -- What a program finds after the calls that are about neither a request nor an event, in the words of the look-ups.
 --
 -- A contract that cites one of these has another clause beside it, `call`, from which it follows.
-use Rattle.std.specs.Prelude.{◌≡◌, ◌⊎◌, ℕ, List, [], true, false, Option, None, Some, IsSome, unwrap_or, Result, Ok, Err, MatchOption, MatchResult}
+use Rattle.std.specs.Option.{option_to_list}
+use Rattle.std.specs.Prelude.{◌≡◌, ◌⊎◌, ◌++◌, ℕ, List, [], Bool, true, false, Option, None, Some, IsSome, unwrap_or, Result, Ok, Err, MatchOption, MatchResult}
 use Rattle.wl_wire.specs.declared.error.IoFault.{IoFault}
 use Rattle.wl_wire.specs.declared.error.IoFault.TheVariants as fault
 use Rattle.wl_wire.specs.declared.protocol.TableError.{TableError}
@@ -123,6 +124,14 @@ module _ {T U : Type 0} where
     pub notes : after.notes ≡ before.notes
     pub rest : RestStays before after
 
+  -- The session passes over messages of unknown senders from now on, or does not. Nothing else has changed.
+  pub record SetsPassingOver (before : SessionState T U) (passes : Bool) (after : SessionState T U) : Type 0 where
+    pub passes_over : after.passes_over ≡ passes
+    pub objects : ObjectsStay before after
+    pub notes : after.notes ≡ before.notes
+    pub link : after.link ≡ before.link
+    pub rest : RestStays before after
+
   -- The session has the error that it had, or else this one, and no event is open. Nothing else has changed.
   pub record FailsBy (before : SessionState T U) (e : WaylandError) (after : SessionState T U) : Type 0 where
     pub error : after.error ≡ Some (unwrap_or before.error e)
@@ -132,6 +141,29 @@ module _ {T U : Type 0} where
     pub notes : after.notes ≡ before.notes
     pub link : after.link ≡ before.link
     pub table : after.table ≡ before.table
+
+  -- ---- the ids of objects that left their numbers
+
+  -- They are kept from now on, or no more. Those that wait go on waiting if they were kept and are. Nothing else has changed.
+  pub record SetsKeepingFreed (before : SessionState T U) (keeps : Bool) (after : SessionState T U) : Type 0 where
+    pub set : after.keeps_freed ≡ keeps
+    pub kept : before.keeps_freed ≡ true → keeps ≡ true → after.freed ≡ before.freed
+    pub begun : before.keeps_freed ≡ false → after.freed ≡ []
+    pub ended : keeps ≡ false → after.freed ≡ []
+    pub objects : ObjectsStay before after
+    pub notes : after.notes ≡ before.notes
+    pub link : after.link ≡ before.link
+    pub rest : RestStays before after
+
+  -- The first of those that wait is handed out, if there is one. Nothing else has changed.
+  pub record TakesFreed (before : SessionState T U) (answer : Option IdParts) (after : SessionState T U) : Type 0 where
+    pub taken : before.freed ≡ option_to_list answer ++ after.freed
+    pub none : answer ≡ None → before.freed ≡ []
+    pub kept : after.keeps_freed ≡ before.keeps_freed
+    pub objects : ObjectsStay before after
+    pub notes : after.notes ≡ before.notes
+    pub link : after.link ≡ before.link
+    pub rest : RestStays before after
 
   -- ---- notes and interfaces
 

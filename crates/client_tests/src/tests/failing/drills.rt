@@ -56,7 +56,7 @@ static MADE_AND_SYNC: Run = Run {
 };
 
 /// The runs.
-static RUNS: [Run; 7] = [
+static RUNS: [Run; 9] = [
     // A callback lives and ends.
     Run {
         name: "a sync",
@@ -94,6 +94,41 @@ static RUNS: [Run; 7] = [
         ],
         error: "no error",
         counts: (2, 1),
+    },
+    // The same, and its id is told. If there is no memory for that, the message stays unread.
+    Run {
+        name: "a destroyed object that is told",
+        entries: &[
+            (Call::KeepFreed(true), "keeping set\n"),
+            (Call::Send(Request::GetRegistry), "sent: 2, 1\n"),
+            (Call::Send(Request::Bind), "sent: 3, 2\n"),
+            (Call::Destroy(Object::Quad), "destroyed\n"),
+            (Call::Arrive(&DELETED), "done\n"),
+            (Call::Next, "would block\n"),
+            (Call::Freed, "freed 3, 2\n"),
+            (Call::Freed, "none freed\n"),
+            (Call::Send(Request::Sync), "sent: 3, 3\n"),
+        ],
+        error: "no error",
+        counts: (2, 0),
+    },
+    // The server makes an object at the number of one that was destroyed, and its id is told.
+    Run {
+        name: "a number that is taken over",
+        entries: &[
+            (Call::KeepFreed(true), "keeping set\n"),
+            (Call::Send(Request::GetRegistry), "sent: 2, 1\n"),
+            (Call::Send(Request::Bind), "sent: 3, 2\n"),
+            (Call::Arrive(&MADE), "done\n"),
+            (Call::Next, "event 1 of 3: new 4278190080, 3\n"),
+            (Call::Finish(Some(7)), "finished\n"),
+            (Call::Destroy(Object::Child), "destroyed\n"),
+            (Call::Arrive(&MADE), "done\n"),
+            (Call::Next, "event 1 of 3: new 4278190080, 4\n"),
+            (Call::Freed, "freed 4278190080, 3\n"),
+        ],
+        error: "no error",
+        counts: (3, 0),
     },
     // The server makes an object.
     Run {

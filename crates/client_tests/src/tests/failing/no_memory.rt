@@ -47,6 +47,8 @@ enum Call {
     LendData,
     /// `set_max_buffer_size`.
     Limit,
+    /// `pass_over_unknown_senders`.
+    PassOver,
     /// `dispatch_inner_queue`.
     Dispatch,
     /// `transport_mut`.
@@ -61,16 +63,23 @@ enum Call {
     Reclaim,
     /// `take_notes`.
     Notes,
+    /// `keep_freed`, and then no more.
+    KeepFreed,
+    /// `next_freed`.
+    Freed,
 }
 
 /// The calls, in order, each with its name if it is counted.
-static CALLS: [(&str, Call); 14] = [
+static CALLS: [(&str, Call); 17] = [
+    ("keep_freed", Call::KeepFreed),
+    ("next_freed", Call::Freed),
     ("control: send_request", Call::Send(Request::Sync)),
     ("look-ups", Call::LookUp),
     ("set_data", Call::SetData),
     ("set_data of no object", Call::SetMissing),
     ("with_data", Call::LendData),
     ("set_max_buffer_size", Call::Limit),
+    ("pass_over_unknown_senders", Call::PassOver),
     ("dispatch_inner_queue", Call::Dispatch),
     ("transport_mut", Call::Transport),
     ("flush", Call::Flush),
@@ -152,6 +161,7 @@ fn is_looked_up(client: &Client) -> bool {
     let callback = Object::Callback.id();
     client.info(&callback).is_ok()
         && client.get_data(&callback).is_ok()
+        && client.object_for_protocol_id(2).is_some()
         && client.display_id() == Object::Display.id()
         && client.protocol().get(QUAD).is_some()
         && client.last_error().is_none()
@@ -205,6 +215,10 @@ fn make_of_all(client: &mut Client, call: Call) -> bool {
             client.set_max_buffer_size(Some(8192));
             true
         }
+        Call::PassOver => {
+            client.pass_over_unknown_senders(true);
+            true
+        }
         Call::Next => client.next_event().is_ok(),
         Call::NextOf(opcode) => match client.next_event() {
             Ok(event) => event.opcode == opcode,
@@ -218,6 +232,12 @@ fn make_of_all(client: &mut Client, call: Call) -> bool {
         }
         Call::Flush => client.flush().is_ok(),
         Call::Reclaim => client.reclaim(&Object::Callback.id()).is_ok(),
+        Call::KeepFreed => {
+            client.keep_freed(true);
+            client.keep_freed(false);
+            true
+        }
+        Call::Freed => client.next_freed().is_none(),
         Call::Destroy => client.destroy_object(&Object::Callback.id()).is_ok(),
         Call::DestroySecond => {
             let second = ObjectId::from_parts(3, 2, WL_CALLBACK_INTERFACE);

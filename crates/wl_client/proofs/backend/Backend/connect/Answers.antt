@@ -1,4 +1,4 @@
-use Rattle.std.proofs.Common.{None}
+use Rattle.std.proofs.Common.{None, false}
 use Rattle.wl_client.proofs.backend.Backend.connect.Goals as goal
 
 pub returns-clause-connected : goal.returns-clause-connected
@@ -13,5 +13,8 @@ returns-clause-connected g c = (
     error = None;
     open_event = None;
     notes = c.new-2.ensures.items i;
+    passes_over = false;
+    keeps_freed = false;
+    freed = c.new-3.ensures.items i;
   },
 )
