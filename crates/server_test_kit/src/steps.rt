@@ -16,6 +16,10 @@ pub enum Call {
     SetData(Thing, u32),
     /// `Step::CreateObject`.
     Create(Who, InterfaceId, u32, u32),
+    /// `Step::SetObjectVersion`.
+    SetVersion(Thing, u32),
+    /// `Step::CreateObjectAt`: of a version, at a number, with data.
+    CreateAt(Who, InterfaceId, u32, u32, u32),
     /// `Step::DestroyObject`.
     Destroy(Thing),
     /// `Step::SendEvent`.
@@ -30,6 +34,8 @@ pub enum Call {
     Disable(Named),
     /// `Step::RemoveGlobal`.
     Remove(Named),
+    /// `Step::KeepGlobalNames`.
+    KeepNames(bool),
     /// `Step::Flush` of one client.
     Flush(Who),
     /// `Step::Flush` of all clients.
@@ -105,6 +111,10 @@ fn of_objects(alloc: Global, call: Call) -> Result<Made, Fail> {
         Call::Create(who, interface, version, data) => {
             Ok(Step::CreateObject(who.id(), interface, version, data))
         }
+        Call::SetVersion(object, version) => Ok(Step::SetObjectVersion(object.id(), version)),
+        Call::CreateAt(who, interface, version, number, data) => {
+            Ok(Step::CreateObjectAt(who.id(), interface, version, number, data))
+        }
         Call::Destroy(object) => Ok(Step::DestroyObject(object.id())),
         Call::Send(event) => send(alloc, event),
         Call::PostError(on, code, text) => post(alloc, on, code, text),
@@ -150,6 +160,7 @@ fn of_server(alloc: Global, call: Call) -> Result<Made, Fail> {
         Call::Global(interface, version) => Ok(Step::CreateGlobal(interface, version, Shown)),
         Call::Disable(global) => Ok(Step::DisableGlobal(global.id())),
         Call::Remove(global) => Ok(Step::RemoveGlobal(global.id())),
+        Call::KeepNames(keep) => Ok(Step::KeepGlobalNames(keep)),
         Call::Flush(who) => Ok(Step::Flush(Some(who.id()))),
         Call::FlushAll => Ok(Step::Flush(None)),
         Call::DefaultLimit(bytes) => Ok(Step::SetDefaultMaxBufferSize(bytes)),
@@ -165,6 +176,8 @@ pub fn step(alloc: Global, call: Call) -> Result<Made, Fail> {
     match call {
         Call::SetData(..)
         | Call::Create(..)
+        | Call::SetVersion(..)
+        | Call::CreateAt(..)
         | Call::Destroy(_)
         | Call::Send(_)
         | Call::PostError(..) => of_objects(alloc, call),

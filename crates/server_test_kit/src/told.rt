@@ -302,7 +302,8 @@ fn sent(log: &mut String, sent: &[(Vec<u8>, Vec<Token>)]) -> Result<(), Fail> {
 fn of_client(log: &mut String, reply: &Reply<Memory, u32>) -> Result<(), Fail> {
     match reply {
         Reply::SetObjectData(answer) => done(log, answer),
-        Reply::CreateObject(answer) => created(log, answer),
+        Reply::SetObjectVersion(answer) => done(log, answer),
+        Reply::CreateObject(answer) | Reply::CreateObjectAt(answer) => created(log, answer),
         Reply::DestroyObject(answer) => done(log, answer),
         Reply::SendEvent(answer) => done(log, answer),
         Reply::NextAction(answer) => read(log, answer),

@@ -5,6 +5,7 @@
 mod arguments;
 mod beside;
 mod buffers;
+mod chosen;
 mod cuts;
 mod cutting;
 mod dispatches;

@@ -9,3 +9,4 @@ pub mod Inserting
 pub mod SendingEvents
 pub mod Closing
 pub mod Destroying
+pub mod Choosing

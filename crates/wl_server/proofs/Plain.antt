@@ -11,3 +11,4 @@ pub mod Globals
 pub mod Events
 pub mod Dispatch
 pub mod Transport
+pub mod Chosen

@@ -4,3 +4,4 @@ pub mod Calls
 pub mod Servers
 pub mod WholeCalls
 pub mod Announcements
+mod Chosen

@@ -7,16 +7,19 @@ use Rattle.wl_wire.specs.Table.{InterfaceRow}
 use Rattle.wl_link.specs.declared.object.Object.{Object}
 use Rattle.wl_link.specs.Identity.{names}
 use Rattle.wl_link.specs.Store.{Range, Store, empty_store, stored, removed, rewritten, first_unused, IsLeastAbsent, IsFull}
+use Rattle.wl_link.specs.Unused.{IsLeastUnused, IsUsedUp}
 use Rattle.wl_server.specs.declared.error.GlobalError.{GlobalError}
 use Rattle.wl_server.specs.declared.error.GlobalError.TheVariants as refused
 use Rattle.wl_server.specs.declared.globals.KeptGlobal.{KeptGlobal}
 use Rattle.wl_server.specs.Ids.{ClientParts, GlobalParts}
 use Rattle.wl_server.specs.Part.{last_possible_serial}
 
--- the globals by name, each with its interface and version, and the last serial given out
+-- the globals by name, each with its interface and version; the last serial given out; and whether names are kept: then no new
+-- global gets a name that was in use
 pub record Globals (G : Type 0) : Type 0 where
   pub store : Store (KeptGlobal G)
   pub last_serial : ℕ
+  pub keeps_names : Bool
 
 -- the names that a global may have
 abbrev pub name_range : Range
@@ -36,13 +39,17 @@ pub record Shown : Type 0 where
 
 module _ {G : Type 0} where
   abbrev pub no_globals : Globals G
-  no_globals = record { store = empty_store; last_serial = 0 }
+  no_globals = record { store = empty_store; last_serial = 0; keeps_names = false }
 
   abbrev pub new_offer : List InterfaceRow → Offer G
   new_offer table = record { table = table; globals = no_globals; default_limit = 4096 }
 
   abbrev pub with_globals : Offer G → Globals G → Offer G
   with_globals offer globals = record offer { globals = globals }
+
+  -- names are kept from now on, or not
+  abbrev pub keeping : Offer G → Bool → Offer G
+  keeping offer keeps = with_globals offer (record offer.globals { keeps_names = keeps })
 
   abbrev pub with_table : Offer G → List InterfaceRow → Offer G
   with_table offer table = record offer { table = table }
@@ -99,18 +106,26 @@ module _ {G : Type 0} where
   abbrev pub with_created : Globals G → InterfaceId → ℕ → G → Result GlobalParts GlobalError → Globals G
   with_created globals i version handler (Err _) = globals
   with_created globals i version handler (Ok g) =
-      record { store = stored globals.store g.name (new_global i version g.serial handler); last_serial = g.serial }
+      record globals { store = stored globals.store g.name (new_global i version g.serial handler); last_serial = g.serial }
 
   -- ---- which global is created
 
+  -- the name of the next global: the least that no other has; if names are kept, the least that was never in use
+  abbrev pub IsNextName : Globals G → ℕ → Type 0
+  IsNextName globals n = MatchBool globals.keeps_names (IsLeastUnused name_range globals.store n) (IsLeastAbsent name_range globals.store n)
+
+  -- each name has a global; if names are kept, each was in use
+  abbrev pub HasNoName : Globals G → Type 0
+  HasNoName globals = MatchBool globals.keeps_names (IsUsedUp name_range globals.store) (IsFull name_range globals.store)
+
   -- no name or no serial is left
   abbrev pub LacksName : Globals G → Type 0
-  LacksName globals = IsFull name_range globals.store ⊎ (globals.last_serial ≡ last_possible_serial)
+  LacksName globals = HasNoName globals ⊎ (globals.last_serial ≡ last_possible_serial)
 
-  -- the id of the next global: the least name that no other has, and the next serial
+  -- the id of the next global: the next name, and the next serial
   abbrev pub IsNextGlobal : Globals G → GlobalParts → Type 0
   IsNextGlobal globals id =
-      IsLeastAbsent name_range globals.store id.name × (globals.last_serial < last_possible_serial) × (id.serial ≡ globals.last_serial + 1)
+      IsNextName globals id.name × (globals.last_serial < last_possible_serial) × (id.serial ≡ globals.last_serial + 1)
 
   -- A new global gets the next id, or there is no memory for it, if its name was never in use. If no name or no serial is
   -- left, the answer is `Full`.

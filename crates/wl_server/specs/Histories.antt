@@ -1,5 +1,5 @@
--- Runs over the transport by script, whose entries are steps with their replies, changes of a client's transport, and interfaces
--- that were to be added.
+-- Runs over the transport by script, whose entries are steps with their replies, changes of a client's transport, and what the
+-- table was asked to take.
 use Rattle.std.specs.Prelude.{Bool, List, ◌++◌, length}
 use Rattle.wl_wire.specs.Table.{InterfaceRow}
 use Rattle.wl_link.specs.Runs.{RunEntry, IsWhereItStops, entries}
@@ -16,7 +16,7 @@ use Rattle.wl_server.specs.Stretches.{EachPartIsCut}
 
 module _ {U G C : Type 0} (views : G → ClientParts → C → GlobalParts → Bool) where
   -- The steps with these replies are the calls of entries that lead from one value of a server to another. They extend each
-  -- history of a new server that led to the first, even if transports were changed or interfaces added in it: `IsAccountedFor`
+  -- history of a new server that led to the first, even if transports were changed or the table grew in it: `IsAccountedFor`
   -- holds of the history with these entries after it. Cutting does not matter to any part of it, whatever the deeds of the
   -- steps are.
   pub record Extends (before : ServerState Script U G C) (steps : List (RunEntry (Step Script U G C) (Reply Script U))) (after : ServerState Script U G C) : Type 0 where

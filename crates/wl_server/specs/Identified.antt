@@ -38,6 +38,7 @@ answer_ids (Err e) = []
 -- the ids of objects that the reply to a call hands out, but for those of notes
 abbrev pub ids_in : {T U G C : Type 0} → Call T U G C → List (HandedId IdParts)
 ids_in (Asked (step.CreateObject _ _ _ _) (reply.CreateObject r)) = made_ids r
+ids_in (Asked (step.CreateObjectAt _ _ _ _ _) (reply.CreateObjectAt r)) = made_ids r
 ids_in (Asked (step.NextAction _) (reply.NextAction r)) = answer_ids (action_content r)
 ids_in (Asked (step.NextActionWithin _ _) (reply.NextActionWithin r _)) = answer_ids (action_content r)
 ids_in _ = []

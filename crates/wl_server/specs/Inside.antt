@@ -27,3 +27,5 @@ pub mod Ending
 pub mod Performing
 pub mod Dispatching
 pub mod Touched
+pub mod Naming
+pub mod Choosing

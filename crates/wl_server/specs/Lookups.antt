@@ -32,6 +32,10 @@ info_at n x = record { id = n; interface = x.interface; version = x.version }
 abbrev pub id_if : {U : Type 0} → ClientParts → InterfaceId → ℕ → Object (Kept U) → Option IdParts
 id_if client i n x = if x.interface.0 == i.0 then Some (id_at client n x) else None
 
+-- the id of the object that a client's number holds, and its user data
+abbrev pub held_at : {U : Type 0} → ClientParts → ℕ → Object (Kept U) → IdParts × Option U
+held_at client n x = (id_at client n x, x.value.user_data)
+
 abbrev pub id_if_stored : {T U C : Type 0} → ℕ → Option (Stored T U C) → List ClientParts
 id_if_stored slot None = []
 id_if_stored slot (Some s) = if s.part.is_killed then [] else (record { slot = slot; serial = s.serial } ∷ [])
@@ -86,6 +90,14 @@ module _ {T U G C : Type 0} (s : ServerState T U G C) where
   -- the ids of all objects of a client, by ascending number
   abbrev pub objects_of_client : ClientParts → Option (List IdParts)
   objects_of_client client = option_map (λ p. map (λ e. id_at client e.0 e.1) (finmap.entries p.store.objects)) (client_of client)
+
+  -- the client's object that has the number, with its user data
+  abbrev pub held_by_number : ClientParts → ℕ → Option (IdParts × Option U)
+  held_by_number client n = and_then (client_of client) (λ p. option_map (held_at client n) (held p.store n))
+
+  -- all objects of a client with their user data, by ascending number
+  abbrev pub held_of_client : ClientParts → Option (List (IdParts × Option U))
+  held_of_client client = option_map (λ p. map (λ e. held_at client e.0 e.1) (finmap.entries p.store.objects)) (client_of client)
 
   -- ---- globals
 

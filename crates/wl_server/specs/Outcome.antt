@@ -60,7 +60,7 @@ module _ {T U G C : Type 0} where
   SameStep (step.Arrive target bytes tokens) s' = ArrivesSame target (record { bytes = bytes.items; tokens = tokens.items }) s'
   SameStep s s' = s ≡ s'
 
-  -- the same step, the same change of a transport, or the same interfaces to be added
+  -- the same step, the same change of a transport, or the same for the table to take
   abbrev pub SameCall : Call T U G C → Call T U G C → Type 0
   SameCall (Asked s _) (Asked s' _) = SameStep s s'
   SameCall (Changed id t) (Changed id' t') = (id ≡ id') × (t ≡ t')
@@ -73,7 +73,7 @@ module _ {T U G C : Type 0} where
   SameAnswer id (Grown _ answer) (Grown _ answer') = answer ≡ answer'
   SameAnswer id _ _ = Unit {0}
 
-  -- the answers are the same if they tell what all clients share, and so if they tell what became of interfaces
+  -- the answers are the same if they tell what all clients share, and so if they tell what became of the table
   abbrev pub SharedAnswer : Call T U G C → Call T U G C → Type 0
   SharedAnswer (Asked s answer) (Asked _ answer') = SharedSame s answer answer'
   SharedAnswer (Grown _ answer) (Grown _ answer') = answer ≡ answer'

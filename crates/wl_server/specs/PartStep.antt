@@ -26,12 +26,14 @@ use Rattle.wl_server.specs.declared.error.FinishError.TheVariants as finish
 use Rattle.wl_server.specs.declared.error.GlobalError.{GlobalError}
 use Rattle.wl_server.specs.declared.error.InsertClientError.{InsertClientError}
 use Rattle.wl_server.specs.declared.error.ScriptError.TheVariants as script
+use Rattle.wl_server.specs.declared.error.VersionError.TheVariants as version
 use Rattle.wl_server.specs.declared.notes.Happening.TheVariants.{Initialized}
 use Rattle.wl_server.specs.declared.notes.Note.{Note}
 use Rattle.wl_server.specs.declared.runs.step.Reply.{Reply}
 use Rattle.wl_server.specs.declared.runs.step.Reply.TheVariants as reply
 use Rattle.wl_server.specs.declared.runs.step.Step.{Step}
 use Rattle.wl_server.specs.declared.runs.step.Step.TheVariants as step
+use Rattle.wl_server.specs.Chosen.{CreatesNumbered, VersionSet}
 use Rattle.wl_server.specs.Deeds.{Deed, Handed, NoteTaken, Noted, notes_in}
 use Rattle.wl_server.specs.Errors.{PostsError}
 use Rattle.wl_server.specs.Events.{SendsEvent, session_content}
@@ -63,8 +65,8 @@ over sends receives views = record { sends = sends; receives = receives; moves =
 abbrev pub over_scripts : {G C : Type 0} → (G → ClientParts → C → GlobalParts → Bool) → World Script G C
 over_scripts views = record { sends = ScriptSends; receives = ScriptReceives; moves = ScriptMoves; views = views }
 
--- A call of a server: a step with its reply; a change of a client's transport to this value, by the program; or interfaces
--- that were to be added to the table, with the answer.
+-- A call of a server: a step with its reply; a change of a client's transport to this value, by the program; or what the table
+-- was asked to take, with the answer.
 pub data Call (T U G C : Type 0) : Type 0 where
   Asked : Step T U G C → Reply T U → Call T U G C
   Changed : ClientParts → T → Call T U G C
@@ -197,10 +199,18 @@ module _ {T U G C : Type 0} (w : World T G C) (id : ClientParts) (offer : Offer 
   PartStep (step.SetObjectData o u) answer before lacked did after =
       (r : _) × (answer ≡ reply.SetObjectData r)
       × OfClient (same_client o.client id) before (λ p q. Quietly lacked did (DataSet p o u r q)) (r ≡ Err _) lacked did after
+  PartStep (step.SetObjectVersion o v) answer before lacked did after =
+      (r : _) × (answer ≡ reply.SetObjectVersion r)
+      × OfClient (same_client o.client id) before (λ p q. Quietly lacked did (VersionSet offer.table p o v r q)) (r ≡ Err version.InvalidId) lacked did after
   PartStep (step.CreateObject target i version u) answer before lacked did after =
       (r : _) × (answer ≡ reply.CreateObject r)
       × OfClient (same_client target id) before
       (λ p q. (lacked ≡ lacks_create r) × (did ≡ []) × Creates offer.table id p i version u r q)
+      (r ≡ Err create.InvalidId) lacked did after
+  PartStep (step.CreateObjectAt target i version n u) answer before lacked did after =
+      (r : _) × (answer ≡ reply.CreateObjectAt r)
+      × OfClient (same_client target id) before
+      (λ p q. (lacked ≡ lacks_create r) × (did ≡ []) × CreatesNumbered offer.table id p i version n u r q)
       (r ≡ Err create.InvalidId) lacked did after
   PartStep (step.DestroyObject o) answer before lacked did after =
       (r : _) × (answer ≡ reply.DestroyObject r)
@@ -220,6 +230,7 @@ module _ {T U G C : Type 0} (w : World T G C) (id : ClientParts) (offer : Offer 
       (r : _) × (answer ≡ reply.CreateGlobal r) × FeelsGlobal i version handler r before lacked did after
   PartStep (step.DisableGlobal g) answer before lacked did after = (answer ≡ reply.DisableGlobal) × FeelsLoss g before lacked did after
   PartStep (step.RemoveGlobal g) answer before lacked did after = (answer ≡ reply.RemoveGlobal) × FeelsLoss g before lacked did after
+  PartStep (step.KeepGlobalNames keep) answer before lacked did after = (answer ≡ reply.KeepGlobalNames) × Unfelt before lacked did after
   PartStep (step.Flush target) answer before lacked did after =
       (r : _) × (answer ≡ reply.Flush r) × FlushedFor target r before lacked did after
   PartStep (step.SetDefaultMaxBufferSize limit) answer before lacked did after =

@@ -47,7 +47,9 @@ module _ {T U G C : Type 0} where
 abbrev pub is_about : {T U G C : Type 0} → ClientParts → Step T U G C → Bool
 is_about id (step.InsertClient _ _) = false
 is_about id (step.SetObjectData o _) = same_client o.client id
+is_about id (step.SetObjectVersion o _) = same_client o.client id
 is_about id (step.CreateObject target _ _ _) = same_client target id
+is_about id (step.CreateObjectAt target _ _ _ _) = same_client target id
 is_about id (step.DestroyObject o) = same_client o.client id
 is_about id (step.SendEvent m) = same_client m.sender_id.client id
 is_about id (step.PostError o _ _) = same_client o.client id
@@ -55,6 +57,7 @@ is_about id (step.KillClient target _) = same_client target id
 is_about id (step.CreateGlobal _ _ _) = true
 is_about id (step.DisableGlobal _) = true
 is_about id (step.RemoveGlobal _) = true
+is_about id (step.KeepGlobalNames _) = true
 is_about id (step.Flush None) = true
 is_about id (step.Flush (Some target)) = same_client target id
 is_about id (step.SetDefaultMaxBufferSize _) = true
@@ -145,7 +148,7 @@ module _ {T U G C : Type 0} where
   abbrev pub HasNextSerial : ℕ → Call T U G C → Type 0
   HasNextSerial last call = (new : ClientParts) → Inserts new call → (last < last_possible_serial) × (new.serial ≡ last + 1)
 
-  -- The id of each new global, the answer to interfaces that are added, and the serial of each new client follow from the offer
+  -- The id of each new global, the answer to a growth of the table, and the serial of each new client follow from the offer
   -- and the last serial alone. The run leads from the offer and the last serial before it to those after it.
   abbrev pub SharedAlone : Offer G → ℕ → List (Entry T U G C) → Offer G → ℕ → Type 0
   SharedAlone offer last [] offer' last' = (offer' ≡ offer) × (last' ≡ last)

@@ -12,7 +12,7 @@ use Rattle.wl_server.specs.declared.runs.step.Reply.TheVariants as reply
 use Rattle.wl_server.specs.declared.runs.step.Step.{Step}
 use Rattle.wl_server.specs.declared.runs.step.Step.TheVariants as step
 use Rattle.wl_server.specs.Deeds.{Deed}
-use Rattle.wl_server.specs.Globals.{Globals, Offer, CreatesGlobal, disabled, freed, with_created, with_globals, with_table}
+use Rattle.wl_server.specs.Globals.{Globals, Offer, CreatesGlobal, disabled, freed, keeping, with_created, with_globals, with_table}
 use Rattle.wl_server.specs.declared.notes.Note.{Note}
 use Rattle.wl_server.specs.Ids.{ClientParts}
 use Rattle.wl_server.specs.NoteOrder.{AllInTime, AllNumbered, AllTakeFirst, IsInOrder, NoneWaits, RiseFromSlot, times_of}
@@ -83,12 +83,13 @@ module _ {T U G C : Type 0} where
       with_globals offer (created_by offer.globals i version handler answer)
   offer_after offer (Asked (step.DisableGlobal g) answer) = with_globals offer (disabled offer.globals g)
   offer_after offer (Asked (step.RemoveGlobal g) answer) = with_globals offer (freed offer.globals g)
+  offer_after offer (Asked (step.KeepGlobalNames keep) answer) = keeping offer keep
   offer_after offer (Asked (step.SetDefaultMaxBufferSize limit) answer) = record offer { default_limit = limit }
   offer_after offer (Grown rows answer) = with_table offer (table_after offer.table rows answer)
   offer_after offer _ = offer
 
-  -- A new global has the least free name and the next serial, and each error has its reason. Interfaces that are added are
-  -- refused for their first fault, and for want of memory if they have none.
+  -- A new global has the next name and the next serial, and each error has its reason. What the table is asked to take is
+  -- refused for its first fault, and for want of memory if it has none.
   abbrev pub AnswersShared : Offer G → Call T U G C → Type 0
   AnswersShared offer (Asked (step.CreateGlobal i version handler) (reply.CreateGlobal r)) = CreatesGlobal offer.table offer.globals i version r
   AnswersShared offer (Grown rows answer) = AnswersTo offer.table rows answer

@@ -35,6 +35,8 @@ pub struct Backend<T, U, G, C> {
     pub(crate) globals: ObjectMap<KeptGlobal<G>>,
     /// The serial of the global that was created last; 0 if none was.
     pub(crate) last_global: u64,
+    /// Whether a new global gets only a name that was never in use.
+    pub(crate) keeps_names: bool,
     /// How far the buffers of new clients may grow, in bytes.
     pub(crate) default_limit: usize,
     /// The serial of the client that was inserted last; 0 if none was.
@@ -79,7 +81,7 @@ impl<T, U, G, C> Model for Backend<T, U, G, C> {
       server = record {
         offer = record {
           table = b.protocol;
-          globals = record { store = b.globals.store; last_serial = b.last_global };
+          globals = record { store = b.globals.store; last_serial = b.last_global; keeps_names = b.keeps_names };
           default_limit = b.default_limit;
         };
         last_client = b.last_client;
@@ -103,6 +105,7 @@ impl<T: Drop, U: Drop, G: Drop, C: Drop> Backend<T, U, G, C> {
             protocol,
             globals: ObjectMap::new(alloc),
             last_global: 0,
+            keeps_names: false,
             default_limit: DEFAULT_MAX_BUFFER_SIZE,
             last_client: 0,
             clients: Vec::new(alloc),

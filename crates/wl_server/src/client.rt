@@ -8,6 +8,8 @@
 
 /// `flush` sends what waits.
 pub mod flush;
+/// `flush_client` also says whether more waits.
+pub mod flush_client;
 /// `insert_client`, and `next_client_id`: the id that it gives next.
 pub mod insert;
 /// `kill_client`; `kill`, which marks a client and notes the reason; and the killing after a failed write.

@@ -40,6 +40,9 @@ pub enum CreateError {
     /// Each serial was given out.
     #[error("no serial is left")]
     SerialsExhausted,
+    /// The number that was asked for is not free. Only `create_object_at` asks for one.
+    #[error("the number is not free")]
+    NotFree,
     /// There was no memory.
     #[error("out of memory")]
     OutOfMemory,
@@ -50,6 +53,17 @@ impl fmt::Debug for CreateError {
     fn fmt<W: fmt::Write>(&self, f: &mut fmt::Formatter<W>) -> fmt::Result {
         write!(f, "{self}")
     }
+}
+
+/// Why an object did not get another version.
+#[derive(Clone, Copy, Debug, PartialEq, Eq, Error)]
+pub enum VersionError {
+    /// The id names no object, or its client is not stored.
+    #[error("Invalid Id")]
+    InvalidId,
+    /// The version is 0, or above that of the object's interface in the table.
+    #[error("the object's interface has no such version")]
+    UnknownVersion,
 }
 
 /// Why an object was not destroyed.

@@ -1,9 +1,10 @@
 //! The globals of a server.
 
-ghost use Rattle.std.specs.Prelude.{◌≡◌, ℕ, MatchOption, IfOk, Some, option_copied};
+ghost use Rattle.std.specs.Prelude.{◌≡◌, ℕ, Bool, MatchBool, MatchOption, IfOk, Some, option_copied};
 ghost use Rattle.wl_link.specs.Identity.{names};
 ghost use Rattle.wl_link.specs.ObjectMap.{InsertsNew, NextNew};
 ghost use Rattle.wl_link.specs.Store.{held, rewritten};
+ghost use Rattle.wl_server.specs.Inside.Naming.{InsertsUnused, NextName};
 ghost use Rattle.wl_server.specs.Globals.{CreatesGlobal, as_disabled, disabled, freed, global_serial, name_range, new_global, with_created};
 
 /// `add_interfaces` and `extend_interface`: the table grows.
@@ -18,12 +19,14 @@ pub mod handler;
 pub mod lookups;
 /// Tells a new registry of each global that its client is shown.
 pub mod new_registry;
+/// `keep_global_names`: whether names that were in use are given again.
+pub mod keep_names;
 /// `disable_global` and `remove_global`.
 pub mod remove_global;
 
 use crate::error::GlobalError;
 use crate::ids::global_id::GlobalId;
-use wl_link::{NewError, Object, ObjectMap};
+use wl_link::{InsertError, NewError, Object, ObjectMap};
 use wl_wire::{InterfaceId, Protocol};
 
 /// What is kept of a global in addition to its interface and version.
@@ -53,41 +56,68 @@ pub fn global_in<'a, G: Drop>(
     }
 }
 
-/// The least name that no global has; `None` if none is left.
-pub fn next_name<G: Drop>(globals: &ObjectMap<KeptGlobal<G>>) -> Option<u32>
-    ensures { NextNew name_range globals.now.store result }
+/// The least name that no global has, or that was never in use if names are kept; `None` if none is left.
+pub fn next_name<G: Drop>(globals: &ObjectMap<KeptGlobal<G>>, keeps_names: bool) -> Option<u32>
+    ensures { NextName keeps_names globals.now.store result }
 {
+    if keeps_names {
+        return globals.peek_unused();
+    }
     match globals.peek_client() {
         Some(name) => Some(name),
         None => globals.peek_server(),
     }
 }
 
-/// Inserts a global with the least name that no other has.
-fn insert<G: Drop>(
+/// Inserts a global with the least name that was never in use.
+fn insert_unused<G: Drop>(
     globals: &mut ObjectMap<KeptGlobal<G>>,
     global: Object<KeptGlobal<G>>,
 ) -> Result<u32, NewError>
-    ensures { InsertsNew name_range globals.old.store global result globals.new.store }
+    ensures { InsertsUnused globals.old.store global result globals.new.store }
 {
+    let Some(name) = globals.peek_unused() else {
+        return Err(NewError::IdsExhausted);
+    };
+    match globals.insert_at(name, global) {
+        Ok(()) => Ok(name),
+        Err(InsertError::OutOfMemory) => Err(NewError::OutOfMemory),
+        Err(InsertError::NotFree) => unreachable!(),
+    }
+}
+
+/// Inserts a global with the least name that no other has, or that was never in use if names are kept.
+fn insert<G: Drop>(
+    globals: &mut ObjectMap<KeptGlobal<G>>,
+    global: Object<KeptGlobal<G>>,
+    keeps_names: bool,
+) -> Result<u32, NewError>
+    ensures { MatchBool keeps_names (InsertsUnused globals.old.store global result globals.new.store)
+        (InsertsNew name_range globals.old.store global result globals.new.store) }
+{
+    if keeps_names {
+        return insert_unused(globals, global);
+    }
     match globals.next_client() {
         Some(_) => globals.client_insert_new(global),
         None => globals.server_insert_new(global),
     }
 }
 
-/// Creates a global with the least name that no other has, and the next serial. After an error nothing is changed.
+/// Creates a global with the next name and the next serial. If names are kept, the next one is the least that was never in
+/// use, and else the least that no other global has. After an error nothing is changed.
 pub fn create<G: Drop>(
     protocol: &Protocol,
     globals: &mut ObjectMap<KeptGlobal<G>>,
     last_serial: &mut u64,
+    keeps_names: bool,
     interface: InterfaceId,
     version: u32,
     handler: G,
 ) -> Result<GlobalId, GlobalError>
-    ensures answer { CreatesGlobal protocol.now (record { store = globals.old.store; last_serial = last_serial.old }) interface version result }
-    ensures globals { record { store = globals.new.store; last_serial = last_serial.new }
-        ≡ with_created (record { store = globals.old.store; last_serial = last_serial.old }) interface version handler result }
+    ensures answer { CreatesGlobal protocol.now (record { store = globals.old.store; last_serial = last_serial.old; keeps_names = keeps_names }) interface version result }
+    ensures globals { record { store = globals.new.store; last_serial = last_serial.new; keeps_names = keeps_names }
+        ≡ with_created (record { store = globals.old.store; last_serial = last_serial.old; keeps_names = keeps_names }) interface version handler result }
     ensures kept { IfOk result (λ id. names global_serial (record { number = id.name; serial = id.serial }) globals.new.store
         ≡ Some (new_global interface version id.serial handler)) }
 {
@@ -109,7 +139,7 @@ pub fn create<G: Drop>(
             is_disabled: false,
         },
     };
-    match insert(globals, global) {
+    match insert(globals, global, keeps_names) {
         Ok(name) => {
             *last_serial = serial;
             Ok(GlobalId::from_parts(name, serial))
@@ -131,8 +161,8 @@ fn disable_at<G: Drop>(globals: &mut ObjectMap<KeptGlobal<G>>, name: u32)
 
 /// Disables the global that the id names, if there is one: it is no longer announced.
 pub fn disable<G: Drop>(globals: &mut ObjectMap<KeptGlobal<G>>, id: &GlobalId)
-    ensures { (last : ℕ) → record { store = globals.new.store; last_serial = last }
-        ≡ disabled (record { store = globals.old.store; last_serial = last }) id.now }
+    ensures { (last : ℕ) (keeps : Bool) → record { store = globals.new.store; last_serial = last; keeps_names = keeps }
+        ≡ disabled (record { store = globals.old.store; last_serial = last; keeps_names = keeps }) id.now }
 {
     if global_in(globals, id).is_none() {
         return;
@@ -140,10 +170,10 @@ pub fn disable<G: Drop>(globals: &mut ObjectMap<KeptGlobal<G>>, id: &GlobalId)
     disable_at(globals, id.name());
 }
 
-/// Removes the global that the id names, if there is one. Its name is free again.
+/// Removes the global that the id names, if there is one. No global has its name then.
 pub fn remove<G: Drop>(globals: &mut ObjectMap<KeptGlobal<G>>, id: &GlobalId)
-    ensures { (last : ℕ) → record { store = globals.new.store; last_serial = last }
-        ≡ freed (record { store = globals.old.store; last_serial = last }) id.now }
+    ensures { (last : ℕ) (keeps : Bool) → record { store = globals.new.store; last_serial = last; keeps_names = keeps }
+        ≡ freed (record { store = globals.old.store; last_serial = last; keeps_names = keeps }) id.now }
 {
     if global_in(globals, id).is_none() {
         return;

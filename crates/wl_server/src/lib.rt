@@ -16,17 +16,18 @@
 //!
 //! | Calls | Code | Relations, in `specs/` |
 //! |---|---|---|
-//! | `insert_client`, `next_client_id`, `kill_client`, `flush`, the limits | `client::insert`, `client::kill`, `client::flush`, `client::limits` | `PartStep`, `Felt`, `Telling`, `Next` |
+//! | `insert_client`, `next_client_id`, `kill_client`, `flush`, `flush_client`, the limits | `client::insert`, `client::kill`, `client::flush`, `client::flush_client`, `client::limits` | `PartStep`, `Felt`, `Telling`, `Next`, `FlushedClient` |
 //! | `transport_mut` | `client::transport` | `Backend`, `Lending`, `Plain/Transport` |
 //! | `create_object`, `destroy_object`, `set_object_data`, `with_object_data` | `objects` | `Objects`, `Plain/DataInPlace` |
+//! | `create_object_at`, `set_object_version` | `objects::create_at`, `objects::version` | `Chosen`, `Plain/Chosen` |
 //! | `send_event`, `send_event_lent`, `post_error` | `events` | `Events`, `Errors`, `Posted` |
 //! | `next_action`, `next_action_within`, and both `_into` | `reading::next_action` | `Reading`, `Requests`, `Cutting`, `Room`, `Plain/Reading`, `ReadingEnds` |
 //! | `finish_request`, `finish_bind`, and both `_returning` | `reading::finish` | `Finish`, `Cutting`, `Plain` |
 //! | `dispatch_single_client`, `dispatch_all_clients`, [`Handler`] | `dispatch` | `Dispatch`, `Reached`, `Plain/Dispatch` |
-//! | `create_global`, `disable_global`, `remove_global` | `globals::create_global`, `globals::remove_global` | `PartStep`, `Globals`, `Felt` |
+//! | `create_global`, `disable_global`, `remove_global`, `keep_global_names` | `globals::create_global`, `globals::remove_global`, `globals::keep_names` | `PartStep`, `Globals`, `Felt` |
 //! | `add_interfaces`, `extend_interface` | `globals::add_interfaces` | `Steps`, `Plain/Calls`, and `Table` of `wl_wire` |
 //! | `cleanup`, `take_notes` | `notes` | `PartStep`, `Felt` |
-//! | look-ups, `next_global_id`, `all_clients`, `with_all_clients`, and the same of objects | `lookups`, `globals::lookups` | `Lookups`, `Next` |
+//! | look-ups, `next_global_id`, `all_clients`, `with_all_clients`, and the same of objects; `object_by_number`, `all_held_for` | `lookups`, `globals::lookups` | `Lookups`, `Next` |
 //! | `replay` | `runs::replay` | `Runs`, `Histories`, `Outcome/Whole` |
 //!
 //! Most calls have a second clause, `plain`. It says what the program finds of the object, the client, the global or the
@@ -75,15 +76,17 @@ mod reading;
 mod runs;
 
 pub use backend::Backend;
+pub use client::flush_client::Flushed;
 pub use dispatch::Handler;
 pub use error::{
     ActionError, CreateError, DestroyError, EventError, FinishError, FinishRefused, GlobalError,
-    InsertClientError, InvalidId, ScriptError,
+    InsertClientError, InvalidId, ScriptError, VersionError,
 };
 pub use globals::handler::{GlobalHandler, ShownToAll};
 pub use ids::client_id::ClientId;
 pub use ids::global_id::{GlobalId, GlobalInfo};
 pub use ids::object_id::ObjectId;
+pub use lookups::held::AllHeldFor;
 pub use lookups::walks::{AllClients, AllObjectsFor};
 pub use notes::{DisconnectReason, Note};
 pub use reading::action::{Action, Reading};

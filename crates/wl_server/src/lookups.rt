@@ -4,6 +4,8 @@ ghost use Rattle.std.specs.Prelude.{◌≡◌, MatchResult, None, Some, option_c
 ghost use Rattle.wl_server.specs.Lookups.{client_by, client_data_of, object_data_of, object_for_number, object_info_of, transport_of};
 ghost use Rattle.wl_server.specs.Server.{client_at};
 
+/// Objects with their data: by number, and all of a client.
+pub mod held;
 /// Calls a closure for each live client, or for each object of a client.
 pub mod visits;
 /// Iterators over clients and objects.

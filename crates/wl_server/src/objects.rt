@@ -10,10 +10,14 @@ ghost use Rattle.wl_server.specs.Part.{named, note_of_end, registries_without, s
 
 /// `create_object`.
 pub mod create;
+/// `create_object_at`.
+pub mod create_at;
 /// The data of an object: set, or changed in place.
 pub mod data;
 /// `destroy_object`.
 pub mod destroy;
+/// `set_object_version`.
+pub mod version;
 
 use crate::ids::client_id::ClientId;
 use crate::ids::object_id::ObjectId;

@@ -225,7 +225,7 @@ static ROWS: [Row; 10] = [
             Act::Do(Call::Arrive(FIRST, &[3, 0, 0, 0, 6, 0, 8, 0])),
             Act::Do(Call::Next(FIRST)),
         ],
-        told: "the interface has no event of that opcode\nthe version is above the interface's\nrequest 0 to 3, 2, 4 of 0: 5\nfinished\ninterface 0: a message names an interface outside the table\ninterface 0: a message names an interface outside the table\ndone\nrequest 5 to 3, 2, 4 of 0\nfinished\ndone\nglobal 2, 2\ninterface 4, version 3, disabled: false\ndone\n03 00 00 00 03 00 08 00 02 00 00 00 00 00 1c 00 02 00 00 00 05 00 00 00 71 75 61 64 00 00 00 00 04 00 00 00\nIo error: protocol fault\n",
+        told: "the interface has no event of that opcode\nthe version is above the interface's\nrequest 0 to 3, 2, 4 of 0: 5\nfinished\ninterface 0: a message names an interface outside the table, or this one takes no more messages\ninterface 0: a message names an interface outside the table, or this one takes no more messages\ndone\nrequest 5 to 3, 2, 4 of 0\nfinished\ndone\nglobal 2, 2\ninterface 4, version 3, disabled: false\ndone\n03 00 00 00 03 00 08 00 02 00 00 00 00 00 1c 00 02 00 00 00 05 00 00 00 71 75 61 64 00 00 00 00 04 00 00 00\nIo error: protocol fault\n",
     },
     // Slots are used again, serials are not.
     Row {

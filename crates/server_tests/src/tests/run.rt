@@ -10,7 +10,7 @@ use test_kit::cuts::{Cut, Stream};
 use test_kit::log::row_tells;
 use test_kit::quad::{QUAD, messages, plain, push_interface, quad_table};
 use wl_link::Memory;
-use wl_server::{Action, ActionError, Backend, ClientId, ObjectId, Reading, Reply};
+use wl_server::{Action, ActionError, Backend, ClientId, Flushed, ObjectId, Reading, Reply};
 use wl_wire::{InterfaceId, IoFault};
 
 /// A server of the runs.
@@ -63,6 +63,8 @@ pub enum Beside {
     FinishBindReturning(Who, u32),
     /// `with_object_data`, which adds to the data.
     AddToData(Thing, u32),
+    /// `flush_client`.
+    FlushClient(Who),
 }
 
 /// What is looked at.
@@ -96,6 +98,10 @@ pub enum Look {
     ClientWalk,
     /// The ids that the walk over a client's objects gives.
     ObjectWalk(Who),
+    /// The object at a number, with its data.
+    Held(Who, u32),
+    /// What the walk over a client's objects with their data gives.
+    HeldWalk(Who),
 }
 
 /// Tells the replies.
@@ -410,6 +416,36 @@ fn object_walk(server: &Server, log: &mut String, who: Who) -> Result<(), Fail> 
     Ok(())
 }
 
+/// Tells an object with its data, if it has any.
+fn held(log: &mut String, id: ObjectId, data: Option<&u32>) -> Result<(), Fail> {
+    object(log, id)?;
+    match data {
+        Some(data) => Ok(writeln!(log, " with {data}")?),
+        None => Ok(writeln!(log)?),
+    }
+}
+
+/// Tells the client's object at the number, with its data.
+fn held_at(server: &Server, log: &mut String, who: Who, number: u32) -> Result<(), Fail> {
+    match server.object_by_number(&who.id(), number) {
+        Ok((id, data)) => held(log, id, data),
+        Err(error) => Ok(writeln!(log, "{error}")?),
+    }
+}
+
+/// Tells what the walk over the client's objects with their data gives, a line each.
+fn held_walk(server: &Server, log: &mut String, who: Who) -> Result<(), Fail> {
+    match server.all_held_for(&who.id()) {
+        Ok(walk) => {
+            for (id, data) in walk {
+                held(log, id, data)?;
+            }
+        }
+        Err(error) => writeln!(log, "{error}")?,
+    }
+    Ok(())
+}
+
 /// Tells the id that the next global gets.
 fn next_global(server: &Server, log: &mut String) -> Result<(), Fail> {
     match server.next_global_id() {
@@ -558,6 +594,16 @@ fn finish_bind_returning(
     reply(log, &Reply::FinishBind(answer))
 }
 
+/// Flushes one client, and tells whether more waits.
+fn flush_client(server: &mut Server, log: &mut String, who: Who) -> Result<(), Fail> {
+    match server.flush_client(&who.id()) {
+        Ok(Flushed::All) => writeln!(log, "all is sent")?,
+        Ok(Flushed::More) => writeln!(log, "more waits")?,
+        Err(error) => writeln!(log, "{error}")?,
+    }
+    Ok(())
+}
+
 /// Makes the call, for which there is to be memory, and tells its answer as that of the call that it stands beside.
 fn make_beside(
     alloc: Global,
@@ -573,6 +619,7 @@ fn make_beside(
         Beside::FinishReturning(who, given) => finish_returning(server, log, who, given),
         Beside::FinishBindReturning(who, given) => finish_bind_returning(server, log, who, given),
         Beside::AddToData(of, more) => add_to_data(server, log, of, more),
+        Beside::FlushClient(who) => flush_client(server, log, who),
     };
     answer?;
     if server.memory_refused() {
@@ -630,6 +677,8 @@ fn look_at(alloc: Global, server: &Server, log: &mut String, at_what: Look) -> R
         Look::Objects(who) => objects(server, log, who),
         Look::ClientWalk => client_walk(server, log),
         Look::ObjectWalk(who) => object_walk(server, log, who),
+        Look::Held(who, number) => held_at(server, log, who, number),
+        Look::HeldWalk(who) => held_walk(server, log, who),
     }
 }
 

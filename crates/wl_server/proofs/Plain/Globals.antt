@@ -1,7 +1,7 @@
 -- Globals that are created, disabled and removed.
 use Rattle.std.proofs.Common.{◌≡◌, ◌⊎◌, ℕ, Bool, true, false, cond, List, [], ◌∷◌, ◌++◌, append-nil, None, Some, Result, Ok, Err, refl, ap, subst, ◌∙◌, arith, true≢false, sym}
 use mathlib.Core.Logic.{inl, inr}
-use Rattle.std.specs.Prelude.{◌==◌, nat_le, option_map, slice_get}
+use Rattle.std.specs.Prelude.{◌==◌, option_map}
 use Rattle.std.proofs.lemmas.Bool.{eq-eqb, ne_eqb}
 use Rattle.wl_wire.specs.declared.interface.InterfaceId.{InterfaceId}
 use Rattle.wl_link.proofs.Calls.Branches.{either_option}
@@ -35,6 +35,7 @@ use Rattle.wl_server.specs.Server.{Seen, seen}
 use Rattle.wl_server.specs.Steps.{AnswersShared}
 use Rattle.wl_server.specs.Telling.{closed_down, core_of, end_deeds, part_of, tells}
 use Rattle.wl_server.specs.Inside.Carried.{told_notes}
+use Rattle.wl_server.proofs.GlobalCalls.AtName.{created_next, next_absent}
 use Rattle.wl_server.proofs.OverRuns.Ids.GivenLaws.{created_elsewhere, disabled_changes, freed_changes}
 use Rattle.wl_server.proofs.Plain.Base.{by_growth, option_cases, nothing_new, of_each, offer_of, some_lacks, split_bool}
 use Rattle.wl_server.proofs.Readings.Finishing.{where_none, where_some}
@@ -162,12 +163,13 @@ module _ {T U G C : Type 0} {w : World T G C} {before after : BackendState T U G
 
     next : (g : GlobalParts) → Calls w before (step.CreateGlobal i version handler) (reply.CreateGlobal (Ok g)) after
         → IsNextGlobal before.server.offer.globals g
-    next g call = grind (arith, either_option, slice_get, no_error, nat_le, before.server.offer.table, before.server.offer.globals, shared_of call)
+    next g call = created_next before.server.offer.table before.server.offer.globals i version g (shared_of call)
 
     created_as : (answer : Result GlobalParts GlobalError) → Calls w before (step.CreateGlobal i version handler) (reply.CreateGlobal answer) after
         → GlobalCreatedAs before i version handler answer after
     created_as (Ok g) call = (
-      (grind (arith, global_serial, next)),
+      (let free : held before.server.offer.globals.store g.name ≡ None = next_absent before.server.offer.globals g (next g call) in
+          grind (arith, global_serial, free)),
       ap (λ (o : Offer G). global_of o.globals g) (offer_of call)
           ∙ (grind (arith, global_here, stored, ne_eqb, stored_here, eq-eqb, before.server.offer.globals, new_global i version g.serial handler, next g call)),
       λ other differ.

@@ -64,7 +64,7 @@ two_registries = (refl, refl, refl, refl)
 abbrev offer_of : Bool → Offer ℕ
 offer_of is_disabled = record {
   table = table;
-  globals = record { store = stored empty_store 1 (quad_global is_disabled); last_serial = 1 };
+  globals = record { store = stored empty_store 1 (quad_global is_disabled); last_serial = 1; keeps_names = false };
   default_limit = 4096;
 }
 

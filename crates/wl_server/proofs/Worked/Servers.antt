@@ -52,6 +52,7 @@ use Rattle.wl_server.specs.declared.notes.Happening.TheVariants as happened
 use Rattle.wl_server.specs.declared.runs.step.Reply.TheVariants as reply
 use Rattle.wl_server.specs.declared.runs.step.Step.TheVariants as step
 use Rattle.wl_server.specs.declared.error.InsertClientError.TheVariants as insert
+use Rattle.wl_server.proofs.GlobalCalls.AtName.{lacks_no_next}
 use Rattle.wl_server.proofs.OverRuns.Outcome.WholeLaws.{same_client_is}
 
 -- ---- what is a client's
@@ -249,7 +250,7 @@ module _ (w : World ℕ ℕ Bool) (lacks : ClientParts → Bool) (did : ClientPa
 -- ---- no want of memory is answered where no name is left
 
 full_comes_first : (globals : Globals ℕ) → LacksName globals → CreatesNext globals (Err global.OutOfMemory) → ⊥
-full_comes_first globals h2 h3 = grind (arith, true≢false, is_some)
+full_comes_first globals lacks (id, next, unused) = lacks_no_next globals id lacks next
 
 -- ---- an error for a killed client asks for no memory
 

@@ -6,7 +6,9 @@ module _ {T U G C : Type 0} where
   -- it is about one object
   abbrev pub IsOfObject : Step T U G C → Type 0
   IsOfObject (step.SetObjectData o u) = Unit {0}
+  IsOfObject (step.SetObjectVersion o version) = Unit {0}
   IsOfObject (step.CreateObject target i version u) = Unit {0}
+  IsOfObject (step.CreateObjectAt target i version n u) = Unit {0}
   IsOfObject (step.DestroyObject o) = Unit {0}
   IsOfObject (step.SendEvent m) = Unit {0}
   IsOfObject (step.PostError o code text) = Unit {0}
@@ -34,6 +36,7 @@ module _ {T U G C : Type 0} where
   IsOfAll (step.InsertClient transport client_data) = Unit {0}
   IsOfAll (step.Flush target) = Unit {0}
   IsOfAll (step.SetDefaultMaxBufferSize limit) = Unit {0}
+  IsOfAll (step.KeepGlobalNames keep) = Unit {0}
   IsOfAll step.Cleanup = Unit {0}
   IsOfAll step.TakeNotes = Unit {0}
   IsOfAll _ = ⊥

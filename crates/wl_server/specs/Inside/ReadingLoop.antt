@@ -39,7 +39,7 @@ abbrev pub around_of : {G C : Type 0} → (G → ClientParts → C → GlobalPar
 around_of views s = record {
   table = s.protocol.now;
   client = s.client;
-  globals = record { store = s.globals.now.store; last_serial = 0 };
+  globals = record { store = s.globals.now.store; last_serial = 0; keeps_names = false };
   views = views;
 }
 

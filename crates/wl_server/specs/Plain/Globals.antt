@@ -1,7 +1,7 @@
 -- What a program finds after a global was created, disabled or removed, in the words of the look-ups.
 --
 -- A contract that cites one of these has another clause beside it, `call`, from which it follows.
-use Rattle.std.specs.Prelude.{◌≡◌, ◌⊎◌, ℕ, ◌∷◌, [], ◌++◌, true, false, Option, None, Some, Result, Ok, Err, MatchOption, option_map}
+use Rattle.std.specs.Prelude.{◌≡◌, ◌⊎◌, ℕ, ◌∷◌, [], ◌++◌, Bool, true, false, Option, None, Some, Result, Ok, Err, MatchOption, option_map}
 use Rattle.wl_wire.specs.declared.interface.InterfaceId.{InterfaceId}
 use Rattle.wl_link.specs.declared.object.Object.{Object}
 use Rattle.wl_link.specs.Link.{LinkState}
@@ -12,7 +12,7 @@ use Rattle.wl_server.specs.declared.notes.DisconnectReason.TheVariants.{Connecti
 use Rattle.wl_server.specs.declared.notes.Happening.TheVariants.{Disconnected}
 use Rattle.wl_server.specs.Backend.{BackendState}
 use Rattle.wl_server.specs.GivenOnce.{same_global}
-use Rattle.wl_server.specs.Globals.{as_disabled, global_of, is_enabled, new_global}
+use Rattle.wl_server.specs.Globals.{as_disabled, global_of, is_enabled, keeping, new_global}
 use Rattle.wl_server.specs.Ids.{ClientParts, GlobalParts}
 use Rattle.wl_server.specs.Part.{with_link}
 use Rattle.wl_server.specs.Plain.{ObjectsStay, as_killed, killed_in}
@@ -82,3 +82,8 @@ module _ {T U G C : Type 0} where
     pub others : OtherGlobalsStay before id after
     pub clients : MayBeTold before after
     pub memory : after.refused ≡ true → (is_enabled (global_in before id) ≡ true) × KillsSome before after
+
+  -- Names are kept from now on, or no longer. Nothing else of the server has changed: no client, no global, no note.
+  pub record KeepsNames (before : BackendState T U G C) (keeps : Bool) (after : BackendState T U G C) : Type 0 where
+    pub server : after.server ≡ record before.server { offer = keeping before.server.offer keeps }
+    pub memory : after.refused ≡ false

@@ -16,8 +16,8 @@ impl<T: Drop, U: Drop, G: Drop, C: Drop> Backend<T, U, G, C> {
     /// The id that the next `create_global` gives, if it is not refused for its interface, its version or want of memory.
     /// `None` if no name or no serial is left. So a program can decide who may see a global before there is one.
     ///
-    /// It looks for the least free name as `create_global` does, and allocates no memory. The answer holds until a global is
-    /// created or removed.
+    /// It looks for the name as `create_global` does, and allocates no memory. The answer holds until a global is created or
+    /// removed, or `keep_global_names` is called.
     pub fn next_global_id(&self) -> Option<GlobalId>
         ensures next { NextGlobal self.now.server.offer.globals result }
         ensures given { NextGlobalIsGiven self.now.server.offer.table self.now.server.offer.globals result }
@@ -25,7 +25,7 @@ impl<T: Drop, U: Drop, G: Drop, C: Drop> Backend<T, U, G, C> {
         if self.last_global == u64::MAX {
             return None;
         }
-        let name = next_name(&self.globals)?;
+        let name = next_name(&self.globals, self.keeps_names)?;
         Some(GlobalId::from_parts(name, self.last_global + 1))
     }
 

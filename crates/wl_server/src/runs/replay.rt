@@ -30,8 +30,15 @@ impl<U: Drop, G: GlobalHandler<C> + Drop, C: Drop> Backend<Memory, U, G, C> {
             Step::SetObjectData(id, user_data) => {
                 Reply::SetObjectData(self.set_object_data(&id, user_data))
             }
+            Step::SetObjectVersion(id, version) => {
+                Reply::SetObjectVersion(self.set_object_version(&id, version))
+            }
             Step::CreateObject(client, interface, version, user_data) => {
                 Reply::CreateObject(self.create_object(&client, interface, version, user_data))
+            }
+            Step::CreateObjectAt(client, interface, version, number, user_data) => {
+                let answer = self.create_object_at(&client, interface, version, number, user_data);
+                Reply::CreateObjectAt(answer)
             }
             Step::DestroyObject(id) => Reply::DestroyObject(self.destroy_object(&id)),
             Step::SendEvent(message) => Reply::SendEvent(self.send_event(message)),
@@ -108,6 +115,10 @@ impl<U: Drop, G: GlobalHandler<C> + Drop, C: Drop> Backend<Memory, U, G, C> {
                 self.set_default_max_buffer_size(max_buffer_size);
                 Reply::SetDefaultMaxBufferSize
             }
+            Step::KeepGlobalNames(keep) => {
+                self.keep_global_names(keep);
+                Reply::KeepGlobalNames
+            }
             Step::Cleanup => Reply::Cleanup(self.cleanup()),
             Step::TakeNotes => Reply::TakeNotes(self.take_notes()),
             _ => unreachable!(),
@@ -144,7 +155,9 @@ impl<U: Drop, G: GlobalHandler<C> + Drop, C: Drop> Backend<Memory, U, G, C> {
         // One `match` over all steps is too large for the borrow checker, so each group of them has a function of its own.
         match step {
             Step::SetObjectData(..)
+            | Step::SetObjectVersion(..)
             | Step::CreateObject(..)
+            | Step::CreateObjectAt(..)
             | Step::DestroyObject(_)
             | Step::SendEvent(_)
             | Step::PostError(..) => self.perform_object(step),

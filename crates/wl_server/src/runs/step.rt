@@ -2,7 +2,7 @@
 
 use crate::error::{
     ActionError, CreateError, DestroyError, EventError, FinishRefused, GlobalError,
-    InsertClientError, InvalidId, ScriptError,
+    InsertClientError, InvalidId, ScriptError, VersionError,
 };
 use crate::ids::client_id::ClientId;
 use crate::ids::global_id::GlobalId;
@@ -23,8 +23,12 @@ pub enum Step<T, U, G, C> {
     InsertClient(T, C),
     /// `Backend::set_object_data`.
     SetObjectData(ObjectId, U),
+    /// `Backend::set_object_version`.
+    SetObjectVersion(ObjectId, u32),
     /// `Backend::create_object`.
     CreateObject(ClientId, InterfaceId, u32, U),
+    /// `Backend::create_object_at`.
+    CreateObjectAt(ClientId, InterfaceId, u32, u32, U),
     /// `Backend::destroy_object`.
     DestroyObject(ObjectId),
     /// `Backend::send_event`.
@@ -39,7 +43,9 @@ pub enum Step<T, U, G, C> {
     DisableGlobal(GlobalId),
     /// `Backend::remove_global`.
     RemoveGlobal(GlobalId),
-    /// `Backend::flush`.
+    /// `Backend::keep_global_names`.
+    KeepGlobalNames(bool),
+    /// `Backend::flush`, and `Backend::flush_client`.
     Flush(Option<ClientId>),
     /// `Backend::set_default_max_buffer_size`.
     SetDefaultMaxBufferSize(usize),
@@ -82,8 +88,12 @@ pub enum Reply<T, U> {
     InsertClient(Result<ClientId, InsertClientError>),
     /// The reply to `Step::SetObjectData`.
     SetObjectData(Result<(), InvalidId>),
+    /// The reply to `Step::SetObjectVersion`.
+    SetObjectVersion(Result<(), VersionError>),
     /// The reply to `Step::CreateObject`.
     CreateObject(Result<ObjectId, CreateError>),
+    /// The reply to `Step::CreateObjectAt`.
+    CreateObjectAt(Result<ObjectId, CreateError>),
     /// The reply to `Step::DestroyObject`.
     DestroyObject(Result<(), DestroyError>),
     /// The reply to `Step::SendEvent`.
@@ -98,6 +108,8 @@ pub enum Reply<T, U> {
     DisableGlobal,
     /// The reply to `Step::RemoveGlobal`.
     RemoveGlobal,
+    /// The reply to `Step::KeepGlobalNames`.
+    KeepGlobalNames,
     /// The reply to `Step::Flush`.
     Flush(Result<(), IoFault>),
     /// The reply to `Step::SetDefaultMaxBufferSize`.

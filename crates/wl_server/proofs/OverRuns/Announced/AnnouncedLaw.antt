@@ -1,7 +1,7 @@
 -- That what a client's registries announced is what it is shown: over every run.
 use Rattle.std.proofs.Common.{◌≡◌, ◌≢◌, ℕ, ◌≤◌, Bool, true, false, List, [], ◌∷◌, ◌++◌, map, append-nil, append_assoc, Option, None, Some, Result, Ok, Err, MatchBool, MatchOption, refl, sym, ap, subst, ◌∙◌, true≢false, arith, cond, eqb, codes, ◌⊎◌, not}
 use mathlib.Core.Logic.{inl, inr}
-use Rattle.std.specs.Prelude.{◌+◌, Contains, Vec, if◌then◌else◌, is_ok, nat_le, slice_get, MatchBool}
+use Rattle.std.specs.Prelude.{◌+◌, Contains, Vec, if◌then◌else◌, slice_get, MatchBool}
 use Rattle.std.specs.Global.{Global}
 use Rattle.std.proofs.lemmas.Bool.{cases_eq, eq-eqb, ne_eqb}
 use Rattle.std.proofs.lemmas.Option.{same_Some, none-some}
@@ -27,9 +27,10 @@ use Rattle.wl_server.specs.declared.runs.step.Step.{Step}
 use Rattle.wl_server.specs.declared.runs.step.Step.TheVariants as step
 use Rattle.wl_server.proofs.OverRuns.Ids.AmongLaws.{among_contains, contains_among, among_both, among_first, among_later, among_filter, filter_among}
 use Rattle.wl_server.specs.Announced.{AreSameGlobals, EachAnnouncesShown, IsAlwaysLeftAlone, IsLeftAlone, announced, shown_of, Announced, announced_as, announced_over, without_name}
+use Rattle.wl_server.specs.Chosen.{has_version, is_free_own, with_version}
 use Rattle.wl_server.specs.Deeds.{Deed, NoteTaken, Noted, log_of, registries_in}
 use Rattle.wl_server.specs.Felt.{Hears, removals, announcements, is_first}
-use Rattle.wl_server.specs.Globals.{CreatesGlobal, Globals, Offer, global_of, is_enabled, new_offer, with_created, with_globals, with_table, Shown, new_global, disabled_at, freed_at}
+use Rattle.wl_server.specs.Globals.{CreatesGlobal, Globals, Offer, global_of, is_enabled, keeping, new_offer, with_created, with_globals, with_table, Shown, new_global, disabled_at, freed_at}
 use Rattle.wl_server.specs.Ids.{ClientParts, GlobalParts, same_client}
 use Rattle.wl_server.proofs.OverRuns.Alone.IsolationLaw.{offer_run, shared_run, split_run}
 use Rattle.wl_server.specs.Moves.{Move, Moved}
@@ -39,17 +40,19 @@ use Rattle.wl_server.specs.PartStep.{Asked, Call, Changed, CleanedAs, FeelsGloba
 use Rattle.wl_server.specs.Runs.{Alone, Leads, Own, SharedAlone, just_inserted, concerns, history, is_about, mine, offer_over}
 use Rattle.wl_server.specs.Server.{Seen, ServerState, new_server, seen}
 use Rattle.wl_server.proofs.OverRuns.Announced.InterfaceLaws.{HasInterfaces, after_call, after_run, at_first}
-use Rattle.wl_server.proofs.OverRuns.Announced.ShownLaws.{among_shown, shown_among, Hides, StaysShown, IsShown, created_new, created_old, created_only, hidden_old, hidden_only, renamed_stays, hidden_stays, disabled_hides, removed_hides}
+use Rattle.wl_server.proofs.OverRuns.Announced.ShownLaws.{among_shown, shown_among, Hides, StaysShown, IsShown, created_new, created_old, stored_stays, created_only, hidden_old, hidden_only, renamed_stays, hidden_stays, disabled_hides, removed_hides}
 use Rattle.wl_server.specs.Steps.{Entry, AnswersShared, inserted_by, offer_after}
 use Rattle.wl_server.proofs.OverRuns.Announced.WatchedCalls.{destroys_lives, finishes_bind_lives, finishes_lives, relinked_lives, sends_lives, none_done, quietly}
 use Rattle.wl_server.proofs.OverRuns.Announced.WatchedReadings.{next_action_lives}
 use Rattle.wl_server.proofs.OverRuns.Announced.WatchedVerdicts.{PartLives, log_both, registries_both, carried_to, exchanged, tells_lives, silent_sends, IsSilent}
-use Rattle.wl_server.proofs.OverRuns.Announced.Watching.{Watch, part_scene, Scene, scene_of, told_all, told_none, steady_same, wrote_goes, born_goes, Goes, goes_not, Announces, goes_so}
+use Rattle.wl_server.proofs.OverRuns.Announced.Watching.{Watch, part_scene, Scene, scene_of, told_all, told_none, steady_same, rewrote_goes, wrote_goes, born_goes, Goes, goes_not, Announces, goes_so}
 use Rattle.wl_server.proofs.OverRuns.Announced.AnnouncementLaws.{announced-append, some_turns}
 use Rattle.wl_server.specs.Telling.{Core, Tells, core_of, global_message, making, removal_message, speaker, tells}
 use Rattle.std.specs.Option.{option_map_or}
 use Rattle.wl_wire.proofs.Extension.{name_stays}
 use Rattle.wl_wire.proofs.Growth.{row_stays}
+use Rattle.wl_server.proofs.GlobalCalls.AtName.{created_next, next_absent}
+use Rattle.wl_server.proofs.ObjectCalls.Choosing.{either_flag, own_absent}
 use Rattle.wl_server.proofs.ObjectCalls.Destroying.{named_is_held}
 use Rattle.wl_server.specs.Objects.{new_object}
 use Rattle.wl_server.proofs.OverRuns.Ids.NamedLaws.{far_offer, inserted}
@@ -255,7 +258,7 @@ module _ {T U G C : Type 0} (w : World T G C) (id : ClientParts) (r : Id) where
       feels_follows offer (with_globals offer (with_created offer.globals i version handler (Ok g))) s _ (Unit {0}) lacked did t
       (λ p q heard.
       hears_leads offer (with_globals offer (with_created offer.globals i version handler (Ok g))) _ p q lacked did
-      (global_watch w.views id r offer (part_scene p) i version handler g (grind (arith, either_option, slice_get, either_bool, nat_le, true≢false, is_ok))) heard) h
+      (global_watch w.views id r offer (part_scene p) i version handler g (next_absent offer.globals g (created_next offer.table offer.globals i version g creates))) heard) h
   global_follows offer i version handler (Err e) s lacked did t creates h = unfelt_follows offer s lacked did t h
 
   loss_follows : (offer : Offer G) (g : GlobalParts) (at : Option (Object (KeptGlobal G)) → Globals G) → at None ≡ offer.globals
@@ -349,6 +352,33 @@ module _ {T U G C : Type 0} (w : World T G C) (id : ClientParts) (r : Id) where
                   (born_goes w.views id r offer (part_scene p) n (new_object p i version u) least.absent refl)
             ]
       ])) h
+  step_follows offer known (step.SetObjectVersion o version) answer s lacked did t about numbered alone (a, is, h) =
+      of_client offer (same_client o.client id) s _ _ lacked did t (λ p q (no_memory, none, set). (elim (either_option (named p.store o) set) [
+        | inl (nobody, (is, same)) ↦ none_done w.views id r offer p q did none same
+        | inr (x, some, by) ↦ elim (either_bool (has_version offer.table x.interface version) by) [
+            | inr (is, same) ↦ none_done w.views id r offer p q did none same
+            | inl (is, same) ↦
+                quietly w.views id r offer p q _ did (ap log_of none, ap registries_in none) same (rewrote_goes w.views id r offer
+                (part_scene p) o.number x (with_version version x) (named_is_held p.store o x some) refl refl)
+          ]
+      ])) h
+  step_follows offer known (step.CreateObjectAt target i version n u) answer s lacked did t about numbered alone (a, is, h) =
+      of_client offer (same_client target id) s _ _ lacked did t
+      (λ p q (no_memory, none, created). (elim (either_option (slice_get offer.table i.0) created) [
+        | inl (unknown, (is, same)) ↦ none_done w.views id r offer p q did none same
+        | inr (row, known, more) ↦
+            elim (either_bool (eqb p.last_serial last_possible_serial) more) [
+              | inl (is, same) ↦ none_done w.views id r offer p q did none same
+              | inr by ↦
+                  elim (either_flag (is_free_own p.store n) by) [
+                    | inr (taken, (is, same)) ↦ none_done w.views id r offer p q did none same
+                    | inl (free, inr (is, unused, same)) ↦ none_done w.views id r offer p q did none same
+                    | inl (free, inl (is, same)) ↦
+                        quietly w.views id r offer p q _ did (ap log_of none, ap registries_in none) same
+                        (born_goes w.views id r offer (part_scene p) n (new_object p i version u) (own_absent p.store n free).0 refl)
+                  ]
+            ]
+      ])) h
   step_follows offer known (step.DestroyObject o) answer s lacked did t about numbered alone (a, is, h) =
       let left : id_of o ≡ r → a ≢ Ok tt = subst (λ (x : Reply T U). IsLeftAlone {T = T} {U = U} {G = G} {C = C} r
       (Asked (step.DestroyObject o) x)) is alone in
@@ -368,6 +398,8 @@ module _ {T U G C : Type 0} (w : World T G C) (id : ClientParts) (r : Id) where
       (λ client_data x. disabled_hides w.views id client_data offer g.name x) s lacked did t h
   step_follows offer known (step.RemoveGlobal g) answer s lacked did t about numbered alone (is, h) =
       loss_follows offer g (freed_at offer.globals g.name) refl (λ client_data x. removed_hides w.views id client_data offer g.name) s lacked did t h
+  step_follows offer known (step.KeepGlobalNames keep) answer s lacked did t about numbered alone (is, h) =
+      unfelt_stays offer (keeping offer keep) s lacked did t (λ client_data. stored_stays w.views id client_data offer (keeping offer keep) refl refl) h
   step_follows offer known (step.SetDefaultMaxBufferSize limit) answer s lacked did t about numbered alone (is, h) =
       unfelt_stays offer (record offer { default_limit = limit }) s lacked did t
       (λ client_data. renamed_stays w.views id client_data offer _ refl (λ a x at. refl)) h

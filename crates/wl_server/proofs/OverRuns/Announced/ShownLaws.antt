@@ -1,12 +1,13 @@
 -- Which globals a client is shown, before and after one is created, disabled or removed.
-use Rattle.std.proofs.Common.{◌≡◌, ◌≢◌, ◌⊎◌, ℕ, Bool, true, false, eqb, Option, None, Some, refl, sym, ap, subst, ◌∙◌, true≢false, arith}
+use Rattle.std.proofs.Common.{◌≡◌, ◌≢◌, ◌⊎◌, ℕ, Bool, true, false, eqb, List, Option, None, Some, refl, sym, ap, subst, ◌∙◌, true≢false, arith}
 use mathlib.Core.Logic.{inl, inr}
 use Rattle.std.specs.List.{filter}
 use Rattle.std.specs.FinMap as finmap
 use Rattle.std.proofs.lemmas.Bool.{cases_eq}
 use Rattle.std.proofs.lemmas.Option.{same_Some, none-some}
 use Rattle.wl_link.specs.declared.object.Object.{Object}
-use Rattle.wl_link.specs.Store.{held, removed, rewritten, stored}
+use Rattle.wl_wire.specs.Table.{InterfaceRow}
+use Rattle.wl_link.specs.Store.{Store, held, removed, rewritten, stored}
 use Rattle.wl_link.proofs.Ids.StoreLaws.{removed_here, removed_other, rewritten_here, rewritten_other, stored_here, stored_other, walk_of_entries}
 use Rattle.wl_server.specs.declared.globals.KeptGlobal.{KeptGlobal}
 use Rattle.wl_server.proofs.OverRuns.Ids.AmongLaws.{among_contains, among_filter, among_map, contains_among, filter_among, map_among}
@@ -67,23 +68,32 @@ module _ {G C : Type 0} (views : G → ClientParts → C → GlobalParts → Boo
         (λ x at. (let old = ap (λ (globals : Globals G). held globals.store a.name) (sym same) ∙ at in (old, sym (named a x old)))) h;
   }
 
+  -- the same globals by name, over the same table
+  pub stored_stays : (offer offer' : Offer G) → offer'.globals.store ≡ offer.globals.store → offer'.table ≡ offer.table → StaysShown offer offer'
+  stored_stays offer offer' same table = record {
+    kept = λ a h. shown_in offer offer' a (λ x at. (ap (λ (store : Store (KeptGlobal G)). held store a.name) same ∙ at,
+        ap (λ (rows : List InterfaceRow). announced_as rows (shown_as (a.name, x))) table)) h;
+    only = λ a h. shown_in offer' offer a (λ x at. (ap (λ (store : Store (KeptGlobal G)). held store a.name) (sym same) ∙ at,
+        ap (λ (rows : List InterfaceRow). announced_as rows (shown_as (a.name, x))) (sym table))) h;
+  }
+
   module _ (offer : Offer G) (name : ℕ) where
     -- a new global at a free name
     module _ (x : Object (KeptGlobal G)) (last : ℕ) (free : held offer.globals.store name ≡ None) where
       abbrev created : Globals G
-      created = record { store = stored offer.globals.store name x; last_serial = last }
+      created = record offer.globals { store = stored offer.globals.store name x; last_serial = last }
 
       pub created_old : (g : Announced) → IsShown offer g
-          → IsShown (with_globals offer (record { store = stored offer.globals.store name x; last_serial = last })) g
+          → IsShown (with_globals offer (record offer.globals { store = stored offer.globals.store name x; last_serial = last })) g
       created_old g h = shown_in offer (with_globals offer created) g
           (λ y at. (stored_other offer.globals.store name x g.name (λ same. none-some _ (sym free ∙ ap (held offer.globals.store) (sym same) ∙ at)) ∙ at, refl)) h
 
       pub created_new : is_shown views client client_data (name, x) ≡ true
-          → IsShown (with_globals offer (record { store = stored offer.globals.store name x; last_serial = last }))
+          → IsShown (with_globals offer (record offer.globals { store = stored offer.globals.store name x; last_serial = last }))
           (announced_as offer.table (shown_as (name, x)))
       created_new passes = record { global = x; at = stored_here offer.globals.store name x name refl; passes = passes; is = refl }
 
-      pub created_only : (g : Announced) → IsShown (with_globals offer (record { store = stored offer.globals.store name x; last_serial = last })) g
+      pub created_only : (g : Announced) → IsShown (with_globals offer (record offer.globals { store = stored offer.globals.store name x; last_serial = last })) g
           → IsShown offer g ⊎ ((is_shown views client client_data (name, x) ≡ true) × (announced_as offer.table (shown_as (name, x)) ≡ g))
       created_only g h =
           elim (cases_eq g.name name) [

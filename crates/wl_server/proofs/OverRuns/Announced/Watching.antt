@@ -4,6 +4,7 @@ use mathlib.Core.Logic.{inl, inr}
 use Rattle.std.specs.List.{filter}
 use Rattle.std.proofs.lemmas.Bool.{cases_eq}
 use Rattle.std.proofs.lemmas.Option.{same_Some}
+use Rattle.wl_wire.specs.declared.interface.InterfaceId.{InterfaceId}
 use Rattle.wl_wire.specs.Table.{registry_id}
 use Rattle.wl_link.specs.declared.object.Object.{Object}
 use Rattle.wl_link.specs.Identity.{Id}
@@ -140,26 +141,34 @@ module _ {G C : Type 0} (views : G → ClientParts → C → GlobalParts → Boo
         → Goes offer offer s [] [] (record s { store = stored s.store n x; last_serial = s.last_serial + 1 })
     born_goes s n x free serial = steady s _ refl (born_watch s n x free serial)
 
-    -- an object gets user data
-    pub wrote_goes : (s : Scene U C) (n : ℕ) (x : Object (Kept U)) (u : U) → held s.store n ≡ Some x
-        → Goes offer offer s [] [] (record s { store = rewritten s.store n (with_user_data u x) })
-    wrote_goes s n x u there = steady s _ refl (λ told made w. (grind (arith, with_user_data, rewritten_here, rewritten_other, keeps)))
+    -- an object is written: its serial and its interface stay
+    pub rewrote_goes : (s : Scene U C) (n : ℕ) (x y : Object (Kept U)) → held s.store n ≡ Some x → y.value.serial ≡ x.value.serial
+        → y.interface ≡ x.interface
+        → Goes offer offer s [] [] (record s { store = rewritten s.store n y })
+    rewrote_goes s n x y there serial interface =
+        steady s _ refl (λ told made w. (grind (arith, rewritten_here, rewritten_other, keeps, serial, interface)))
       where
-        keeps : IsKnown s → IsKnown (record s { store = rewritten s.store n (with_user_data u x) })
+        keeps : IsKnown s → IsKnown (record s { store = rewritten s.store n y })
         keeps known =
             elim (cases_eq r.number n) [
               | inl same ↦
                   let this : x ≡ known.object = same_Some x known.object (sym there ∙ ap (held s.store) (sym same) ∙ known.holds) in
                   record {
                     listed = known.listed;
-                    object = with_user_data u x;
-                    holds = rewritten_here s.store n (with_user_data u x) r.number same;
-                    serial = ap (λ (z : Object (Kept U)). z.value.serial) this ∙ known.serial;
-                    interface = ap (λ (z : Object (Kept U)). eqb z.interface.0 registry_id.0) this ∙ known.interface;
+                    object = y;
+                    holds = rewritten_here s.store n y r.number same;
+                    serial = serial ∙ ap (λ (z : Object (Kept U)). z.value.serial) this ∙ known.serial;
+                    interface = ap (λ (j : InterfaceId). eqb j.0 registry_id.0) interface
+                        ∙ ap (λ (z : Object (Kept U)). eqb z.interface.0 registry_id.0) this ∙ known.interface;
                     positive = known.positive;
                   }
-              | inr other ↦ grind (arith, rewritten_other, with_user_data)
+              | inr other ↦ grind (arith, rewritten_other)
             ]
+
+    -- an object gets user data
+    pub wrote_goes : (s : Scene U C) (n : ℕ) (x : Object (Kept U)) (u : U) → held s.store n ≡ Some x
+        → Goes offer offer s [] [] (record s { store = rewritten s.store n (with_user_data u x) })
+    wrote_goes s n x u there = rewrote_goes s n x (with_user_data u x) there refl refl
 
     -- another object leaves
     pub went_goes : (s : Scene U C) (n : ℕ) (x : Object (Kept U)) → held s.store n ≡ Some x

@@ -12,6 +12,7 @@ use Rattle.wl_link.specs.Store.{Store, held, removed, rewritten, stored}
 use Rattle.wl_link.proofs.Ids.StoreLaws.{removed_other, rewritten_other, stored_here, stored_other}
 use Rattle.wl_server.specs.declared.objects.Kept.{Kept}
 use Rattle.wl_server.specs.declared.notes.Happening.{Happening}
+use Rattle.wl_server.specs.Chosen.{with_version}
 use Rattle.wl_server.specs.Deeds.{IsAmong}
 use Rattle.wl_server.proofs.OverRuns.Moves.BaseMoves.{Doings, Goes, Moves, any, end_notes, followed, handed_out, handing, joined, leaving, left_by, left_id, moved, nothing_done, notes_taken, noting, stayed, taken_out, unfelt, within}
 use Rattle.wl_server.specs.Identified.{AreObjectsOf, IsHandedIn, IsNotedIn, has_data, is_over, waiting_of}
@@ -104,6 +105,18 @@ module _ {T U C : Type 0} (sends : T → Queue → Result ℕ IoFault → T → 
     empty = rewritten_other p.store n (with_user_data u x) 0 (λ same. (none-some _ (sym empty ∙ ap (held p.store) (sym (sym same)) ∙ holds))) ∙ empty;
   }
 
+  versioned_changing : (p : Part T U C) (n : ℕ) (x : Object (Kept U)) (version : ℕ) → held p.store 0 ≡ None → held p.store n ≡ Some x
+      → Changing p nothing_done (record p { store = rewritten p.store n (with_version version x) })
+  versioned_changing p n x version empty holds = record {
+    changes = Wrote n (with_version version x) ∷ [];
+    ends = (record { store = rewritten p.store n (with_version version x); last_serial = p.last_serial }, ((x, holds, refl), refl), λ y is. refl, refl);
+    handed = λ h among. absurd among;
+    left = refl;
+    noted = λ h among. absurd among;
+    waits = λ h among. inl among;
+    empty = rewritten_other p.store n (with_version version x) 0 (λ same. (none-some _ (sym empty ∙ ap (held p.store) (sym (sym same)) ∙ holds))) ∙ empty;
+  }
+
   went_changing : (p : Part T U C) (n : ℕ) (x : Object (Kept U)) (waits : Bool) → held p.store 0 ≡ None → held p.store n ≡ Some x
       → Changing p (leaving client waits n x) (left_by client waits p n x)
   went_changing p n x waits empty holds = record {
@@ -133,7 +146,7 @@ module _ {T U C : Type 0} (sends : T → Queue → Result ℕ IoFault → T → 
       changing_so p q q (joined a b) d is refl (then_changing p m q a b one (moves_change m q b one.empty second))
   moves_change p q d empty (handed_out {a = a} ids moves among is) = grind (arith, changing_so, moves_change p q a empty moves)
   moves_change p q d empty (moved move) =
-      grind (arith, changing_so, quiet, born_changing, found_changing, wrote_changing, went_changing, noting, nothing_done, end_notes, id_of, id_at)
+      grind (arith, changing_so, quiet, born_changing, found_changing, wrote_changing, versioned_changing, went_changing, noting, nothing_done, end_notes, id_of, id_at)
 
   -- no note is handed out by moves of the part
   pub moves_take : (p q : Part T U C) (d : Doings U) → Moves (any true) sends receives client p d q → d.taken ≡ []

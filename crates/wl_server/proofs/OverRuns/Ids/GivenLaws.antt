@@ -23,6 +23,7 @@ use Rattle.wl_server.specs.Server.{ServerState, new_server, seen}
 use Rattle.wl_server.specs.Steps.{AnswersShared, Entry, inserted_by, offer_after}
 use Rattle.wl_server.proofs.OverRuns.Alone.IsolationLaw.{one_more, shared_run, split_run}
 use Rattle.wl_server.proofs.OverRuns.Killed.KilledLaws.{out_next, out_run}
+use Rattle.wl_server.proofs.GlobalCalls.AtName.{created_next, next_absent}
 use Rattle.wl_server.proofs.OverRuns.Outcome.NumberLaws.{global_is}
 use Rattle.wl_server.proofs.CallSteps.Slots.{same_parts}
 
@@ -86,14 +87,15 @@ module _ {G : Type 0} where
 
   created_other : (globals : Globals G) (i : InterfaceId) (version : ℕ) (handler : G) (new : GlobalParts) → IsNextGlobal globals new
       → (last : ℕ) (g : GlobalParts)
-      → (g.serial ≢ new.serial) → global_of (record { store = stored globals.store new.name (new_global i version new.serial handler); last_serial = last }) g ≡ global_of globals g
-  created_other globals i version handler new (least, left, next) last g older =
+      → (g.serial ≢ new.serial) → global_of (record globals { store = stored globals.store new.name (new_global i version new.serial handler); last_serial = last }) g ≡ global_of globals g
+  created_other globals i version handler new by last g older =
+      let free : held globals.store new.name ≡ None = next_absent globals new by in
       grind (arith, new_global, cases_eq, stored_here, eqb, true≢false, ne_eqb, none_at, stored_other)
 
   -- nor does any other id
   pub created_elsewhere : (globals : Globals G) (i : InterfaceId) (version : ℕ) (handler : G) (new : GlobalParts) → IsNextGlobal globals new
       → (last : ℕ) (g : GlobalParts)
-      → same_global new g ≡ false → global_of (record { store = stored globals.store new.name (new_global i version new.serial handler); last_serial = last }) g ≡ global_of globals g
+      → same_global new g ≡ false → global_of (record globals { store = stored globals.store new.name (new_global i version new.serial handler); last_serial = last }) g ≡ global_of globals g
   created_elsewhere globals i version handler new h1 last g h2 =
       grind (arith, cases_eq, created_other, true≢false, same_named, eq-eqb, named_at, stored_other, new_global, stored_here, eqb, ne_eqb, none_at)
 
@@ -103,7 +105,7 @@ module _ {G : Type 0} where
   -- a global that is created has the next id
   next_in : (offer : Offer G) (i : InterfaceId) (version : ℕ) (g : GlobalParts) → CreatesGlobal offer.table offer.globals i version (Ok g)
       → IsNextGlobal offer.globals g
-  next_in offer i version g by = grind (arith, either_option, slice_get, true≢false, is_ok, either_bool, nat_le)
+  next_in offer i version g by = created_next offer.table offer.globals i version g by
 
 module _ {T U G C : Type 0} where
   offered_next : (offer : Offer G) (call : Call T U G C) (g : GlobalParts) → AnswersShared offer call → Offers g call → IsNextGlobal offer.globals g

@@ -20,6 +20,7 @@ use Rattle.wl_server.specs.declared.notes.Happening.{Happening}
 use Rattle.wl_server.specs.declared.notes.Happening.TheVariants.{Disconnected}
 use Rattle.wl_server.specs.declared.runs.step.Reply.TheVariants as reply
 use Rattle.wl_server.specs.declared.runs.step.Step.TheVariants as step
+use Rattle.wl_server.specs.Chosen.{with_version}
 use Rattle.wl_server.specs.HandedIds.{action_ids, made_ids}
 use Rattle.wl_server.specs.Deeds.{Acted, Bind, Deed, Handed, IsAmong, Request, came_in, left_in, log_of, notes_in, registries_in, sends_of, taken_in}
 use Rattle.wl_server.specs.Errors.{error_of}
@@ -179,7 +180,7 @@ pub data Move {T U C : Type 0} (kind : Kind) (sends : T → Queue → Result ℕ
   ended : (reason : DisconnectReason) → kind.kills reason → d ≡ noting (end_notes p.is_killed reason)
       → q ≡ record p { is_killed = true } → Move kind sends receives client p d q
   -- an object takes a free number and the next serial, and its id is made; an id is made of an object, or of none; an
-  -- object gets user data; an object leaves
+  -- object gets user data, or another version; an object leaves
   born : (n : ℕ) (x : Object (Kept U)) → held p.store n ≡ None → n ≢ 0 → x.value.serial ≡ p.last_serial + 1
       → d ≡ handing (New (id_at client n x) ∷ []) → q ≡ record p { store = stored p.store n x; last_serial = p.last_serial + 1 }
       → Move kind sends receives client p d q
@@ -188,6 +189,8 @@ pub data Move {T U C : Type 0} (kind : Kind) (sends : T → Queue → Result ℕ
   found_none : d ≡ handing (Found (null_id client) ∷ []) → q ≡ p → Move kind sends receives client p d q
   wrote : (n : ℕ) (x : Object (Kept U)) (u : U) → held p.store n ≡ Some x → d ≡ nothing_done
       → q ≡ record p { store = rewritten p.store n (with_user_data u x) } → Move kind sends receives client p d q
+  versioned : (n : ℕ) (x : Object (Kept U)) (version : ℕ) → held p.store n ≡ Some x → d ≡ nothing_done
+      → q ≡ record p { store = rewritten p.store n (with_version version x) } → Move kind sends receives client p d q
   went : (n : ℕ) (x : Object (Kept U)) (waits : Bool) → held p.store n ≡ Some x
       → d ≡ leaving client waits n x → q ≡ left_by client waits p n x → Move kind sends receives client p d q
   -- a kept registry is told of globals from now on; an action is handed out, and open; none is open; the notes that waited
@@ -218,6 +221,7 @@ pub data Moves {T U C : Type 0} (kind : Kind) (sends : T → Queue → Result �
 -- the ids that a call hands out of a client, but for those of notes
 abbrev pub handed_by : {T U G C : Type 0} → ClientParts → Call T U G C → List (Deed U) → List (HandedId IdParts)
 handed_by id (Asked (step.CreateObject target i version u) (reply.CreateObject r)) did = if same_client target id then made_ids r else []
+handed_by id (Asked (step.CreateObjectAt target i version n u) (reply.CreateObjectAt r)) did = if same_client target id then made_ids r else []
 handed_by id _ did = all_action_ids (acted_in did)
 
 -- What a call does to that which does not insert the client: nothing; its part goes over moves, the notes of them behind

@@ -38,7 +38,7 @@ use Rattle.wl_server.specs.Globals.{Offer}
 use Rattle.wl_server.specs.Ids.{ClientParts, GlobalParts, IdParts, same_client}
 use Rattle.wl_server.specs.Moves.{Move, Moved}
 use Rattle.wl_server.specs.NotedEnds.Errors.{MayKillFor}
-use Rattle.wl_server.proofs.OverRuns.Moves.MovesOfCalls.{creates_moves, destroys_moves, finishes_bind_moves, finishes_moves, kills_moves, posts_moves, sends_moves, tells_comes, writes}
+use Rattle.wl_server.proofs.OverRuns.Moves.MovesOfCalls.{creates_moves, destroys_moves, finishes_bind_moves, finishes_moves, kills_moves, numbered_moves, posts_moves, sends_moves, sets_version, tells_comes, writes}
 use Rattle.wl_server.proofs.OverRuns.Moves.MovesOfReadings.{next_action_moves}
 use Rattle.wl_server.proofs.OverRuns.Moves.MovesOfVerdicts.{Go, same_doings, tells_moves}
 use Rattle.wl_server.specs.Part.{Part, end_note, fresh_part, id_at, id_of, with_link, named}
@@ -263,6 +263,11 @@ module _ {T U G C : Type 0} (kind : Kind) (w : World T G C) (id : ClientParts) (
       grind (arith, of_client, same_doings, nothing_done, doings_in, named, stayed, writes, named_is_held)
   step_goes (step.CreateObject target i version u) answer s lacked did t about may (r, is, h) =
       grind (arith, made_ids, doings_of, on_part, creates_moves, unfelt)
+  step_goes (step.SetObjectVersion o version) answer s lacked did t about may (r, is, h) =
+      of_client kind w.sends w.receives id (same_client o.client id) s _ _ lacked did t
+      (λ mine p q (no_memory, none, set). sets_version kind w.sends w.receives id offer.table p o version r did q none set) h
+  step_goes (step.CreateObjectAt target i version n u) answer s lacked did t about may (r, is, h) =
+      grind (arith, made_ids, doings_of, on_part, numbered_moves, unfelt)
   step_goes (step.DestroyObject o) answer s lacked did t about may (r, is, h) = grind (arith, of_client, same_client, destroys_moves)
   step_goes (step.SendEvent m) answer s lacked did t about may (r, is, h) =
       of_client kind w.sends w.receives id (same_client m.sender_id.client id) s _ _ lacked did t

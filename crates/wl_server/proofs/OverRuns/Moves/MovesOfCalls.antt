@@ -25,7 +25,9 @@ use Rattle.wl_server.specs.declared.objects.Kept.{Kept}
 use Rattle.wl_server.specs.declared.notes.DisconnectReason.{DisconnectReason}
 use Rattle.wl_server.specs.declared.notes.DisconnectReason.TheVariants.{ProtocolError as BrokeProtocol, ConnectionClosed}
 use Rattle.wl_server.specs.HandedIds.{made_ids}
-use Rattle.wl_server.proofs.OverRuns.Moves.BaseMoves.{Doings, Kind, born, finished, followed, handing, joined, leaving as leaves, left_by, left_id, moved, nothing_done, putting, sending, stayed, told, went, wrote}
+use Rattle.wl_server.proofs.OverRuns.Moves.BaseMoves.{Doings, Kind, born, finished, followed, handing, joined, leaving as leaves, left_by, left_id, moved, nothing_done, putting, sending, stayed, told, versioned, went, wrote}
+use Rattle.wl_server.specs.Chosen.{CreatesNumbered, VersionSet, has_version, is_free_own, with_version}
+use Rattle.wl_server.specs.declared.error.VersionError.{VersionError}
 use Rattle.wl_server.specs.Deeds.{Deed, Noted, Sent, left_if, Put}
 use Rattle.wl_server.proofs.OverRuns.Moves.DoingsLaws.{doings_in, doings_in_both, doings_sends, joined_none, told_deeds, doings_puts, told_did}
 use Rattle.wl_server.specs.Errors.{PostsError, error_of, posts}
@@ -36,6 +38,7 @@ use Rattle.wl_server.proofs.OverRuns.Moves.MovesOfVerdicts.{Comes, Go, at, lands
 use Rattle.wl_server.specs.Objects.{Creates, Destroys, destroyable, destroys, new_object, without}
 use Rattle.wl_server.specs.Part.{Part, end_note, id_at, id_of, last_possible_serial, named, note_of_end, serial_of, with_link, with_user_data}
 use Rattle.wl_server.specs.Telling.{Core, Did, Kills, Tells, Told, closed_down, core_of, deletions, killed, tells}
+use Rattle.wl_server.proofs.ObjectCalls.Choosing.{either_flag, own_absent}
 use Rattle.wl_server.proofs.ObjectCalls.Destroying.{named_is_held}
 use Rattle.wl_server.proofs.Readings.Finishing.{still_gone}
 
@@ -97,6 +100,41 @@ module _ {T U C : Type 0} (kind : Kind) (sends : T → Queue → Result ℕ IoFa
   bears : {p q : Part T U C} {d : Doings U} (n : ℕ) (x : Object (Kept U)) → held p.store n ≡ None → n ≢ 0 → x.value.serial ≡ p.last_serial + 1
       → d ≡ handing (New (id_at client n x) ∷ []) → q ≡ record p { store = stored p.store n x; last_serial = p.last_serial + 1 } → Move p d q
   bears n x free ne serial made same = moved (born n x free ne serial made same)
+
+  versions : {p q : Part T U C} {d : Doings U} (n : ℕ) (x : Object (Kept U)) (version : ℕ) → held p.store n ≡ Some x → d ≡ nothing_done
+      → q ≡ record p { store = rewritten p.store n (with_version version x) } → Move p d q
+  versions n x version there none same = moved (versioned n x version there none same)
+
+  pub sets_version : (table : List InterfaceRow) (p : Part T U C) (id : IdParts) (version : ℕ) (answer : Result (Unit {0}) VersionError)
+      (did : List (Deed U)) (q : Part T U C)
+      → did ≡ [] → VersionSet table p id version answer q → Move p (doings_in did) q
+  sets_version table p id version answer did q none h =
+      elim (either_option (named p.store id) h) [
+        | inl (nobody, (is, same)) ↦ stays p did q none same
+        | inr (x, there, set) ↦
+            elim (either_bool (has_version table x.interface version) set) [
+              | inl (is, same) ↦ versions id.number x version (named_is_held p.store id x there) (ap doings_in none) same
+              | inr (is, same) ↦ stays p did q none same
+            ]
+      ]
+
+  pub numbered_moves : (table : List InterfaceRow) (p : Part T U C) (i : InterfaceId) (version n : ℕ) (u : U) (answer : Result IdParts CreateError)
+      (q : Part T U C)
+      → CreatesNumbered table client p i version n u answer q → Move p (handing (made_ids answer)) q
+  numbered_moves table p i version n u answer q h =
+      elim (either_option (slice_get table i.0) h) [
+        | inl (unknown, (is, same)) ↦ rw (is, same) (stayed refl refl)
+        | inr (row, known, more) ↦
+            elim (either_bool (eqb p.last_serial last_possible_serial) more) [
+              | inl (is, same) ↦ rw (is, same) (stayed refl refl)
+              | inr by ↦ elim (either_flag (is_free_own p.store n) by) [
+                  | inl (free, inl (is, same)) ↦ let (absent, ne) = own_absent p.store n free in
+                      rw is (bears n (new_object p i version u) absent ne refl refl same)
+                  | inl (free, inr (is, unused, same)) ↦ rw (is, same) (stayed refl refl)
+                  | inr (taken, (is, same)) ↦ rw (is, same) (stayed refl refl)
+                ]
+            ]
+      ]
 
   pub creates_moves : (table : List InterfaceRow) (p : Part T U C) (i : InterfaceId) (version : ℕ) (u : U) (answer : Result IdParts CreateError)
       (q : Part T U C)

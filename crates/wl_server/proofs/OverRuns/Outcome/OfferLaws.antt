@@ -1,6 +1,6 @@
 -- That the offer after a run has one outcome: the shared calls determine it.
 use Rattle.std.proofs.Common.{◌≡◌, Bool, true, false, List, [], ◌∷◌, Result, refl, ap, ◌∙◌, true≢false, arith}
-use Rattle.std.specs.Prelude.{if◌then◌else◌, nat_le, slice_get}
+use Rattle.std.specs.Prelude.{if◌then◌else◌}
 use Rattle.wl_wire.specs.declared.protocol.TableError.{TableError}
 use Rattle.wl_wire.specs.Table.{AnswersTo, Growth, table_after}
 use Rattle.wl_wire.proofs.Extension.{AnswersTo-unique}
@@ -9,7 +9,7 @@ use Rattle.wl_server.specs.declared.runs.step.Reply.{Reply}
 use Rattle.wl_server.specs.declared.runs.step.Reply.TheVariants as reply
 use Rattle.wl_server.specs.declared.runs.step.Step.{Step}
 use Rattle.wl_server.specs.declared.runs.step.Step.TheVariants as step
-use Rattle.wl_server.specs.Globals.{Offer, with_table, name_range}
+use Rattle.wl_server.specs.Globals.{Offer, with_table}
 use Rattle.wl_server.specs.Ids.{ClientParts, GlobalParts}
 use Rattle.wl_server.proofs.OverRuns.Alone.IsolationLaw.{offer_run}
 use Rattle.wl_server.proofs.OverRuns.Outcome.PartOutcome.{Ample}
@@ -19,8 +19,7 @@ use Rattle.wl_server.specs.PartStep.{Asked, Call, Changed, Grown, World}
 use Rattle.wl_server.specs.Runs.{Leads, Own, concerns, is_about, mine, offer_over, own_of}
 use Rattle.wl_server.specs.Server.{ServerState, new_server}
 use Rattle.wl_server.specs.Steps.{Entry, AnswersShared, lacks_growth, offer_after}
-use Rattle.wl_link.proofs.Calls.NumberLaws.{full_not_absent, least_absent_one}
-use Rattle.wl_server.proofs.OverRuns.Outcome.NumberLaws.{global_is}
+use Rattle.wl_server.proofs.GlobalCalls.AtName.{creates_one}
 
 -- ---- a table that was to grow
 
@@ -48,7 +47,7 @@ module _ {T U G C : Type 0} where
     pub shared_same : (s : Step T U G C) (p q : Reply T U) → is_about id s ≡ true → Ample s p → Ample s q → AnswersShared offer (Asked s p)
         → AnswersShared offer (Asked s q)
         → Answered (Asked s p) → Answered (Asked s q) → SharedSame s p q
-    shared_same s p q h1 h2 h3 h4 h5 h6 h7 = grind (arith, true≢false, slice_get, nat_le, global_is, least_absent_one, name_range, full_not_absent)
+    shared_same s p q h1 h2 h3 h4 h5 h6 h7 = grind (arith, true≢false, creates_one)
 
     -- so it is of calls: they are answered alike, and leave one offer
     pub shared_call : (call call' : Call T U G C) → SameCall call call' → concerns id call ≡ true → lacks_growth call ≡ false

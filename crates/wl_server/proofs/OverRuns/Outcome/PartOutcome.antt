@@ -23,6 +23,7 @@ use Rattle.wl_server.specs.declared.reading.action.OpenAction.TheVariants as ope
 use Rattle.wl_server.specs.declared.reading.action.Reading.{Reading}
 use Rattle.wl_server.specs.declared.error.ActionError.{ActionError}
 use Rattle.wl_server.specs.declared.objects.Kept.{Kept}
+use Rattle.wl_server.specs.Chosen.{CreatesNumbered, VersionSet, has_version, is_free_own}
 use Rattle.wl_server.specs.Deeds.{Deed, Handed}
 use Rattle.wl_server.specs.Errors.{PostsError, posts}
 use Rattle.wl_server.specs.Events.{SendsEvent, SendsGranted, SentAs, SessionMessage, ends_closed, ends_sender, event_check, said, wire_message, session_content}
@@ -33,7 +34,7 @@ use Rattle.wl_server.specs.Moves.{Move, Moved, nothing_taken, taken}
 use Rattle.wl_link.proofs.Calls.NumberLaws.{full_not_absent, least_absent_one, limit_set_one, fresh_one}
 use Rattle.wl_server.specs.Objects.{Creates, DataSet, Destroys, destroyable, destroys, new_object}
 use Rattle.wl_server.proofs.OverRuns.Outcome.MoveLaws.{IsMoveFunction, IsDetermined}
-use Rattle.wl_server.specs.Part.{Part, with_link}
+use Rattle.wl_server.specs.Part.{Part, last_possible_serial, named, with_link}
 use Rattle.wl_server.specs.PartStep.{Quietly, WithTransport, lacks_create, lacks_move, Asked, Call, Changed, Grown, InsertedAs, OfClient, OnPart, PartCall, PartStep, Unfelt, World, around, share_of}
 use Rattle.wl_server.specs.Reading.{Around, NextAction, answered, exchanges_in, read_on, server, action_content, new_reading}
 use Rattle.wl_server.specs.Telling.{Core, Tells, Told, core_of, deeds_of, part_of, reader_part, speaker, tells}
@@ -166,6 +167,36 @@ module _ {T U C : Type 0} where
 
   pub sets_one : (s : Part T U C) (id : IdParts) (u : U) → IsOne {U = U} (λ a l d x. Quietly l d (DataSet s id u a x))
   sets_one s id u a b d e x y h g = grind (arith, same_end)
+
+  pub versions_one : (table : List InterfaceRow) (s : Part T U C) (id : IdParts) (version : ℕ)
+      → IsOne {U = U} (λ a l d x. Quietly l d (VersionSet table s id version a x))
+  versions_one table s id version a b d e x y (unlacked, did, h) (unlacked', did', g) =
+      elim (both_option (named s.store id) h g) [
+        | inl (none, (is, same), (is', same')) ↦ same_end is is' did did' same same'
+        | inr (o, there, h', g') ↦
+            elim (both_bool (has_version table o.interface version) h' g') [
+              | inl ((is, same), (is', same')) ↦ same_end is is' did did' same same'
+              | inr ((is, same), (is', same')) ↦ same_end is is' did did' same same'
+            ]
+      ]
+
+  pub numbered_one : (client : ClientParts) (table : List InterfaceRow) (s : Part T U C) (i : InterfaceId) (version n : ℕ) (u : U)
+      → IsOne {U = U} (λ a l d x. (l ≡ lacks_create a) × (d ≡ []) × CreatesNumbered table client s i version n u a x)
+  numbered_one client table s i version n u a b d e x y (unlacked, did, h) (unlacked', did', g) =
+      elim (both_option (slice_get table i.0) h g) [
+        | inl (none, (is, same), (is', same')) ↦ same_end is is' did did' same same'
+        | inr (row, some, h', g') ↦
+            elim (both_bool (s.last_serial == last_possible_serial) h' g') [
+              | inl ((is, same), (is', same')) ↦ same_end is is' did did' same same'
+              | inr (h'', g'') ↦
+                  elim (both_bool (is_free_own s.store n) h'' g'') [
+                    | inr ((is, same), (is', same')) ↦ same_end is is' did did' same same'
+                    | inl (inl (is, same), inl (is', same')) ↦ same_end is is' did did' same same'
+                    | inl (inr (is, unused, same), other) ↦ absurd (true≢false (sym (unlacked ∙ ap lacks_create is)))
+                    | inl (inl one, inr (is', unused, same')) ↦ absurd (true≢false (sym (unlacked' ∙ ap lacks_create is')))
+                  ]
+            ]
+      ]
 
   pub creates_one : (client : ClientParts) (table : List InterfaceRow) (s : Part T U C) (i : InterfaceId) (version : ℕ) (u : U)
       → IsOne {U = U} (λ a l d x. (l ≡ lacks_create a) × (d ≡ []) × Creates table client s i version u a x)
@@ -302,7 +333,7 @@ with_none one = (one, tt)
 
 ruleset part_forms = (of_one, on_one, unfelt_one, with_answer, with_none, same_felt, same_end, same_reply, true≢false, both_bool, not_lacked, map)
 
-ruleset part_calls = (sets_one, creates_one, destroys_one, posts_error_one, hears_one, next_action_one, finishes_request_one, moves_one, flushed_one)
+ruleset part_calls = (sets_one, destroys_one, posts_error_one, hears_one, next_action_one, finishes_request_one, moves_one, flushed_one)
 
 ruleset part_words = (same_client, action_content, around, new_reading, nothing_taken, nothing_taken_one, taken, objects_leave, share_of, with_link)
 
@@ -333,6 +364,18 @@ module _ {T U G C : Type 0} (w : World T G C) (known : IsDetermined w) (id : Cli
   step_one (step.SetClientMaxBufferSize target limit) p q _ _ _ (is, h) (is', g) =
       let one = of_one before d e x y (same_client target id) _ _ _ _ (λ _ _. tt) (λ s q q' f f'. with_none (limits_one s limit d e q q' f f')) h g in
       (one.0, λ own. same_reply id p q reply.SetClientMaxBufferSize reply.SetClientMaxBufferSize is is' refl)
+  step_one (step.SetObjectVersion o version) p q _ _ _ (r, is, h) (r', is', g) =
+      let one = of_one before d e x y (same_client o.client id) _ _ _ _ (λ a b. a ∙ sym b)
+      (λ s q q' f f'. with_answer (versions_one offer.table s o version r r' d e q q' f f')) h g in
+      (one.0, λ own. same_reply id p q _ _ is is' (ap reply.SetObjectVersion (one.1 own)))
+  step_one (step.CreateObject target i version u) p q _ _ _ (r, is, h) (r', is', g) =
+      let one = of_one before d e x y (same_client target id) _ _ _ _ (λ a b. a ∙ sym b)
+      (λ s q q' f f'. with_answer (creates_one _ offer.table s i version u r r' d e q q' f f')) h g in
+      (one.0, λ own. same_reply id p q _ _ is is' (ap reply.CreateObject (one.1 own)))
+  step_one (step.CreateObjectAt target i version n u) p q _ _ _ (r, is, h) (r', is', g) =
+      let one = of_one before d e x y (same_client target id) _ _ _ _ (λ a b. a ∙ sym b)
+      (λ s q q' f f'. with_answer (numbered_one _ offer.table s i version n u r r' d e q q' f f')) h g in
+      (one.0, λ own. same_reply id p q _ _ is is' (ap reply.CreateObjectAt (one.1 own)))
   step_one s p q ample ample' shared h g = grind (arith, part_forms, part_calls, part_words, inserted_one, lacks_create, one_flush_lem)
 
   -- what a step does, another does that is the same

@@ -166,6 +166,8 @@ module _ {T U G C : Type 0} (ordered : Bool) (w : World T G C) (any : ClientPart
       same_whole ordered p q _ _ is is' (λ id. same_reply id (reply.TakeNotes (Ok out)) (reply.TakeNotes (Ok out')) p q (sym is) (sym is') (one id refl), took out out' refl is is')
   whole_one step.TakeNotes p q _ _ ample ample' _ _ _ (r, is, _) (r', is', _) = absurd (grind (arith, true≢false, r, r'))
   whole_one (step.SetObjectData o u) p q one _ _ _ _ _ _ h g = grind (arith, same_whole, same_reply, one o.client (same_self o.client))
+  whole_one (step.SetObjectVersion o version) p q one _ _ _ _ _ _ h g = grind (arith, same_whole, same_reply, one o.client (same_self o.client))
+  whole_one (step.CreateObjectAt target i version n u) p q one _ _ _ _ _ _ h g = grind (arith, same_whole, same_reply, one target (same_self target))
   whole_one (step.CreateObject target i version u) p q one _ _ _ _ _ _ h g = grind (arith, same_whole, same_reply, one target (same_self target))
   whole_one (step.DestroyObject o) p q one _ _ _ _ _ _ h g = grind (arith, same_whole, same_reply, one o.client (same_self o.client))
   whole_one (step.SendEvent m) p q one _ _ _ _ _ _ h g = grind (arith, same_whole, same_reply, one m.sender_id.client (same_self m.sender_id.client))

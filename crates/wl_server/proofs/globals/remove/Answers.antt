@@ -3,7 +3,7 @@ use Rattle.wl_server.proofs.GlobalCalls.AtName.{nothing_freed, one_freed}
 use Rattle.wl_server.proofs.globals.remove.Goals as goal
 
 pub returns-then-is_none : goal.returns-then-is_none
-returns-then-is_none g c = λ last. nothing_freed _ _ last ((grind (arith, c.global_in.ensures, c.is_none.ensures)) ∙ ap not c.if-is_none.true)
+returns-then-is_none g c = λ last keeps. nothing_freed _ _ last keeps ((grind (arith, c.global_in.ensures, c.is_none.ensures)) ∙ ap not c.if-is_none.true)
 
 pub returns : goal.returns
 returns g c = grind (arith, one_freed, not)

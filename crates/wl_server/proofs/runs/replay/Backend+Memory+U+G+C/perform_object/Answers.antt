@@ -15,3 +15,9 @@ returns-in-SendEvent g c = rw c.in-SendEvent.is (over_script g.G.GlobalHandler.v
 
 pub returns-in-PostError : goal.returns-in-PostError
 returns-in-PostError g c = rw c.in-PostError.is (over_script g.G.GlobalHandler.views _ _ _ _ c.post_error.ensures.call)
+
+pub returns-in-SetObjectVersion : goal.returns-in-SetObjectVersion
+returns-in-SetObjectVersion g c = rw c.in-SetObjectVersion.is (over_script g.G.GlobalHandler.views _ _ _ _ c.set_object_version.ensures.call)
+
+pub returns-in-CreateObjectAt : goal.returns-in-CreateObjectAt
+returns-in-CreateObjectAt g c = rw c.in-CreateObjectAt.is (over_script g.G.GlobalHandler.views _ _ _ _ c.create_object_at-answer.ensures.call)

@@ -16,3 +16,7 @@ returns-in-Cleanup g c = rw c.in-Cleanup.is (over_script g.G.GlobalHandler.views
 
 pub returns-in-TakeNotes : goal.returns-in-TakeNotes
 returns-in-TakeNotes g c = rw c.in-TakeNotes.is (over_script g.G.GlobalHandler.views _ _ _ _ c.take_notes.ensures.call)
+
+pub returns-in-KeepGlobalNames : goal.returns-in-KeepGlobalNames
+returns-in-KeepGlobalNames g c =
+    rw c.in-KeepGlobalNames.is (over_script g.G.GlobalHandler.views _ _ _ _ c.keep_global_names.ensures.call)

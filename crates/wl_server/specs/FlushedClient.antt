@@ -1,0 +1,31 @@
+-- What a flush of one client says of the bytes that wait then.
+use Rattle.std.specs.Prelude.{ℕ, List, [], ◌∷◌, Option, None, Some, Result, Ok, Err}
+use Rattle.wl_wire.specs.declared.error.IoFault.{IoFault}
+use Rattle.wl_server.specs.declared.client.flush_client.Flushed.{Flushed}
+use Rattle.wl_server.specs.declared.client.flush_client.Flushed.TheVariants.{All, More}
+use Rattle.wl_server.specs.Backend.{BackendState}
+use Rattle.wl_server.specs.Ids.{ClientParts}
+use Rattle.wl_server.specs.Lookups.{client_of}
+use Rattle.wl_server.specs.Part.{Part}
+
+-- the answer of a flush, without what it says of the bytes that wait
+abbrev pub without_left : Result Flushed IoFault → Result (Unit {0}) IoFault
+without_left (Ok left) = Ok tt
+without_left (Err e) = Err e
+
+abbrev pub left_by : List ℕ → Flushed
+left_by [] = All
+left_by (b ∷ bytes) = More
+
+module _ {T U C : Type 0} where
+  -- whether bytes wait to be sent to a client
+  abbrev pub left_of : Part T U C → Flushed
+  left_of p = left_by p.link.outgoing.bytes
+
+  abbrev pub left_if_stored : Option (Part T U C) → Flushed
+  left_if_stored None = All
+  left_if_stored (Some p) = left_of p
+
+-- none wait for a client that is not stored
+abbrev pub left_in : {T U G C : Type 0} → BackendState T U G C → ClientParts → Flushed
+left_in b id = left_if_stored (client_of b.server id)

@@ -1,0 +1,26 @@
+//! Whether names of globals are given again.
+
+ghost use Rattle.wl_server.specs.Backend.{Calls};
+ghost use Rattle.wl_server.specs.PartStep.{over};
+ghost use Rattle.wl_server.specs.Plain.Globals.{KeepsNames};
+ghost use Rattle.wl_server.specs.declared.runs.step.Reply.TheVariants as reply;
+ghost use Rattle.wl_server.specs.declared.runs.step.Step.TheVariants as step;
+
+use crate::backend::Backend;
+use crate::globals::handler::GlobalHandler;
+use wl_link::Transport;
+
+impl<T: Transport + Drop, U: Drop, G: GlobalHandler<C> + Drop, C: Drop> Backend<T, U, G, C> {
+    /// Keeps the names of globals, or no longer. As long as they are kept, each new global gets the least name that was never
+    /// in use. So a client whose bind of a removed global is on its way never binds another global in its place. Once they are
+    /// no longer kept, new globals get the least name that no other has, as in a new server: names of removed globals again.
+    ///
+    /// libwayland keeps them always. Each name that was in use takes some memory as long as the server is there.
+    pub fn keep_global_names(&mut self, keep: bool)
+        ensures call { Calls (over T.sends T.receives G.views) self.old (step.KeepGlobalNames keep) reply.KeepGlobalNames self.new }
+        ensures plain { KeepsNames self.old keep self.new }
+    {
+        self.refused = false;
+        self.keeps_names = keep;
+    }
+}
