@@ -1,0 +1,7 @@
+//! The tests of `wl_queues`. They call public items alone, and nothing stands on this crate.
+#![tactic(auto)]
+
+#[cfg(test)]
+mod run;
+#[cfg(test)]
+mod tests;

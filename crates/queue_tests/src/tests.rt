@@ -1,0 +1,6 @@
+//! By what is tested.
+
+mod order;
+mod readers;
+mod refused;
+mod unused;

@@ -1,0 +1,64 @@
+-- What calls leave, as states.
+use Rattle.std.proofs.Common.{◌≡◌, ℕ, zero, suc, ◌<◌, List, [], ◌∷◌, length, get_or, true, refl, sym, ap, ◌∙◌, arith, Option, Some, None}
+use Rattle.std.specs.Prelude.{IfNone, IfSome, remove, slice_get, unwrap_or}
+use Rattle.std.specs.List.{position}
+use Rattle.std.proofs.lemmas.Bool.Decides.{nat_tests}
+use Rattle.std.proofs.lemmas.List.Quantifiers.{position-Some}
+use Rattle.wl_queues.specs.declared.events.Held.{Held}
+use Rattle.wl_queues.specs.Events.{has_ticket}
+use Rattle.wl_queues.specs.declared.objects.Fate.TheVariants.{Destroyed}
+use Rattle.wl_queues.specs.declared.queues.Queues.{Queues}
+use Rattle.wl_queues.specs.Inside.Objects.{object_of, references_of}
+use Rattle.wl_queues.specs.Objects.{given_up}
+use Rattle.wl_queues.specs.Queues.{Does, Finish, IsUnused, Note, QueuesState}
+use Rattle.wl_queues.specs.States.{state_of}
+use Rattle.wl_queues.proofs.Lists.{unnamed-of-zero, zero-of-unnamed}
+
+module _ {E : Type 0} where
+  -- an object that is destroyed and that nothing refers to is unused
+  pub unused-of : (q : Queues E) (r : Option ℕ) → IfSome r (λ o. ((object_of q.objects o).fate ≡ Destroyed) × (references_of q.objects o ≡ 0)) → IfSome r (λ o. IsUnused (state_of q) o)
+  unused-of q None h = tt
+  unused-of q (Some o) h = record {
+    destroyed = h.0;
+    unnamed = unnamed-of-zero (state_of q) o q.queues.items q.in_hand.items (λ n. refl) refl (sym (q.counted.each o) ∙ h.1);
+  }
+
+  -- and no other is
+  pub none-unused : (q : Queues E) (r : Option ℕ) → IfNone r ((o : ℕ) → (object_of q.objects o).fate ≡ Destroyed → 0 < references_of q.objects o) → IfNone r ((o : ℕ) → ¬ (IsUnused (state_of q) o))
+  none-unused q None h = λ o u. let zero-times = q.counted.each o ∙ zero-of-unnamed (state_of q) o q.queues.items q.in_hand.items (λ n. refl) refl u.unnamed in omega (arith, h o u.destroyed, zero-times)
+  none-unused q (Some o) h = tt
+
+  pub note-does : (s t : QueuesState E) (r : Option ℕ) → IfSome r (λ o. IsUnused s o) → ((p : ℕ) → t.objects p ≡ given_up r s.objects p) → t.queues ≡ s.queues → ((n : ℕ) → t.is_dropped n ≡ s.is_dropped n) →
+      ((n : ℕ) → t.waiting n ≡ s.waiting n) → t.in_hand ≡ s.in_hand → t.tickets ≡ s.tickets → t.failed ≡ s.failed → IfSome r (λ o. Does s (Note o) t)
+  note-does s t None unused objects queues dropped waiting in_hand tickets failed = tt
+  note-does s t (Some o) unused objects queues dropped waiting in_hand tickets failed = record {
+    answers = unused;
+    leaves = record { objects = objects; queues = queues; is_dropped = dropped; waiting = waiting; in_hand = in_hand; tickets = tickets; failed = failed };
+  }
+
+  there : (xs : List (Held E)) (i : ℕ) (x : Held E) → i < length xs → x ≡ get_or xs i x → slice_get xs i ≡ Some x
+  there [] i x lt is = absurd (omega arith)
+  there (y ∷ xs) zero x lt is = ap (λ z. Some z) (sym is)
+  there (y ∷ xs) (suc i) x lt is = there xs i x (omega arith) is
+
+  -- the event in hand with a ticket ends
+  pub finish-does : (s t : QueuesState E) (ticket i : ℕ) (h : Held E) → position (has_ticket ticket) s.in_hand ≡ Some i → h ≡ get_or s.in_hand i h → ((p : ℕ) → t.objects p ≡ s.objects p) →
+      t.queues ≡ s.queues → ((n : ℕ) → t.is_dropped n ≡ s.is_dropped n) → ((n : ℕ) → t.waiting n ≡ s.waiting n) → t.in_hand ≡ remove s.in_hand i → t.tickets ≡ s.tickets → t.failed ≡ s.failed → Does s (Finish ticket h.event) t
+  finish-does s t ticket i h at is objects queues dropped waiting in_hand tickets failed =
+      let p = position-Some (has_ticket ticket) s.in_hand i h at in
+      let same : h.ticket ≡ ticket = ticket-is (ap (has_ticket ticket) is ∙ p.1) in
+      record {
+        answers = (i, at, there s.in_hand i h p.0 is ∙ ap (λ n. Some (record { ticket = n; event = h.event })) same);
+        leaves = record {
+          objects = objects;
+          queues = queues;
+          is_dropped = dropped;
+          waiting = waiting;
+          in_hand = in_hand ∙ ap (λ r. remove s.in_hand (unwrap_or r 0)) (sym at);
+          tickets = tickets;
+          failed = failed;
+        };
+      }
+    where
+      ticket-is : has_ticket ticket h ≡ true → h.ticket ≡ ticket
+      ticket-is e = grind (arith, nat_tests, e)

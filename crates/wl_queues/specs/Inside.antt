@@ -1,0 +1,4 @@
+pub mod Counts
+pub mod Objects
+pub mod Refusals
+pub mod Slots

@@ -1,0 +1,9 @@
+pub mod Events
+pub mod Inside
+pub mod Nexts
+pub mod Objects
+pub mod Queues
+pub mod Readers
+pub mod Runs
+pub mod Schedules
+pub mod States

@@ -1,0 +1,42 @@
+-- Objects, each in its slot: in which queue its events wait, and what has become of it.
+use Rattle.std.specs.Prelude.{ℕ, ◌==◌, Bool, true, false, if◌then◌else◌, Option, None, Some}
+use Rattle.wl_queues.specs.declared.objects.Fate.{Fate}
+use Rattle.wl_queues.specs.declared.objects.Fate.TheVariants.{Alive, Destroyed, Free}
+use Rattle.wl_queues.specs.declared.objects.Object.{Object}
+
+-- what a slot has that no object has
+abbrev pub nobody : Object
+nobody = record { queue = 0; fate = Free }
+
+abbrev pub is_alive : Fate → Bool
+is_alive Free = false
+is_alive Alive = true
+is_alive Destroyed = false
+
+abbrev pub is_destroyed : Fate → Bool
+is_destroyed Free = false
+is_destroyed Alive = false
+is_destroyed Destroyed = true
+
+-- the object in a slot changes, and no other
+abbrev pub with_object : ℕ → Object → (ℕ → Object) → ℕ → Object
+with_object slot x objects other = if other == slot then x else objects other
+
+-- a new object of the queue
+abbrev pub alive_in : ℕ → Object
+alive_in queue = record { queue = queue; fate = Alive }
+
+abbrev pub destroyed : Object → Object
+destroyed x = record { queue = x.queue; fate = Destroyed }
+
+abbrev pub in_queue : ℕ → Object → Object
+in_queue queue x = record { queue = queue; fate = x.fate }
+
+-- objects of a queue that is dropped have the first queue
+abbrev pub left_by : ℕ → Object → Object
+left_by queue x = if x.queue == queue then in_queue 0 x else x
+
+-- the slot, if there is one, is free again
+abbrev pub given_up : Option ℕ → (ℕ → Object) → ℕ → Object
+given_up None objects = objects
+given_up (Some slot) objects = with_object slot nobody objects
