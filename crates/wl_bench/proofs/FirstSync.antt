@@ -118,6 +118,9 @@ module _ {U : Type 0} where
     error = None;
     open_event = None;
     notes = [];
+    passes_over = false;
+    keeps_freed = false;
+    freed = [];
   }
 
   -- the display is there, and the request is one of its own

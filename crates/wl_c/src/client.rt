@@ -5,7 +5,7 @@
 //! | `connect`, `end`, `add_interfaces`, `extend_interfaces`, `memory_refused`, the limits, `last_error` | `session` |
 //! | `received`, `next_event`, `finish_event`, `send_request`, .. | `events` |
 //! | `display`, `object_data`, .. | `objects` |
-//! | `flush`, `to_send`, `sent`, `next_note`, `next_dropped` | `sending` |
+//! | `flush`, `to_send`, `sent`, `next_note`, `keep_freed`, `next_freed`, `next_dropped` | `sending` |
 
 mod events;
 mod kept;

@@ -6,7 +6,7 @@
 //! session out, calls its method of `wl_host`, and puts it back before it returns. So a call on an empty place, or within a
 //! call on the same place, answers `NB_NO_SESSION`.
 //!
-//! `nb_version` alone takes no place. All that another call does is done by the method of the same name. The contract of an
+//! `nb_version` and `nb_read_signature` alone take no place. All that another call does is done by the method of the same name. The contract of an
 //! export says what becomes of the place, what is written where the call is refused, and in the clauses of the method what the
 //! call does:
 //!
@@ -26,6 +26,7 @@ mod boxed;
 pub mod client;
 mod parts;
 pub mod server;
+mod signatures;
 mod sizes;
 mod threads;
 mod version;

@@ -14,8 +14,8 @@ use Rattle.wl_client.specs.declared.error.WaylandError.{WaylandError}
 use Rattle.wl_client.specs.declared.event.OpenEvent.{OpenEvent}
 use Rattle.wl_client.specs.declared.event_fault.EventFault.TheVariants as wrong
 use Rattle.wl_client.specs.Events.{error_of}
-use Rattle.wl_client.specs.Handling.{Handling, Swallows, HandsOut, Breaks}
-use Rattle.wl_client.specs.Reading.{NextEvent, ReadsTo, client, core_after, faulted, objects_in, starved_to, verdict}
+use Rattle.wl_client.specs.Handling.{Handling, Swallows, HandsOut, Breaks, handling_by}
+use Rattle.wl_client.specs.Reading.{NextEvent, ReadsTo, client, core_after, faulted, freed_core, objects_in, starved_to, verdict}
 use Rattle.wl_client.specs.ObjectId.{IdParts}
 use Rattle.wl_client.specs.Requests.{SessionMessage, session_content}
 use Rattle.wl_client.specs.Session.{Core, SessionState}
@@ -23,7 +23,8 @@ use Rattle.wl_wire.specs.declared.argument.Token.{Token}
 use Rattle.wl_wire.specs.declared.message.Message.{Message}
 use Rattle.wl_host.specs.declared.status.Status.{Status}
 use Rattle.wl_host.specs.declared.status.Status.TheVariants as status
-use Rattle.wl_host.specs.Client.{ClientCore, HandsEvent, HandsNext, HostedClient, LentForEvent, ReadsUnlessKept, event_of, kept_of, status_of}
+use Rattle.wl_host.specs.Client.{ClientCore, HandsAllowed, HandsEvent, HandsNext, HostedClient, IsNullError, LentForEvent, ReadsUnlessKept, RefusesEvent, ended_by, event_of, kept_of, null_in, status_of}
+use Rattle.wl_host.specs.Nulls.{is_refused}
 use Rattle.wl_host.specs.Status.{of_next_event}
 
 keeps_after : (c : Core ℕ) (h : Handling ℕ) → (core_after c h).notes ≡ c.notes
@@ -46,13 +47,14 @@ keeps_verdict c h (Ok u) = keeps_after c h
 keeps_verdict c h (Err fault.OutOfMemory) = keeps_starved c h
 keeps_verdict c h (Err f) = keeps_after c h
 
-keeps_carried : (c : Core ℕ) (h : Handling ℕ) (v : Verdict (Core ℕ) SessionMessage) (link : LinkState MailboxState) (es : List Sending)
+-- a verdict on a core whose notes are those of `c`
+keeps_carried : (c d : Core ℕ) (h : Handling ℕ) (v : Verdict (Core ℕ) SessionMessage) (link : LinkState MailboxState) (es : List Sending)
     (gave : List (Given SessionMessage)) (refused : Bool) (after : ReaderState MailboxState (Core ℕ))
-    → v ≡ verdict c h → CarriesOut MailboxSends client v link es gave refused after → after.core.notes ≡ c.notes
-keeps_carried c h v link es gave refused after is (inl (first, others, put, wrote, mid, lacked, puts, flushes, sent, now, given, lacks)) =
-    ap (λ (core : Core ℕ). core.notes) now ∙ ap (λ (w : Verdict (Core ℕ) SessionMessage). (came_to client w wrote).notes) is ∙ keeps_verdict c h wrote
-keeps_carried c h v link es gave refused after is (inr (asks, memory, sent, given, now)) =
-    ap (λ (p : ReaderState MailboxState (Core ℕ)). p.core.notes) now ∙ ap (λ (w : Verdict (Core ℕ) SessionMessage). w.starved.notes) is ∙ keeps_starved c h
+    → d.notes ≡ c.notes → v ≡ verdict d h → CarriesOut MailboxSends client v link es gave refused after → after.core.notes ≡ c.notes
+keeps_carried c d h v link es gave refused after same is (inl (first, others, put, wrote, mid, lacked, puts, flushes, sent, now, given, lacks)) =
+    ap (λ (core : Core ℕ). core.notes) now ∙ ap (λ (w : Verdict (Core ℕ) SessionMessage). (came_to client w wrote).notes) is ∙ keeps_verdict d h wrote ∙ same
+keeps_carried c d h v link es gave refused after same is (inr (asks, memory, sent, given, now)) =
+    ap (λ (p : ReaderState MailboxState (Core ℕ)). p.core.notes) now ∙ ap (λ (w : Verdict (Core ℕ) SessionMessage). w.starved.notes) is ∙ keeps_starved d h ∙ same
 
 keeps_read : (left : ℕ) (before : ReaderState MailboxState (Core ℕ)) (turns : List Turn) (out : Gives SessionMessage) (after : ReaderState MailboxState (Core ℕ))
     → Reads MailboxSends client MailboxReceives left before turns out after → after.core.notes ≡ before.core.notes
@@ -70,9 +72,10 @@ keeps_read left before (Received r ∷ turns) out after (on, lacks, (n, some, (l
     keeps_received before link turns out after n (Err f) on (last, is, now) =
         ap (λ (p : ReaderState MailboxState (Core ℕ)). p.core.notes) now ∙ keeps_faulted before.core f
 keeps_read left before (Handled es ∷ turns) out after (on, (v, link, first, lacked, mid, rest, (m, reads, is), carries, gives, goes)) =
-    keeps_read left mid turns rest after goes ∙ keeps_carried before.core _ v link es first lacked mid is carries
+    let h : Handling ℕ = handling_by before.core.passes_over before.core.table (objects_in before.core) m in
+    keeps_read left mid turns rest after goes ∙ keeps_carried before.core (freed_core before.core m h) h v link es first lacked mid refl is carries
 keeps_read left before (Unread es ∷ turns) out after (on, (v, link, first, lacked, mid, rest, (reads, stays, is), carries, gives, goes)) =
-    keeps_read left mid turns rest after goes ∙ keeps_carried before.core (Breaks (error_of before.core.table wrong.Malformed) (objects_in before.core)) v link es first lacked mid is carries
+    keeps_read left mid turns rest after goes ∙ keeps_carried before.core before.core (Breaks (error_of before.core.table wrong.Malformed) (objects_in before.core)) v link es first lacked mid refl is carries
 
 keeps_open : (before : SessionState MailboxState ℕ) (open_event : Option OpenEvent) (answer : Result SessionMessage EventError) (refused : Bool) (after : SessionState MailboxState ℕ)
     → MatchOption open_event (ReadsTo MailboxSends MailboxReceives before answer refused after)
@@ -127,7 +130,7 @@ module _ (core : ClientCore) (after : ClientCore) where
   something_by (Err no_event.WouldBlock) kept is now = let no : ⊥ = cc in absurd no
   something_by (Err no_event.OutOfMemory) kept is now = let no : ⊥ = cc in absurd no
 
-  something_read : (kept : Option SessionMessage) (kept' : Option SessionMessage) → ReadsUnlessKept kept core status.Ok kept' after
+  pub something_read : (kept : Option SessionMessage) (kept' : Option SessionMessage) → ReadsUnlessKept kept core status.Ok kept' after
       → (event : SessionMessage) × (kept' ≡ Some event)
   something_read None kept' (answer, reads, is, now) = something_by answer kept' is now
   something_read (Some event) kept' (is, now, same) = (event, now)
@@ -153,9 +156,32 @@ hands_nothing before lent s kept core after reads bad now =
     let stays : after ≡ record before { core = core } = now ∙ ap (λ kept. record before { core = core; kept = kept }) (k ∙ sym was) in
     (s, kept, core, reads, rw k (refl, refl, refl, stays))
 
+-- the event is refused
+refuses_this : (refuses : Bool) (s : HostedClient) (event : SessionMessage) (lent : LentForEvent) (answer : Status) (came_out : List ℤ) (after : HostedClient)
+    (lent' : LentForEvent)
+    → is_refused refuses (null_in s.core event) ≡ true → RefusesEvent s event lent answer came_out after lent'
+    → HandsAllowed refuses s event lent answer came_out after lent'
+refuses_this refuses s event lent answer came_out after lent' is h = rw is h
+
+pub refuses_event : (before : HostedClient) (lent : LentForEvent) (kept : Option SessionMessage) (core : ClientCore) (event : SessionMessage)
+    (error : WaylandError) (after : HostedClient)
+    → ReadsUnlessKept before.kept before.core status.Ok kept core → kept ≡ Some event → is_refused before.refuses_nulls (null_in core event) ≡ true
+    → IsNullError core event error → after ≡ ended_by (record before { core = core }) error → HandsNext before lent status.Failed [] after lent
+refuses_event before lent kept core event error after reads found is null now =
+    let s : HostedClient = record before { core = core } in
+    (status.Ok, kept, core, reads, rw found (refuses_this before.refuses_nulls s event lent status.Failed [] after lent is (refl, refl, refl, (error, null, now))))
+
 -- one was, or there was no room for it
+hands_this : (refuses : Bool) (s : HostedClient) (event : SessionMessage) (lent : LentForEvent) (answer : Status) (came_out : List ℤ) (after : HostedClient)
+    (lent' : LentForEvent)
+    → is_refused refuses (null_in s.core event) ≡ false → HandsEvent s event lent answer came_out after lent'
+    → HandsAllowed refuses s event lent answer came_out after lent'
+hands_this refuses s event lent answer came_out after lent' is h = rw is h
+
 pub hands_event : (before : HostedClient) (lent : LentForEvent) (kept : Option SessionMessage) (core : ClientCore) (event : SessionMessage)
     (answer : Status) (came_out : List ℤ) (after : HostedClient) (lent' : LentForEvent)
-    → ReadsUnlessKept before.kept before.core status.Ok kept core → kept ≡ Some event
+    → ReadsUnlessKept before.kept before.core status.Ok kept core → kept ≡ Some event → is_refused before.refuses_nulls (null_in core event) ≡ false
     → HandsEvent (record before { core = core }) event lent answer came_out after lent' → HandsNext before lent answer came_out after lent'
-hands_event before lent kept core event answer came_out after lent' reads found hands = (status.Ok, kept, core, reads, rw found hands)
+hands_event before lent kept core event answer came_out after lent' reads found is hands =
+    let s : HostedClient = record before { core = core } in
+    (status.Ok, kept, core, reads, rw found (hands_this before.refuses_nulls s event lent answer came_out after lent' is hands))

@@ -95,7 +95,7 @@ seats_marked true s = refl
 seats_marked false s = refl
 
 next_from : (before after : ServerState) (id : ClientParts) (arguments : List FlatArgument) (bytes : List ℕ) (result : Result Status ActionError) (s : Status) (lent : Lent) (core : CoreState) (l l' : Ledger)
-    → ledger_of id before.seats.ledgers ≡ Some l → NextOf before.core id l (lent_none arguments bytes) result lent core l' → s ≡ status_of_next result
+    → ledger_of id before.seats.ledgers ≡ Some l → NextOf before.refuses_nulls before.core id l (lent_none arguments bytes) result lent core l' → s ≡ status_of_next result
     → after ≡ marked_if (is_killed_in result) (record before { core = core; seats = listed (with_ledger before.seats id l') id.slot })
     → (out : List ℤ) × NextAction before id arguments bytes s lent out after × Conserves kept_by_server before [] out after
 next_from before after id arguments bytes result s lent core l l' e h f g =
@@ -110,13 +110,13 @@ next_from before after id arguments bytes result s lent core l l' e h f g =
       conserves_server before after (listed (with_ledger before.seats id l') id.slot) [] a.0 m (record { each = λ d. c.each d }),
     )
 
-pub next_handed : (before after : ServerState) (id id' : ClientParts) (old : CoreState) (out : FlatAction) (arguments : List FlatArgument) (bytes : List ℕ) (result : Result Status ActionError) (s : Status) (lent : Lent) (core : CoreState) (l l' : Ledger)
-    → id' ≡ id → old ≡ before.core → out ≡ no_action → ledger_of id before.seats.ledgers ≡ Some l
-    → NextOf old id' l (record { out = out; arguments = arguments; bytes = bytes }) result lent core l' → s ≡ status_of_next result
+pub next_handed : (before after : ServerState) (id id' : ClientParts) (refuses : Bool) (old : CoreState) (out : FlatAction) (arguments : List FlatArgument) (bytes : List ℕ) (result : Result Status ActionError) (s : Status) (lent : Lent) (core : CoreState) (l l' : Ledger)
+    → id' ≡ id → refuses ≡ before.refuses_nulls → old ≡ before.core → out ≡ no_action → ledger_of id before.seats.ledgers ≡ Some l
+    → NextOf refuses old id' l (record { out = out; arguments = arguments; bytes = bytes }) result lent core l' → s ≡ status_of_next result
     → after ≡ marked_if (is_killed_in result) (record before { core = core; seats = listed (with_ledger before.seats id l') id.slot })
     → (out : List ℤ) × NextAction before id arguments bytes s lent out after × Conserves kept_by_server before [] out after
-next_handed before after id id' old out arguments bytes result s lent core l l' i o n e h f g =
-    next_from before after id arguments bytes result s lent core l l' e (rw (i, o, n) at h) f g
+next_handed before after id id' refuses old out arguments bytes result s lent core l l' i r o n e h f g =
+    next_from before after id arguments bytes result s lent core l l' e (rw (i, r, o, n) at h) f g
 
 -- ---- the end of an action
 

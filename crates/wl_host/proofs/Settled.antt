@@ -3,7 +3,7 @@ use Rattle.std.proofs.Common.{◌≡◌, ℕ, ℤ, Bool, true, false, inl, inr, 
 use Rattle.std.proofs.lemmas.Bool.{false≢true}
 use Rattle.std.specs.Global.{Global}
 use Rattle.std.specs.Prelude.{MatchOption, MatchResult, Vec, length, nat_lt}
-use Rattle.wl_link.proofs.Calls.Branches.{either_option}
+use Rattle.wl_link.proofs.Calls.Branches.{either_bool, either_option}
 use Rattle.wl_link.specs.Mailbox.{MailboxState}
 use Rattle.wl_link.specs.declared.mailbox.Ending.{Ending}
 use Rattle.wl_server.specs.declared.error.ActionError.{ActionError}
@@ -14,6 +14,7 @@ use Rattle.wl_server.specs.declared.reading.action.OpenAction.TheVariants as ope
 use Rattle.wl_server.specs.declared.runs.step.Reply.TheVariants as reply
 use Rattle.wl_server.specs.declared.runs.step.Step.TheVariants as step
 use Rattle.wl_server.specs.Backend.{Calls, IsGrowth}
+use Rattle.wl_server.specs.Deeds.{handed}
 use Rattle.wl_server.specs.Ids.{ClientParts, GlobalParts, IdParts}
 use Rattle.wl_server.specs.Lending.{state_over}
 use Rattle.wl_server.specs.Lookups.{transport_of}
@@ -24,7 +25,7 @@ use Rattle.wl_wire.specs.Table.{Extension, LongerRow, NewRows}
 use Rattle.wl_wire.specs.declared.error.OutOfMemory.{OutOfMemory}
 use Rattle.wl_host.proofs.Killing.{says_killed}
 use Rattle.wl_host.proofs.Marking.{KillsNobody, action_kills, cleanup_leaves_none, creates_kills, finish_bind_kills, finish_request_kills, flush_kills, insert_kills, growth_kills, mailbox_kills, notes_kill, refused_global_kills, set_data_kills}
-use Rattle.wl_host.specs.Actions.{EndsBind, EndsRequest, Lent, NextAction, ReadsNext, ended, is_killed_by, marked_if}
+use Rattle.wl_host.specs.Actions.{EndsBind, EndsRequest, Lent, NextAction, ReadsAllowed, ReadsIfAllowed, ReadsNext, ended, is_killed_by, marked_if, null_in}
 use Rattle.wl_host.specs.Calls.{CoreState, CreatesGlobal, CreatesObject, InsertsClient, SetsObjectData, flattened, interface_of, world}
 use Rattle.wl_host.specs.Clients.{SetsRoom, inserted}
 use Rattle.wl_host.specs.Extending.{Lengthens, Parts, Takes, parts_of, told_at, told_of_new}
@@ -32,6 +33,7 @@ use Rattle.wl_host.specs.Events.{Passed, PostsError, SendsEvent}
 use Rattle.wl_host.specs.Flat.{client_of, flat_global}
 use Rattle.wl_host.specs.Killed.{IsSettled, KnowsEnd, StaysSettled}
 use Rattle.wl_host.specs.Notes.{NextNote, noted, noted_if, text_of}
+use Rattle.wl_host.specs.Nulls.{is_refused}
 use Rattle.wl_host.specs.Rows.{fault_of}
 use Rattle.wl_host.specs.Seats.{SeatsState, added, gone_all, ledger_at, ledger_of}
 use Rattle.wl_host.specs.Status.{of_global}
@@ -225,6 +227,23 @@ read_kills : (b a : CoreState) (id : ClientParts) (kept : Option Action) (read :
 read_kills b a id None read off h = action_kills b a id read (says_same read ∙ off) h
 read_kills b a id (Some kept) read off h = kills_same b a h.1
 
+-- while nulls are refused: a reading that killed nobody found an action without them, or none
+allowed_same : (b a : CoreState) (id : ClientParts) (found read : Result Action ActionError) → is_killed_by read ≡ false → ReadsIfAllowed b id found read a
+    → (is_killed_by found ≡ false) × (a ≡ b)
+allowed_same b a id (Err e) read off (is, same) = (ap is_killed_by (sym is) ∙ off, same)
+allowed_same b a id (Ok action) read off h =
+    elim (either_bool (is_refused true (null_in b (handed action))) h) [
+      | inl (is, refused) ↦ absurd (true≢false (ap is_killed_by (sym is) ∙ off))
+      | inr (is, same) ↦ (refl, same)
+    ]
+
+allowed_kills : (refuses : Bool) (b a : CoreState) (id : ClientParts) (kept : Option Action) (read : Result Action ActionError) → is_killed_by read ≡ false
+    → ReadsAllowed refuses b id kept read a → KillsNobody b a
+allowed_kills false b a id kept read off h = read_kills b a id kept read off h
+allowed_kills true b a id kept read off (found, core, reads, allowed) =
+    let same = allowed_same core a id found read off allowed in
+    kills_then b core a (read_kills b core id kept found same.0 reads) (kills_same core a same.1)
+
 pub action_settled : (b a : ServerState) (id : ClientParts) (arguments : List FlatArgument) (bytes : List ℕ) (s : Status) (lent : Lent) (out : List ℤ)
     → NextAction b id arguments bytes s lent out a → StaysSettled b a
 action_settled b a id arguments bytes s lent out h =
@@ -233,13 +252,13 @@ action_settled b a id arguments bytes s lent out h =
       | inr (l, is, (read, core, l', reads, hands, after)) ↦ by l read core reads (is_killed_by read) refl _ after
     ]
   where
-    by : (l : Ledger) (read : Result Action ActionError) (core : CoreState) → ReadsNext b.core id l.kept read core → (killed : Bool) → is_killed_by read ≡ killed
+    by : (l : Ledger) (read : Result Action ActionError) (core : CoreState) → ReadsAllowed b.refuses_nulls b.core id l.kept read core → (killed : Bool) → is_killed_by read ≡ killed
         → (seats : SeatsState) → a ≡ marked_if (is_killed_by read) (record b { core = core; seats = seats }) → StaysSettled b a
     by l read core reads true on seats after =
         stays_marked b a (ap (λ (s : ServerState). s.may_clean_up) (after ∙ ap (λ k. marked_if k (record b { core = core; seats = seats })) on))
     by l read core reads false off seats after =
         let e = after ∙ ap (λ k. marked_if k (record b { core = core; seats = seats })) off in
-        stays_core b a core (read_kills b.core core id l.kept read off reads) (ap (λ (s : ServerState). s.core) e) (ap (λ (s : ServerState). s.may_clean_up) e)
+        stays_core b a core (allowed_kills b.refuses_nulls b.core core id l.kept read off reads) (ap (λ (s : ServerState). s.core) e) (ap (λ (s : ServerState). s.may_clean_up) e)
 
 pub bind_settled : (b a : ServerState) (id : ClientParts) (u : ℕ) (result : Result Bool Status) → EndsBind b id u result a → StaysSettled b a
 bind_settled b a id u result h =

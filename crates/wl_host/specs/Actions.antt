@@ -1,6 +1,7 @@
 -- The actions of clients: as flat structs, and what the calls that hand them out and end them do.
-use Rattle.std.specs.Prelude.{◌≡◌, ◌&&◌, ℕ, ℤ, List, [], length, nat_le, Bool, true, false, MatchBool, Option, None, Some, Result, Ok, Err, MatchOption, MatchResult, if◌then◌else◌}
+use Rattle.std.specs.Prelude.{◌≡◌, ◌⊎◌, ◌&&◌, ℕ, ℤ, List, [], codes, length, nat_le, Bool, true, false, MatchBool, Option, None, Some, Result, Ok, Err, MatchOption, MatchResult, if◌then◌else◌}
 use Rattle.wl_wire.specs.MessageRows.{request_row}
+use Rattle.wl_wire.specs.Table.{name_of}
 use Rattle.wl_wire.specs.declared.argument.Argument.{Argument}
 use Rattle.wl_wire.specs.declared.argument.Token.{Token}
 use Rattle.wl_wire.specs.declared.error.IoFault.TheVariants as fault
@@ -8,11 +9,13 @@ use Rattle.wl_server.specs.Backend.{Calls}
 use Rattle.wl_server.specs.Deeds.{Handed, handed}
 use Rattle.wl_server.specs.Deeds as deeds
 use Rattle.wl_server.specs.Ids.{ClientParts, IdParts}
+use Rattle.wl_server.specs.Part.{display_of}
 use Rattle.wl_server.specs.Plain.{ReturnsBindData, ReturnsRequestData}
 use Rattle.std.specs.Result.{result_and}
 use Rattle.wl_server.specs.declared.error.FinishRefused.{FinishRefused}
 use Rattle.wl_server.specs.declared.error.ActionError.{ActionError}
 use Rattle.wl_server.specs.declared.error.ActionError.TheVariants as action_error
+use Rattle.wl_server.specs.declared.notes.DisconnectReason.TheVariants as reason
 use Rattle.wl_server.specs.declared.reading.action.Action.{Action}
 use Rattle.wl_server.specs.declared.runs.step.Reply.TheVariants as reply
 use Rattle.wl_server.specs.declared.runs.step.Step.TheVariants as step
@@ -20,7 +23,7 @@ use Rattle.wl_host.specs.Arguments.{all_bytes, descriptors_out, flat_arguments, 
 use Rattle.wl_host.specs.Calls.{CoreState, bit_of, data_or_zero, global_data_or_zero, kept_by, version_or_zero, world}
 use Rattle.wl_host.specs.Flat.{count_number, flat_global, flat_resource, no_action, no_object, over_front}
 use Rattle.wl_host.specs.Kinds as kinds
-use Rattle.wl_host.specs.Nulls.{forbidden_null, signature_of}
+use Rattle.wl_host.specs.Nulls.{forbidden_null, is_refused, name_in, null_text, signature_of}
 use Rattle.wl_host.specs.Seats.{ledger_of, listed, with_ledger}
 use Rattle.wl_host.specs.Server.{ServerState}
 use Rattle.wl_host.specs.Status.{of_action}
@@ -111,6 +114,49 @@ abbrev pub ReadsNext : CoreState → ClientParts → Option Action → Result Ac
 ReadsNext before id (Some kept) read after = (read ≡ Ok kept) × (after ≡ before)
 ReadsNext before id None read after = Calls world before (step.NextAction id) (reply.NextAction read) after
 
+-- the place of the first argument that is null where the table allows no null, counted from 1; 0 if there is none
+abbrev pub null_in : CoreState → Handed → ℕ
+null_in core h = (flat_action core h).forbidden_null
+
+-- what the client is told of that null
+abbrev pub refusal_text : CoreState → Handed → List ℕ
+refusal_text core (deeds.Request sender opcode args is_destructor created) =
+    null_text (codes "request") (name_of core.server.offer.table sender.interface.0)
+    (name_in (request_row core.server.offer.table sender.interface opcode))
+    (null_in core (deeds.Request sender opcode args is_destructor created))
+refusal_text core (deeds.Bind global object) = []
+
+-- The client is killed: the core is asked to post this error on its display, as `invalid_method`. Or there was no memory for the
+-- text, and it is killed as if its connection had ended.
+abbrev pub KillsFor : CoreState → ClientParts → List ℕ → CoreState → Type 0
+KillsFor before id text after =
+    Calls world before (step.PostError (display_of id) 1 text) reply.PostError after
+    ⊎ Calls world before (step.KillClient id reason.ConnectionClosed) reply.KillClient after
+
+-- The request is refused: its client is killed, and the core is asked to finish it. If there is no memory for that, the request
+-- stays open until the client is taken out.
+abbrev pub Refuses : CoreState → ClientParts → Handed → CoreState → Type 0
+Refuses before id h after =
+    (mid : CoreState) × (answer : Result (Unit {0}) (FinishRefused (Option ℕ)))
+    × KillsFor before id (refusal_text before h) mid
+    × Calls world mid (step.FinishRequest id None) (reply.FinishRequest answer) after
+
+-- What was found is read, unless it has a null that the table forbids. Then it is refused, and the reading ends as after a request
+-- that the core refuses.
+abbrev pub ReadsIfAllowed : CoreState → ClientParts → Result Action ActionError → Result Action ActionError → CoreState → Type 0
+ReadsIfAllowed before id (Ok action) read after =
+    MatchBool (is_refused true (null_in before (handed action)))
+    ((read ≡ Err (action_error.Io fault.Pipe)) × Refuses before id (handed action) after)
+    ((read ≡ Ok action) × (after ≡ before))
+ReadsIfAllowed before id (Err e) read after = (read ≡ Err e) × (after ≡ before)
+
+-- The next action is read. If such nulls are refused, it is read if it has none.
+abbrev pub ReadsAllowed : Bool → CoreState → ClientParts → Option Action → Result Action ActionError → CoreState → Type 0
+ReadsAllowed false before id kept read after = ReadsNext before id kept read after
+ReadsAllowed true before id kept read after =
+    (found : Result Action ActionError) × (core : CoreState)
+    × ReadsNext before id kept found core × ReadsIfAllowed core id found read after
+
 -- the lent memory has room for the arguments and for their bytes
 abbrev pub fits : List (Argument IdParts Token) → List FlatArgument → List ℕ → Bool
 fits args arguments bytes = nat_le (length args) (length arguments) && nat_le (length (all_bytes args)) (length bytes)
@@ -174,7 +220,7 @@ is_killed_by (Err e) = kills e
 abbrev pub NextActionOf : ServerState → ClientParts → List FlatArgument → List ℕ → Status → Lent → List ℤ → ServerState → Ledger → Type 0
 NextActionOf before id arguments bytes s lent out after l =
     (read : Result Action ActionError) × (core : CoreState) × (l' : Ledger)
-    × ReadsNext before.core id l.kept read core
+    × ReadsAllowed before.refuses_nulls before.core id l.kept read core
     × HandsOut core (without_kept l) read arguments bytes s lent out l'
     × (after ≡ marked_if (is_killed_by read) (record before { core = core; seats = listed (with_ledger before.seats id l') id.slot }))
 

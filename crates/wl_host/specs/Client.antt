@@ -1,9 +1,11 @@
 -- What a client's session holds for its host, and what its calls do, in the words of its core.
 use Rattle.std.specs.List.{count_by}
-use Rattle.std.specs.Prelude.{◌≡◌, ℕ, ℤ, ◌+◌, ◌++◌, ◌≤◌, ◌^◌, ◌⊎◌, ◌==◌, ◌&&◌, List, [], ◌∷◌, length, map, nat_le, Bool, true, false, if◌then◌else◌, Option, None, Some, is_some, unwrap_or, Result, Ok, Err, MatchBool, MatchOption}
+use Rattle.std.specs.Prelude.{◌≡◌, ℕ, ℤ, ◌+◌, ◌++◌, ◌≤◌, ◌^◌, ◌⊎◌, ◌==◌, ◌&&◌, not, List, [], ◌∷◌, codes, length, map, nat_le, Bool, true, false, if◌then◌else◌, Option, None, Some, is_some, unwrap_or, Result, Ok, Err, MatchBool, MatchOption}
 use Rattle.wl_wire.specs.MessageRows.{event_row}
+use Rattle.wl_wire.specs.Table.{name_of}
 use Rattle.wl_wire.specs.declared.argument.Argument.{Argument}
 use Rattle.wl_wire.specs.declared.argument.Token.{Token}
+use Rattle.wl_wire.specs.declared.error.ProtocolError.{ProtocolError}
 use Rattle.wl_wire.specs.declared.interface.ObjectInfo.{ObjectInfo}
 use Rattle.wl_wire.specs.declared.message.Message.{Message}
 use Rattle.wl_link.specs.Exchange.{Queue, nothing}
@@ -19,6 +21,7 @@ use Rattle.wl_client.specs.declared.event.OpenEvent.{OpenEvent}
 use Rattle.wl_client.specs.declared.objects.Note.{Note}
 use Rattle.wl_client.specs.declared.objects.Note.TheVariants.{Destroyed}
 use Rattle.wl_client.specs.Finish.{Finishes, SessionFlushed}
+use Rattle.wl_client.specs.Freeing.{kept_freed}
 use Rattle.wl_client.specs.Lending.{client_over}
 use Rattle.wl_client.specs.ObjectId.{IdParts}
 use Rattle.wl_client.specs.Objects.{DataSet, DestroyedBy, ReclaimedBy, info_of, user_data_of}
@@ -34,14 +37,15 @@ use Rattle.wl_host.specs.declared.flat.FlatObjectInfo.{FlatObjectInfo}
 use Rattle.wl_host.specs.declared.flat.FlatRequest.{FlatRequest}
 use Rattle.wl_host.specs.declared.status.Status.{Status}
 use Rattle.wl_host.specs.declared.status.Status.TheVariants as status
-use Rattle.wl_client.specs.declared.error.WaylandError.TheVariants.{Io}
+use Rattle.wl_client.specs.declared.error.WaylandError.{WaylandError}
+use Rattle.wl_client.specs.declared.error.WaylandError.TheVariants.{Io, Protocol}
 use Rattle.wl_wire.specs.declared.error.IoFault.TheVariants as fault
 use Rattle.wl_host.specs.Arguments.{all_bytes, arguments_of, descriptors_given, descriptors_out, flat_arguments, is_descriptor, queue_after_all}
 use Rattle.wl_host.specs.Arrivals.{Arrives}
 use Rattle.wl_host.specs.Calls.{flattened}
 use Rattle.wl_host.specs.Descriptors.{Conserves, Descriptors, given_up, kept_in, last_held, put_in}
 use Rattle.wl_host.specs.Flat.{count_number, flat_proxy, interface_number, over_front, proxy_of}
-use Rattle.wl_host.specs.Nulls.{forbidden_null, signature_of}
+use Rattle.wl_host.specs.Nulls.{forbidden_null, is_refused, name_in, null_text, signature_of}
 use Rattle.wl_host.specs.Sending.{came_out, mailbox_after, queue_after}
 use Rattle.wl_host.specs.Status.{of_finish_event, of_flush, of_next_event, of_proxy_destroy, of_request}
 
@@ -50,14 +54,15 @@ abbrev pub ClientCore : Type 0
 ClientCore = ClientState MailboxState ℕ
 
 -- What contracts see of a client's session: the core; the descriptors that arrived, and those of requests that were not sent;
--- the event that is kept for the next call, since the memory that was lent for it was too small; and the objects that had
--- data, ended and were not handed out yet.
+-- the event that is kept for the next call, since the memory that was lent for it was too small; the objects that had data,
+-- ended and were not handed out yet; and whether an event with a null that the table forbids ends the session.
 pub record HostedClient : Type 0 where
   pub core : ClientCore
   pub arrivals : Descriptors
   pub departures : Descriptors
   pub kept : Option SessionMessage
   pub notes : List DestroyedObject
+  pub refuses_nulls : Bool
 
 -- the event, if it is kept
 abbrev pub kept_of : Bool → Message IdParts Token → Option SessionMessage
@@ -109,12 +114,16 @@ let_go s = record s {
 abbrev pub has_failed : HostedClient → Bool
 has_failed s = is_some s.core.session.error
 
--- The host ends the session by an error with this number of the system, unless it has one. No event is open or kept.
+-- The session ends by this error, unless it has one. No event is open or kept.
+abbrev pub core_ended_by : ClientCore → WaylandError → ClientCore
+core_ended_by core error = record { session = failed_by core.session error; refused = false }
+
+abbrev pub ended_by : HostedClient → WaylandError → HostedClient
+ended_by s error = record s { core = core_ended_by s.core error; kept = None }
+
+-- The host ends the session by an error with this number of the system.
 abbrev pub failed : HostedClient → ℤ → HostedClient
-failed s number = record s {
-  core = record { session = failed_by s.core.session (Io (fault.Other number)); refused = false };
-  kept = None;
-}
+failed s number = ended_by s (Io (fault.Other number))
 
 -- of a session that has failed nothing is held any more, unless an event is kept
 abbrev pub HoldsNone : HostedClient → Type 0
@@ -165,6 +174,14 @@ abbrev pub SetsLimit : ClientCore → Option ℕ → ClientCore → Type 0
 SetsLimit before limit after =
     (link : LinkState MailboxState) × LimitSet before.session.link limit link
     × (after ≡ record { session = record before.session { link = link }; refused = false })
+
+-- ---- unknown senders
+
+-- messages of unknown senders are passed over if the number is not 0
+abbrev pub passing_over : HostedClient → ℕ → HostedClient
+passing_over s passes = record s {
+  core = record { session = record s.core.session { passes_over = not (passes == 0) }; refused = false };
+}
 
 -- ---- what the host received
 
@@ -234,6 +251,20 @@ abbrev pub HandsNote : List DestroyedObject → HostedClient → FlatObjectId �
 HandsNote [] before id u s after id' u' = (s ≡ status.WouldBlock) × (after ≡ before) × (id' ≡ id) × (u' ≡ u)
 HandsNote (ended ∷ notes) before id u s after id' u' =
     (s ≡ status.Ok) × (after ≡ record before { notes = notes }) × (id' ≡ flat_proxy ended.id) × (u' ≡ ended.user_data)
+
+-- ---- the ids of objects that left their numbers
+
+-- they are kept from now on, or no more
+abbrev pub KeepsFreed : ClientCore → Bool → ClientCore → Type 0
+KeepsFreed before keeps after = after ≡ record { session = kept_freed before.session keeps; refused = false }
+
+-- Of these ids, which wait in the core, the first is handed out; or there is none, and nothing is changed.
+abbrev pub HandsFreedId : List IdParts → HostedClient → FlatObjectId → Status → HostedClient → FlatObjectId → Type 0
+HandsFreedId [] before id s after id' =
+    (s ≡ status.WouldBlock) × (after ≡ record before { core = record before.core { refused = false } }) × (id' ≡ id)
+HandsFreedId (first ∷ ids) before id s after id' =
+    (s ≡ status.Ok) × (after ≡ record before { core = record { session = record before.core.session { freed = ids }; refused = false } })
+    × (id' ≡ flat_proxy first)
 
 -- ---- sending
 
@@ -363,13 +394,45 @@ HandsEvent s event lent answer came_out after lent' =
     ((answer ≡ status.TooSmall) × (came_out ≡ []) × (lent' ≡ record lent { out = flat_event s.core event })
     × (after ≡ record s { kept = Some event }))
 
+-- the place of the first argument that is null where the table allows no null, counted from 1; 0 if there is none
+abbrev pub null_in : ClientCore → SessionMessage → ℕ
+null_in core event = (flat_event core event).forbidden_null
+
+-- the error for that null, as for any event that is wrong: code 0, object 0, no interface
+abbrev pub null_error : ClientCore → SessionMessage → ProtocolError
+null_error core event = record {
+  code = 0;
+  object_id = 0;
+  object_interface = [];
+  message =
+      null_text (codes "event") (name_of core.session.table event.sender.interface.0)
+      (name_in (event_row core.session.table event.sender.interface event.opcode)) (null_in core event);
+}
+
+-- this one, or that there was no memory for its text
+abbrev pub IsNullError : ClientCore → SessionMessage → WaylandError → Type 0
+IsNullError core event error = (error ≡ Protocol (null_error core event)) ⊎ (error ≡ Io fault.OutOfMemory)
+
+-- The event is refused, and the session ends. What was lent is as it was.
+abbrev pub RefusesEvent : HostedClient → SessionMessage → LentForEvent → Status → List ℤ → HostedClient → LentForEvent → Type 0
+RefusesEvent s event lent answer came_out after lent' =
+    (answer ≡ status.Failed) × (came_out ≡ []) × (lent' ≡ lent)
+    × ((error : WaylandError) × IsNullError s.core event error × (after ≡ ended_by s error))
+
+-- The event is handed out. If nulls that the table forbids are refused, it is handed out if it has none.
+abbrev pub HandsAllowed : Bool → HostedClient → SessionMessage → LentForEvent → Status → List ℤ → HostedClient → LentForEvent → Type 0
+HandsAllowed refuses s event lent answer came_out after lent' =
+    MatchBool (is_refused refuses (null_in s.core event))
+    (RefusesEvent s event lent answer came_out after lent')
+    (HandsEvent s event lent answer came_out after lent')
+
 -- The event that is kept, or else the next one, is handed out. If there is none, what was lent is as it was.
 abbrev pub HandsNext : HostedClient → LentForEvent → Status → List ℤ → HostedClient → LentForEvent → Type 0
 HandsNext before lent answer came_out after lent' =
     (s : Status) × (kept : Option SessionMessage) × (core : ClientCore) × ReadsUnlessKept before.kept before.core s kept core
     × MatchOption kept
     ((answer ≡ s) × (came_out ≡ []) × (lent' ≡ lent) × (after ≡ record before { core = core }))
-    (λ event. HandsEvent (record before { core = core }) event lent answer came_out after lent')
+    (λ event. HandsAllowed before.refuses_nulls (record before { core = core }) event lent answer came_out after lent')
 
 -- ---- requests
 

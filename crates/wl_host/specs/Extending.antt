@@ -3,7 +3,7 @@
 --
 -- A row and the interface of its name in the table agree if the one's messages are a front of the other's. In a row the number of
 -- an interface is that of the table, where a name has one number: so to compare the numbers is to compare the names.
-use Rattle.std.specs.Prelude.{◌≡◌, ◌⊎◌, ℕ, ◌+◌, ◌<◌, List, [], ◌∷◌, ◌++◌, length, map, take, drop, Bool, true, false, ◌==◌, ◌&&◌, ◌||◌, nat_lt, if◌then◌else◌, Option, None, Some, option_map, Result, Ok, Err, MatchResult, slice_get, unwrap_or}
+use Rattle.std.specs.Prelude.{◌≡◌, ◌⊎◌, ℕ, ◌+◌, ◌<◌, ◌≤◌, List, [], ◌∷◌, ◌++◌, length, map, take, drop, Bool, true, false, ◌==◌, ◌&&◌, ◌||◌, nat_lt, if◌then◌else◌, Option, None, Some, option_map, Result, Ok, Err, MatchResult, slice_get, unwrap_or}
 use Rattle.std.specs.List.{position_from}
 use Rattle.std.specs.Option.{option_and_then}
 use Rattle.std.specs.Str.{bytes_eq}
@@ -223,10 +223,22 @@ module _ {S : Type 0} (Grows : S → Growth → Result (Unit {0}) TableError →
 
 -- ---- what the table has then
 
--- The table has what the row says: an interface of its name, whose messages begin with those of the row, and whose version is not
--- lower.
+-- The table has what the row says: an interface of its name, which has a message at each opcode of the row that agrees with the
+-- row's (`messages_agree`), and whose version is not lower.
 pub record HasRow (table : List InterfaceRow) (said : InterfaceRow) : Type 0 where
   pub there : InterfaceRow
   pub found : interface_there table said.name ≡ Some there
   pub agrees : difference there said ≡ None
   pub whole : has_more there said ≡ false
+
+-- The interface goes on from what it was: its name is the same, its messages stand first, and its version is no lower.
+pub record GoesOn (before after : InterfaceRow) : Type 0 where
+  pub name : after.name ≡ before.name
+  pub version : before.version ≤ after.version
+  pub requests : take (length before.requests) after.requests ≡ before.requests
+  pub events : take (length before.events) after.events ≡ before.events
+
+-- Each interface of the table is at its place, and goes on from what it was.
+abbrev pub KeepsInterfaces : List InterfaceRow → List InterfaceRow → Type 0
+KeepsInterfaces before after =
+    (place : ℕ) (was : InterfaceRow) → slice_get before place ≡ Some was → (is : InterfaceRow) × (slice_get after place ≡ Some is) × GoesOn was is

@@ -1,4 +1,5 @@
 pub mod Actions
+pub mod Allowed
 pub mod Arguments
 pub mod Arrivals
 pub mod Calls
@@ -21,6 +22,7 @@ pub mod Rows
 pub mod Seats
 pub mod Sending
 pub mod Server
+pub mod Signatures
 pub mod Status
 pub mod Tables
 pub mod Visibility

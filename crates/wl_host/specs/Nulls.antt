@@ -1,6 +1,7 @@
 -- Nulls that the table forbids: an argument is a null string or a null object, and its place in the signature allows no null.
+use Rattle.std.specs.Fmt.{decimal}
 use Rattle.std.specs.List.{position, zip}
-use Rattle.std.specs.Prelude.{◌≡◌, ◌↔◌, ◌<◌, ℕ, ◌+◌, ◌==◌, ◌&&◌, List, [], Bool, true, false, not, IsSomeAnd, IsTrue, Option, None, Some, slice_get}
+use Rattle.std.specs.Prelude.{◌≡◌, ◌↔◌, ◌<◌, ℕ, ◌+◌, ◌++◌, ◌==◌, ◌&&◌, List, [], codes, Bool, true, false, not, IsSomeAnd, IsTrue, Option, None, Some, slice_get}
 use Rattle.wl_wire.specs.Table.{MessageRow}
 use Rattle.wl_wire.specs.declared.argument.AllowNull.TheVariants.{Yes}
 use Rattle.wl_wire.specs.declared.argument.Argument.{Argument}
@@ -47,6 +48,31 @@ counted_from_one (Some n) = count_number (n + 1)
 -- the place of the first argument that is null where the signature allows no null, counted from 1; 0 if there is none
 abbrev pub forbidden_null : {Id : Type 0} → (Id → FlatObjectId) → List ArgumentType → List (Argument Id Token) → ℕ
 forbidden_null flat signature args = counted_from_one (position (is_forbidden flat) (zip signature args))
+
+-- ---- nulls that are refused
+
+-- what the call that sets it says: 0 is off
+abbrev pub sets : ℕ → Bool
+sets is_on = not (is_on == 0)
+
+-- a message whose first null that is forbidden has this place is refused
+abbrev pub is_refused : Bool → ℕ → Bool
+is_refused false place = false
+is_refused true place = not (place == 0)
+
+-- the name of a message of the table; empty if the table has no such message
+abbrev pub name_in : Option MessageRow → List ℕ
+name_in None = []
+name_in (Some row) = row.name
+
+-- The text that says of a null that it is refused: its place, whether the message is a request or an event, the name of its
+-- interface, and its own. "Invalid null argument 2 in request thing.name."
+abbrev pub null_text : List ℕ → List ℕ → List ℕ → ℕ → List ℕ
+null_text kind interface message place =
+    codes "Invalid null argument "
+    ++ (decimal place ++ (codes " in " ++ (kind ++ (codes " " ++ (interface ++ (codes "." ++ (message ++ codes ".")))))))
+
+-- ---- what the place says
 
 -- it is the first that is
 abbrev pub IsFirstAt : {Id : Type 0} → (Id → FlatObjectId) → List ArgumentType → List (Argument Id Token) → ℕ → Type 0

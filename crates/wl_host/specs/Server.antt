@@ -32,13 +32,15 @@ use Rattle.wl_host.specs.declared.status.Status.{Status}
 use Rattle.wl_host.specs.declared.status.Status.TheVariants as status
 
 -- The core, and what is kept beside it; the notes that were taken from the core and not handed out, the oldest first; and
--- whether there may be something to be cleaned up, and notes to be taken.
+-- whether there may be something to be cleaned up, and notes to be taken; and whether requests with a null that the table forbids
+-- are refused.
 pub record ServerState : Type 0 where
   pub core : CoreState
   pub seats : SeatsState
   pub notes : List (Note ℕ)
   pub may_clean_up : Bool
   pub may_have_notes : Bool
+  pub refuses_nulls : Bool
 
 -- how often a descriptor is kept
 abbrev pub kept_by_server : ℤ → ServerState → ℕ

@@ -96,6 +96,7 @@ of_create create.InvalidId = status.InvalidId
 of_create create.UnknownInterface = status.UnknownInterface
 of_create create.IdsExhausted = status.IdsExhausted
 of_create create.SerialsExhausted = status.SerialsExhausted
+of_create create.NotFree = status.InvalidInput
 of_create create.OutOfMemory = status.OutOfMemory
 
 abbrev pub of_destroy : DestroyError → Status

@@ -37,6 +37,7 @@ new_state table = record {
   notes = [];
   may_clean_up = false;
   may_have_notes = false;
+  refuses_nulls = false;
 }
 
 -- the session is a new one with the table of the rows
@@ -53,6 +54,7 @@ IsConnectedOver table s =
       departures = no_descriptors;
       kept = None;
       notes = [];
+      refuses_nulls = false;
     })
 
 -- and which has the table of the rows

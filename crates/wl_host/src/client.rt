@@ -2,12 +2,13 @@
 //!
 //! | Calls | Code |
 //! |---|---|
-//! | `connect`, the table, the limits, `last_error` | this file, `client::faults` |
+//! | `connect`, the table, the limits, `refuse_nulls`, `fail`, `last_error` | this file, `client::faults` |
 //! | `received`, `received_end`, `receive_failed` | `client::receiving` |
-//! | `next_event`, `finish_event` | `client::events`, `client::flattening` |
+//! | `next_event`, `finish_event` | `client::events`, `client::flattening`, `client::refusals` |
 //! | `send_request` | `client::requests` |
 //! | the calls about one object | `client::objects` |
 //! | `next_note` | `client::notes` |
+//! | `keep_freed`, `next_freed` | `client::freed` |
 //! | `flush`, `to_send`, `sent`, `send_failed`, `next_dropped` | `client::sending` |
 
 ghost use Rattle.std.specs.Prelude.{◌≡◌, [], IfErr, IfOk, Ok};
@@ -15,16 +16,19 @@ ghost use Rattle.wl_wire.specs.declared.protocol.TableError.TheVariants as table
 ghost use Rattle.wl_host.specs.Rows.{fault_of};
 ghost use Rattle.wl_host.specs.Tables.{AddsToClient, ExtendsClient, IsConnectedOver, IsFaultOf, IsNewClient};
 ghost use Rattle.wl_wire.specs.Table.{display_id};
-ghost use Rattle.wl_host.specs.Client.{ConservesClient, SetsLimit, limit_of, mailbox_of, with_mailbox};
+ghost use Rattle.wl_host.specs.Client.{ConservesClient, SetsLimit, limit_of, mailbox_of, passing_over, with_mailbox};
 ghost use Rattle.wl_host.specs.Flat.{flat_proxy};
+ghost use Rattle.wl_host.specs.Nulls.{sets};
 ghost use Rattle.wl_host.specs.declared.status.Status.TheVariants as status;
 
 mod events;
 mod faults;
 mod flattening;
+mod freed;
 mod notes;
 mod objects;
 mod receiving;
+mod refusals;
 mod requests;
 mod sending;
 
@@ -69,6 +73,8 @@ pub struct Client {
     request: Message<ObjectId, Token>,
     /// The objects that ended and were not handed out yet, the oldest first. The core itself keeps no note between two calls.
     notes: VecDeque<DestroyedObject>,
+    /// Whether an event with a null that the table forbids ends the session.
+    refuses_nulls: bool,
 }
 
 impl fmt::Debug for Client {
@@ -93,6 +99,7 @@ impl Model for Client {
       departures = c.departures;
       kept = kept_of c.is_kept c.event;
       notes = c.notes.items;
+      refuses_nulls = c.refuses_nulls;
     } };
 
     ghost invariant = { λ c. c.core.session.notes ≡ [] };
@@ -145,6 +152,7 @@ impl Client {
             is_kept: false,
             request: empty_message(alloc),
             notes: VecDeque::new(alloc),
+            refuses_nulls: false,
         })
     }
 
@@ -198,6 +206,20 @@ impl Client {
         Status::Ok
     }
 
+    /// Sets whether messages of unknown senders are passed over (`Backend::pass_over_unknown_senders`): they are if `passes` is
+    /// not 0. In a new session they are not.
+    ///
+    /// Such a message takes no descriptor. One that came with it goes out with the next event that has one, or comes by
+    /// `next_dropped` when the session has failed.
+    pub fn pass_over_unknown_senders(&mut self, passes: u32) -> Status
+        ensures set { self.new ≡ passing_over self.old passes }
+        ensures descriptors { ConservesClient self.old [] [] self.new }
+        ensures answer { result ≡ status.Ok }
+    {
+        self.core.pass_over_unknown_senders(passes != 0);
+        Status::Ok
+    }
+
     /// Sets how many bytes may wait for the host to send them. Once so many wait, `flush` answers `WouldBlock`.
     pub fn set_room(&mut self, room: u64) -> Status
         ensures room { self.new ≡ with_mailbox self.old (record (mailbox_of self.old) { room = room }) }
@@ -205,6 +227,18 @@ impl Client {
         ensures answer { result ≡ status.Ok }
     {
         self.core.transport_mut().set_room(size_of(room));
+        Status::Ok
+    }
+
+    /// Sets whether an event with a null that the table forbids is refused: no such event is handed out then, and the session ends
+    /// (`next_event`). They are if `is_on` is not 0. In a new session they are not, and `forbidden_null` of an event tells of the
+    /// null.
+    pub fn refuse_nulls(&mut self, is_on: u32) -> Status
+        ensures set { self.new ≡ record self.old { refuses_nulls = sets is_on } }
+        ensures descriptors { ConservesClient self.old [] [] self.new }
+        ensures answer { result ≡ status.Ok }
+    {
+        self.refuses_nulls = is_on != 0;
         Status::Ok
     }
 

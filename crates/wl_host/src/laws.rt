@@ -13,13 +13,14 @@ ghost use Rattle.wl_wire.specs.declared.argument.ArgumentType.{ArgumentType};
 ghost use Rattle.wl_wire.specs.declared.argument.Token.{Token};
 ghost use Rattle.wl_wire.specs.Table.{InterfaceRow};
 ghost use Rattle.wl_host.specs.Actions.{EndsBind, EndsRequest, Lent, NextAction};
+ghost use Rattle.wl_host.specs.Allowed.{LendsAllowedAction, LendsAllowedEvent};
 ghost use Rattle.wl_host.specs.Arguments.{ComesBack, IsReadInPlace, all_bytes, arguments_of, flat_arguments, moved};
 ghost use Rattle.wl_host.specs.Calls.{CoreState, CreatesGlobal, CreatesObject, InsertsClient, SetsObjectData, world};
-ghost use Rattle.wl_host.specs.Client.{ClientCore};
+ghost use Rattle.wl_host.specs.Client.{ClientCore, HandsNext, HostedClient, LentForEvent};
 ghost use Rattle.wl_host.specs.Clients.{SetsRoom, inserted};
 ghost use Rattle.wl_host.specs.Descriptors.{Descriptors};
 ghost use Rattle.wl_host.specs.Events.{Passed, PostsError, SendsEvent};
-ghost use Rattle.wl_host.specs.Extending.{HasRow};
+ghost use Rattle.wl_host.specs.Extending.{HasRow, KeepsInterfaces};
 ghost use Rattle.wl_host.specs.Flat.{flat_proxy, flat_resource, proxy_of, resource_of};
 ghost use Rattle.wl_host.specs.Killed.{IsSettled, KnowsEnd, StaysSettled};
 ghost use Rattle.wl_host.specs.Notes.{NextNote};
@@ -36,6 +37,7 @@ ghost use Rattle.wl_host.specs.declared.flat.FlatObjectId.{FlatObjectId};
 ghost use Rattle.wl_host.specs.declared.rows.Rows.{Rows};
 ghost use Rattle.wl_host.specs.declared.rows.TableFault.{TableFault};
 ghost use Rattle.wl_host.specs.declared.status.Status.{Status};
+ghost use Rattle.wl_host.specs.declared.status.Status.TheVariants as status;
 
 /// Arguments that are handed out as flat structs and passed in again are the same arguments, in a server's session and in a
 /// client's. Their descriptors get the tokens that come next where they go in. The strings and arrays take fewer than 2³² bytes
@@ -59,11 +61,29 @@ pub fn a_forbidden_null_is_told()
     ensures client { (signature : List ArgumentType) (args : List (Argument ProxyParts Token)) → TellsNull flat_proxy signature args (forbidden_null flat_proxy signature args) }
 {}
 
-/// After whole rows were taken, the table of a session has what each of them says: an interface of its name, whose messages
-/// begin with those of the row, and whose version is not lower.
+/// While a session refuses nulls that the table forbids, what it hands out has none: each argument that is null stands where the
+/// signature allows it, and `forbidden_null` is 0.
+pub fn no_forbidden_null_is_handed_out()
+    ensures action { (before after : ServerState) (id : ClientParts) (arguments : List FlatArgument) (bytes : List ℕ) (lent : Lent) (came_out : List ℤ) → before.refuses_nulls ≡ true → NextAction before id arguments bytes status.Ok lent came_out after → LendsAllowedAction after.core arguments bytes lent }
+    ensures action_tells_none { (before after : ServerState) (id : ClientParts) (arguments : List FlatArgument) (bytes : List ℕ) (lent : Lent) (came_out : List ℤ) → before.refuses_nulls ≡ true → NextAction before id arguments bytes status.Ok lent came_out after → lent.out.forbidden_null ≡ 0 }
+    ensures event { (before after : HostedClient) (lent lent' : LentForEvent) (came_out : List ℤ) → before.refuses_nulls ≡ true → HandsNext before lent status.Ok came_out after lent' → LendsAllowedEvent before after.core lent lent' }
+    ensures event_tells_none { (before after : HostedClient) (lent lent' : LentForEvent) (came_out : List ℤ) → before.refuses_nulls ≡ true → HandsNext before lent status.Ok came_out after lent' → lent'.out.forbidden_null ≡ 0 }
+{}
+
+/// After whole rows were taken, the table of a session has what each of them says: an interface of its name, which has a message
+/// at each opcode of the row that agrees with the row's, and whose version is not lower. Two messages agree if name, `since` and
+/// kinds of arguments are the same, and the interfaces where both name one; which of them ends its object, and which arguments may
+/// be null, may differ.
 pub fn whole_rows_are_there()
     ensures server { (rows : Rows) (before after : CoreState) → ExtendsInterfaces rows before (Ok tt) after → (interfaces : List InterfaceRow) × (said_by rows ≡ Ok interfaces) × AllByRecursion (HasRow after.server.offer.table) interfaces }
     ensures client { (rows : Rows) (before after : ClientCore) → ExtendsClient rows before (Ok tt) after → (interfaces : List InterfaceRow) × (said_by rows ≡ Ok interfaces) × AllByRecursion (HasRow after.session.table) interfaces }
+{}
+
+/// Whole rows take nothing away, whatever the answer is: each interface of the table keeps its place, its name and its messages, and
+/// its version does not fall.
+pub fn whole_rows_take_nothing_away()
+    ensures server { (rows : Rows) (before after : CoreState) (result : Result (Unit {0}) ExtensionFault) → ExtendsInterfaces rows before result after → KeepsInterfaces before.server.offer.table after.server.offer.table }
+    ensures client { (rows : Rows) (before after : ClientCore) (result : Result (Unit {0}) ExtensionFault) → ExtendsClient rows before result after → KeepsInterfaces before.session.table after.session.table }
 {}
 
 /// While the next `cleanup` of a server's session would not look for killed clients, nobody is killed: a new session is so, and

@@ -13,6 +13,7 @@
 //! | flat structs and ids | `flat` | `Flat` |
 //! | what a call came to | `status` | `Status` |
 //! | the table of interfaces as rows | `rows` | `Rows`, `Tables` |
+//! | signatures as libwayland's tables have them | `signatures` | `Signatures` |
 //! | whole rows that extend those of the table | `extending` | `Extending`, `Tables` |
 //! | which client sees which global | `server`, `server::hidden` | `Visibility` |
 //! | arguments of messages, from flat structs and into lent memory | `arguments` | `Arguments` |
@@ -32,6 +33,7 @@ mod nulls;
 mod outgoing;
 mod rows;
 mod server;
+mod signatures;
 mod status;
 
 pub use client::Client;
@@ -43,5 +45,6 @@ pub use flat::{
 };
 pub use laws::{a_forbidden_null_is_told, flat_arguments_come_back};
 pub use rows::{ArgumentRow, InterfaceRow, MessageRow, Rows, TableFault, fault};
+pub use signatures::read_signature;
 pub use server::{HostClient, HostGlobal, Server};
 pub use status::Status;

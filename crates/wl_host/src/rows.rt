@@ -93,7 +93,7 @@ pub mod fault {
     pub const ZERO_IN_NAME: u32 = 2;
     /// `TableError::DuplicateName`: the name is taken.
     pub const DUPLICATE_NAME: u32 = 3;
-    /// `TableError::UnknownInterface`: a message names an interface outside the table.
+    /// `TableError::UnknownInterface`: a message names an interface outside the table; or the row would extend a fixed interface.
     pub const UNKNOWN_INTERFACE: u32 = 4;
     /// `TableError::TooManyNewIds`: a message has more than one new id.
     pub const TOO_MANY_NEW_IDS: u32 = 5;

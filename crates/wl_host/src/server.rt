@@ -2,9 +2,9 @@
 //!
 //! | Calls | Code |
 //! |---|---|
-//! | `new`, `add_interfaces`, `extend_interfaces`, `memory_refused`, `set_default_max_buffer_size` | `server` |
+//! | `new`, `add_interfaces`, `extend_interfaces`, `memory_refused`, `set_default_max_buffer_size`, `refuse_nulls` | `server` |
 //! | clients, and what arrives of them | `server::clients`, `server::arrivals` |
-//! | `next_action`, and those that finish an action | `server::actions` |
+//! | `next_action`, and those that finish an action | `server::actions`, `server::refusals` |
 //! | `send_event`, `post_error` | `server::events` |
 //! | objects, globals | `server::objects`, `server::globals` |
 //! | what is to be sent, and clients that are gone | `server::sending`, `server::departures` |
@@ -21,6 +21,7 @@ pub mod ledger;
 pub mod listing;
 pub mod notes;
 pub mod objects;
+pub mod refusals;
 pub mod seats;
 pub mod sending;
 pub mod slots;
@@ -29,6 +30,7 @@ ghost use Rattle.std.specs.Prelude.{[], ◌≡◌, IfErr, IfOk, true};
 ghost use Rattle.wl_host.specs.Descriptors.{Conserves};
 ghost use Rattle.wl_host.specs.Server.{kept_by_server};
 ghost use Rattle.wl_host.specs.Calls.{world};
+ghost use Rattle.wl_host.specs.Nulls.{sets};
 ghost use Rattle.wl_host.specs.Tables.{AddsInterfaces, ExtendsInterfaces, IsFaultOf, IsNewServer, new_state};
 ghost use Rattle.wl_server.specs.Backend.{Calls};
 ghost use Rattle.wl_server.specs.declared.runs.step.Reply.TheVariants as reply;
@@ -116,6 +118,8 @@ pub struct Server {
     pub(crate) may_clean_up: bool,
     /// Whether a call since the last look for notes may have made one.
     pub(crate) may_have_notes: bool,
+    /// Whether a request with a null that the table forbids is refused.
+    pub(crate) refuses_nulls: bool,
 }
 
 impl fmt::Debug for Server {
@@ -139,6 +143,7 @@ impl Model for Server {
       notes = s.notes.items;
       may_clean_up = s.may_clean_up;
       may_have_notes = s.may_have_notes;
+      refuses_nulls = s.refuses_nulls;
     } };
 }
 
@@ -187,6 +192,7 @@ impl Server {
             },
             may_clean_up: false,
             may_have_notes: false,
+            refuses_nulls: false,
         }
     }
 
@@ -249,6 +255,18 @@ impl Server {
         ensures status { result ≡ status.Ok }
     {
         self.core.set_default_max_buffer_size(size as usize);
+        Status::Ok
+    }
+
+    /// Sets whether a request with a null that the table forbids is refused: no such request is handed out then, and its client
+    /// is killed (`next_action`). They are if `is_on` is not 0. In a new session they are not, and `forbidden_null` of an action
+    /// tells of the null.
+    pub fn refuse_nulls(&mut self, is_on: u32) -> Status
+        ensures set { self.new ≡ record self.old { refuses_nulls = sets is_on } }
+        ensures descriptors { Conserves kept_by_server self.old [] [] self.new }
+        ensures status { result ≡ status.Ok }
+    {
+        self.refuses_nulls = is_on != 0;
         Status::Ok
     }
 

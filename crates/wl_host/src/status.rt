@@ -177,6 +177,8 @@ impl From<CreateError> for Status {
             CreateError::UnknownInterface => Status::UnknownInterface,
             CreateError::IdsExhausted => Status::IdsExhausted,
             CreateError::SerialsExhausted => Status::SerialsExhausted,
+            // No call of a host names a number.
+            CreateError::NotFree => Status::InvalidInput,
             CreateError::OutOfMemory => Status::OutOfMemory,
         }
     }

@@ -1,6 +1,6 @@
 //! What a test does with a server's session, and what it tells.
 
-use crate::tests::rows::{KNOT, NOTE, TABLE};
+use crate::tests::rows::{GATE, KNOT, NOTE, TABLE};
 use crate::tests::session::Session;
 use crate::tests::told::{
     NO_ARGUMENT, NOBODY, NOTHING, NULL, bytes_of, tell_counts, tell_descriptor, tell_kept,
@@ -29,6 +29,10 @@ pub enum Act {
     AddNote,
     /// The interface `knot` is added to the table.
     AddKnot,
+    /// The interface `gate` is added to the table.
+    AddGate,
+    /// Whether nulls that the table forbids are refused is set.
+    RefuseNulls(u32),
     /// The table is extended by these rows.
     Extend(Rows<'static>),
     /// A send to the client failed.
@@ -257,6 +261,8 @@ fn on_clients(log: &mut String, server: &mut Server, act: &Act) -> Result<Status
         }
         Act::AddNote => told_table(log, server.add_interfaces(&NOTE)),
         Act::AddKnot => told_table(log, server.add_interfaces(&KNOT)),
+        Act::AddGate => told_table(log, server.add_interfaces(&GATE)),
+        Act::RefuseNulls(is_on) => Ok(server.refuse_nulls(*is_on)),
         Act::Extend(rows) => told_extension(log, server.extend_interfaces(rows)),
         _ => Err(Fail::new("no act of this kind")),
     }

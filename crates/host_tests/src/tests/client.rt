@@ -53,11 +53,17 @@ const TIED_LAST_NULL: &[u32] = &[4, 0x00180000, 3, 3, 0, 0];
 /// `pad.moved` by the object 3, of 0.
 const MOVED: &[u32] = &[3, 0x000c0000, 0];
 
+/// `gate.opened` by the object 4, of the first object of the server's range, a null string, which is not allowed, and a descriptor.
+const OPENED_NULL: &[u32] = &[4, 0x00100000, 0xff000000, 0];
+
+/// That object.
+const OPENED: FlatObjectId = id!(NOBODY, 4 @ 4278190080, serial 4);
+
 /// `wl_registry.global` with a null name, which is not allowed.
 const GLOBAL_NULL: &[u32] = &[2, 0x00140000, 1, 0, 1];
 
 /// The conversations, each of a new session.
-static ROWS: [Run<Act>; 5] = [
+static ROWS: [Run<Act>; 6] = [
     // `wl_display.sync` is sent, and `wl_callback.done` and `wl_display.delete_id` come back. The callback had data, so it is
     // noted.
     Run {
@@ -240,6 +246,34 @@ static ROWS: [Run<Act>; 5] = [
             (Act::Send(DISPLAY, 0, Some(8), NEW, &[]), "Ok 3@2 serial 2"),
         ],
     },
+    // A message of the object 9, which there is not, is passed over, and then `wl_callback.done` is read. The number of the callback
+    // has an object until `wl_display.delete_id`.
+    Run {
+        name: "an unknown sender is passed over",
+        first: &[],
+        entries: &[
+            (Act::PassOver(2), "Ok"),
+            (Act::Send(DISPLAY, 0, Some(7), NEW, &[]), "Ok 3@2 serial 1"),
+            (Act::At(2), "Ok 3@2 serial 1"),
+            (Act::At(3), "InvalidId"),
+            (
+                Act::Received(&[9, 0x000c0004, 5, 2, 0x000c0000, 6], &[]),
+                "Ok",
+            ),
+            (
+                Act::Next(1, 0),
+                "Ok ends 1 has_data 1 data 7 arguments 1 by 3@2 (1: 6)",
+            ),
+            (Act::Finish, "Ok"),
+            (Act::At(2), "Ok 3@2 serial 1"),
+            (Act::Received(&[1, 0x000c0001, 2], &[]), "Ok"),
+            (Act::Next(1, 0), "WouldBlock"),
+            (Act::At(2), "InvalidId"),
+            (Act::PassOver(0), "Ok"),
+            (Act::Received(&[9, 0x00080000], &[]), "Ok"),
+            (Act::Next(1, 0), "Failed"),
+        ],
+    },
     // The descriptor of an event for a destroyed object comes back as soon as the session has read the event, while those that an
     // event may yet hand out stay: in the mailbox, in the core, and with an event that is kept.
     Run {
@@ -363,6 +397,97 @@ static NULLS: Run<Act> = Run {
 #[test]
 fn nulls(rt: HostRuntime) -> Result<(), Fail> {
     run_tells::<Client>(&rt, &NULLS, None, false)
+}
+
+/// Conversations of a session that refuses nulls that the table forbids.
+static REFUSED_NULLS: [Run<Act>; 3] = [
+    // An event with such a null, a string here, ends the session by a protocol error of code 0 and no object. The event is not
+    // handed out: no data are wanted for the object that it makes, which is there without any. All descriptors come out.
+    Run {
+        name: "an event with a null string",
+        first: &[],
+        entries: &[
+            (Act::AddGate, "Ok"),
+            (Act::RefuseNulls(1), "Ok"),
+            (Act::Send(DISPLAY, 1, Some(1), NEW, &[]), "Ok 2@2 serial 1"),
+            (Act::BindPad(9), "Ok 4@3 serial 2"),
+            (Act::BindGate(8), "Ok 5@4 serial 3"),
+            (Act::Send(BOUND, 0, None, PUSH, &[]), "Ok 0@0"),
+            (Act::Received(OPENED_NULL, &[50, 51]), "Ok"),
+            (Act::Next(0, 0), "Failed"),
+            (Act::Next(3, 8), "Failed"),
+            (Act::Finish, "NotOpen"),
+            (Act::FinishWith(7), "NotOpen"),
+            (Act::Info(OPENED), "Ok 4@4278190080 version 1"),
+            (Act::Data(OPENED), "InvalidId"),
+            (Act::Error, "TooSmall number 0 kind 2 status 11 message 45"),
+            (Act::Fail(5), "Ok"),
+            (Act::Error, "TooSmall number 0 kind 2 status 11 message 45"),
+            (Act::Dropped, "Ok descriptor 50"),
+            (Act::Dropped, "Ok descriptor 51"),
+            (Act::Dropped, "Ok descriptor 42"),
+            (Act::Dropped, "WouldBlock"),
+            (Act::Note, "WouldBlock"),
+            (Act::Flush, "Failed"),
+        ],
+    },
+    // What the table allows is handed out, also a null. A null object ends the session, too; also if the event was kept for want of
+    // room before.
+    Run {
+        name: "an event with a null object, which is kept",
+        first: &[],
+        entries: &[
+            (Act::AddKnot, "Ok"),
+            (Act::RefuseNulls(1), "Ok"),
+            (Act::Send(DISPLAY, 1, Some(1), NEW, &[]), "Ok 2@2 serial 1"),
+            (Act::BindPad(9), "Ok 4@3 serial 2"),
+            (Act::BindKnot(8), "Ok 5@4 serial 3"),
+            (Act::Received(TIED, &[]), "Ok"),
+            (
+                Act::Next(4, 8),
+                "Ok has_data 1 data 8 arguments 4 bytes 8 by 5@4 (4: 0) (4: 0 data 9 object 4@3) (8: 0) (3: 0 length 1) \
+                 [ 78 00 00 00 00 00 00 00 ]",
+            ),
+            (Act::Finish, "Ok"),
+            (Act::RefuseNulls(0), "Ok"),
+            (Act::Received(TIED_NULLS, &[]), "Ok"),
+            (
+                Act::Next(3, 0),
+                "TooSmall has_data 1 data 8 arguments 4 null 2 by 5@4 (0: 0) (0: 0) (0: 0)",
+            ),
+            (Act::RefuseNulls(2), "Ok"),
+            (Act::Next(4, 0), "Failed"),
+            (Act::Finish, "NotOpen"),
+            (Act::Error, "TooSmall number 0 kind 2 status 11 message 43"),
+        ],
+    },
+    // An error that the session has stays.
+    Run {
+        name: "a kept event with a null, of a session that has failed",
+        first: &[],
+        entries: &[
+            (Act::Send(DISPLAY, 1, Some(1), NEW, &[]), "Ok 2@2 serial 1"),
+            (Act::Received(GLOBAL_NULL, &[]), "Ok"),
+            (
+                Act::Next(0, 0),
+                "TooSmall has_data 1 data 1 arguments 3 null 2 by 2@2",
+            ),
+            (Act::SendFailed(32), "Ok"),
+            (Act::Flush, "Failed"),
+            (Act::RefuseNulls(1), "Ok"),
+            (Act::Next(3, 0), "Failed"),
+            (Act::Error, "Ok number 32 kind 1 status 13"),
+        ],
+    },
+];
+
+/// Each of them tells what it has to.
+#[test]
+fn refused_nulls(rt: HostRuntime) -> Result<(), Fail> {
+    for run in &REFUSED_NULLS {
+        run_tells::<Client>(&rt, run, None, false)?;
+    }
+    Ok(())
 }
 
 /// A `pad` has its new request and its new event once longer rows have extended the table, and the rows that it began with

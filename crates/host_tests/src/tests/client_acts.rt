@@ -1,7 +1,7 @@
 //! What a test does with a client's session, and what it tells.
 
 use crate::tests::args::{arg, id};
-use crate::tests::rows::{KNOT, NOTE, TABLE};
+use crate::tests::rows::{GATE, KNOT, NOTE, TABLE};
 use crate::tests::session::Session;
 use crate::tests::told::{
     NO_ARGUMENT, NOBODY, NOTHING, NULL, bytes_of, tell_counts, tell_descriptor, tell_kept,
@@ -34,10 +34,20 @@ pub enum Act {
     BindNote(u64),
     /// The same, as a `knot` of version 1.
     BindKnot(u64),
+    /// The same, as a `gate`.
+    BindGate(u64),
     /// The interface `note` is added to the table.
     AddNote,
     /// The interface `knot` is added to the table.
     AddKnot,
+    /// The interface `gate` is added to the table.
+    AddGate,
+    /// Whether nulls that the table forbids are refused is set.
+    RefuseNulls(u32),
+    /// The host ends the session with this number.
+    Fail(i32),
+    /// A send failed with this number.
+    SendFailed(i32),
     /// The table is extended by these rows.
     Extend(Rows<'static>),
     /// What is known of the object.
@@ -50,6 +60,10 @@ pub enum Act {
     Destroy(FlatObjectId),
     /// The object, which both sides have given up, is taken out.
     Reclaim(FlatObjectId),
+    /// The object that a number holds.
+    At(u32),
+    /// Messages of unknown senders are passed over, unless this is 0.
+    PassOver(u32),
     /// What waits is put where the host finds it.
     Flush,
     /// What is to be sent, with room for so many descriptors, at most 28.
@@ -76,7 +90,7 @@ pub const NEW: &[FlatArgument] = &[arg!(new)];
 /// The arguments of a bind of the global 1 as a `pad` of version 2, whose name stands at the beginning of the bytes.
 const BIND_PAD: &[FlatArgument] = &[arg!(uint: 1), arg!(string: 0, 3), arg!(uint: 2), arg!(new)];
 
-/// The same of the global 2 as a `note`, or a `knot`, of version 1.
+/// The same of the global 2 as a `note`, a `knot` or a `gate`, of version 1.
 const BIND_NOTE: &[FlatArgument] = &[arg!(uint: 2), arg!(string: 0, 4), arg!(uint: 1), arg!(new)];
 
 /// An event with nothing in it.
@@ -279,8 +293,15 @@ fn on_requests(log: &mut String, client: &mut Client, act: &Act) -> Result<Statu
             let request = request(REGISTRY, 0, Some(*user_data), Some((5, 1)));
             send(log, client, request, BIND_NOTE, b"knot")
         }
+        Act::BindGate(user_data) => {
+            let request = request(REGISTRY, 0, Some(*user_data), Some((5, 1)));
+            send(log, client, request, BIND_NOTE, b"gate")
+        }
         Act::AddNote => told_table(log, client.add_interfaces(&NOTE)),
         Act::AddKnot => told_table(log, client.add_interfaces(&KNOT)),
+        Act::AddGate => told_table(log, client.add_interfaces(&GATE)),
+        Act::RefuseNulls(is_on) => Ok(client.refuse_nulls(*is_on)),
+        Act::Fail(number) => Ok(client.fail(*number)),
         Act::Extend(rows) => told_extension(log, client.extend_interfaces(rows)),
         _ => Err(Fail::new("no act of this kind")),
     }
@@ -294,6 +315,8 @@ fn on_objects(log: &mut String, client: &mut Client, act: &Act) -> Result<Status
         Act::SetData(id, user_data) => Ok(client.set_object_data(id, *user_data)),
         Act::Destroy(id) => Ok(client.destroy_object(id)),
         Act::Reclaim(id) => Ok(client.reclaim(id)),
+        Act::At(number) => told(log, client.object_for_protocol_id(*number), tell_id),
+        Act::PassOver(passes) => Ok(client.pass_over_unknown_senders(*passes)),
         Act::Note => next_note(log, client),
         Act::Error => last_error(log, client),
         other => on_requests(log, client, other),
@@ -317,6 +340,7 @@ impl Session for Client {
                 received(*log.allocator(), self, words, descriptors)
             }
             Act::End => Ok(self.received_end()),
+            Act::SendFailed(number) => Ok(self.send_failed(*number)),
             Act::Flush => Ok(self.flush()),
             Act::ToSend(room) => to_send(log, self, *room),
             Act::Sent(count) => Ok(self.sent(*count)),

@@ -4,7 +4,7 @@ use crate::tests::acts::{Act, FIRST, SECOND};
 use crate::tests::args::{arg, id};
 use crate::tests::client_acts::{Act as ClientAct, DISPLAY, NEW};
 use crate::tests::rows::{LONG_PAD, OTHER_PAD};
-use crate::tests::server::TELL;
+use crate::tests::server::{LEAVE_NULL, TELL};
 use crate::tests::session::{End, Run, run_tells};
 use crate::tests::told::{NOBODY, NULL};
 use std::test::Fail;
@@ -127,6 +127,25 @@ static EXTENSION: Run<Act> = Run {
         (Act::Create(FIRST, 5, 55), "Ok 5@4278190081"),
         (Act::Create(FIRST, 6, 66), "UnknownInterface"),
         (Act::Send(PAD, 2, &[], b""), "Ok"),
+    ],
+};
+
+/// A request with a null that the session refuses.
+static REFUSAL: Run<Act> = Run {
+    name: "a refused null",
+    first: &[],
+    entries: &[
+        (Act::AddGate, "Ok"),
+        (Act::RefuseNulls(1), "Ok"),
+        (Act::Insert(7, 1, &[]), "Ok client 0:1"),
+        (Act::Create(FIRST, 5, 55), "Ok 5@4278190080"),
+        (Act::Received(FIRST, LEAVE_NULL, &[42]), "Ok"),
+        (Act::Next(FIRST, 2, 8), "Closed"),
+        (Act::Dropped, "WouldBlock"),
+        (Act::Cleanup, "Ok"),
+        (Act::Dropped, "Ok descriptor 42"),
+        (Act::Dropped, "WouldBlock"),
+        (Act::Next(FIRST, 2, 8), "InvalidId"),
     ],
 };
 
@@ -272,6 +291,12 @@ fn drill_of_arguments(rt: HostRuntime) -> Result<(), Fail> {
 #[test]
 fn drill_of_an_extension(rt: HostRuntime) -> Result<(), Fail> {
     run_tells::<Server>(&rt, &EXTENSION, None, true)
+}
+
+/// Whatever memory is refused, the request is not handed out, its client is killed, and its descriptor comes out once.
+#[test]
+fn drill_of_a_refused_null(rt: HostRuntime) -> Result<(), Fail> {
+    run_tells::<Server>(&rt, &REFUSAL, None, true)
 }
 
 /// Whatever memory is refused, the client is killed once, and its end is told once.

@@ -9,6 +9,9 @@
 //!
 //! `knot` has arguments that may be null beside such that may not. Its request: `tie(string or null, string, string)`. Its event:
 //! `tied(pad or null, pad, string or null, string)`.
+//!
+//! `gate` has arguments that may not be null beside descriptors and new objects. Its requests: the destructor `leave(string, fd)`, and
+//! `open(new_id<pad>, string)`. Its event: `opened(new_id<pad>, string, fd)`.
 
 use wl_host::{ArgumentRow, InterfaceRow, MessageRow, Rows, kind};
 
@@ -110,6 +113,27 @@ pub const KNOT: Rows = Rows {
         argument!(kind::STRING, 0, 0),
     ],
 };
+
+/// The rows of `gate`.
+pub const GATE: Rows = Rows {
+    text: b"gateleaveopenopened",
+    interfaces: &[interface!(0, 4, 1, 2, 1)],
+    messages: &[
+        message!(4, 5, 2, 1),
+        message!(9, 4, 2, 0),
+        message!(13, 6, 3, 0),
+    ],
+    arguments: &[
+        argument!(kind::STRING, 0, 0),
+        argument!(kind::DESCRIPTOR, 0, 0),
+        argument!(kind::NEW_ID, 4, 0),
+        argument!(kind::STRING, 0, 0),
+        argument!(kind::NEW_ID, 4, 0),
+        argument!(kind::STRING, 0, 0),
+        argument!(kind::DESCRIPTOR, 0, 0),
+    ],
+};
+
 /// `pad` of version 3, with one more request, `write(string, new_id<note>)`, and one more event, `full()`; and `note` with one
 /// event, `read()`.
 pub const LONG_PAD: Rows = Rows {

@@ -38,6 +38,15 @@ const TIE_NULLS: &[u32] = &[0xff000000, 0x00180000, 2, 0x61, 0, 0];
 /// The same of a null string, which is allowed, the empty string, and a null string, which is not.
 const TIE_LAST_NULL: &[u32] = &[0xff000000, 0x00180000, 0, 1, 0, 0];
 
+/// `gate.leave` by the first object of the server's range, of a null string, which is not allowed, and a descriptor.
+pub const LEAVE_NULL: &[u32] = &[0xff000000, 0x000c0000, 0];
+
+/// `gate.open` by the same, of the new id 2 and a null string, which is not allowed.
+const OPEN_NULL: &[u32] = &[0xff000000, 0x00100001, 2, 0];
+
+/// `pad.label` of "hey" by the first object of the server's range.
+const SECOND_LABEL: &[u32] = &[0xff000000, 0x00100001, 4, 0x00796568];
+
 /// `wl_display.get_registry` with the new id 2.
 const REGISTRY: &[u32] = &[1, 0x000c0001, 2];
 
@@ -286,6 +295,155 @@ static NULLS: [Run<Act>; 1] = [
 #[test]
 fn nulls(rt: HostRuntime) -> Result<(), Fail> {
     for run in &NULLS {
+        run_tells::<Server>(&rt, run, None, false)?;
+    }
+    Ok(())
+}
+
+/// A client with an object, and a `gate` with data. Nulls are refused.
+const GATED: &[Entry<Act>] = &[
+    (Act::AddGate, "Ok"),
+    (Act::RefuseNulls(1), "Ok"),
+    (Act::Insert(7, 1, &[]), "Ok client 0:1"),
+    (Act::Create(FIRST, 5, 55), "Ok 5@4278190080"),
+];
+
+/// Conversations of a session that refuses nulls that the table forbids.
+static REFUSED_NULLS: [Run<Act>; 5] = [
+    // A client that sends a request with such a null is told so by `wl_display.error` with the code 1, and killed; no such request is
+    // handed out, and nothing is left to be finished. Its descriptor comes out once the client is taken out. The object that the
+    // request ends is noted, as any other.
+    Run {
+        name: "a destructor with a null",
+        first: GATED,
+        entries: &[
+            (Act::Received(FIRST, LEAVE_NULL, &[42]), "Ok"),
+            (Act::Next(FIRST, 0, 0), "Closed"),
+            (Act::Next(FIRST, 2, 8), "Closed"),
+            (Act::Finish(FIRST), "NotOpen"),
+            (Act::Writable, "Ok client 0:1"),
+            (Act::Writable, "WouldBlock"),
+            (
+                Act::ToSend(FIRST),
+                "Ok [ 01 00 00 00 00 00 44 00 01 00 00 00 01 00 00 00 2f 00 00 00 49 6e 76 61 6c 69 64 20 6e 75 6c 6c 20 61 72 67 75 6d 65 6e 74 20 31 20 \
+                 69 6e 20 72 65 71 75 65 73 74 20 67 61 74 65 2e 6c 65 61 76 65 2e 00 00 ] [ ]",
+            ),
+            (Act::Note, "Ok kind 1 client 0:1"),
+            (Act::Note, "Ok kind 2 error 1 code 1 client 0:1"),
+            (
+                Act::Note,
+                "Ok kind 3 data 55 client 0:1 object 5@4278190080",
+            ),
+            (Act::Note, "WouldBlock"),
+            (Act::Dropped, "WouldBlock"),
+            (Act::Cleanup, "Ok"),
+            (Act::Dropped, "Ok descriptor 42"),
+            (Act::Dropped, "WouldBlock"),
+            (
+                Act::Gone,
+                "Ok client 0:1 data 7 [ 01 00 00 00 00 00 44 00 01 00 00 00 01 00 00 00 2f 00 00 00 49 6e 76 61 6c 69 64 20 6e 75 6c 6c 20 61 72 67 75 6d 65 6e 74 20 31 20 \
+                 69 6e 20 72 65 71 75 65 73 74 20 67 61 74 65 2e 6c 65 61 76 65 2e 00 00 ] [ ]",
+            ),
+            (Act::Note, "WouldBlock"),
+        ],
+    },
+    // An object that the request makes gets no data, and so is not noted.
+    Run {
+        name: "a null beside a new object",
+        first: GATED,
+        entries: &[
+            (Act::Received(FIRST, OPEN_NULL, &[]), "Ok"),
+            (Act::Next(FIRST, 2, 8), "Closed"),
+            (Act::Cleanup, "Ok"),
+            (
+                Act::Gone,
+                "Ok client 0:1 data 7 [ 01 00 00 00 00 00 44 00 01 00 00 00 01 00 00 00 2e 00 00 00 49 6e 76 61 6c 69 64 20 6e 75 6c 6c 20 61 72 67 75 6d 65 6e 74 20 32 20 \
+                 69 6e 20 72 65 71 75 65 73 74 20 67 61 74 65 2e 6f 70 65 6e 2e 00 00 00 ] [ ]",
+            ),
+            (Act::Note, "Ok kind 1 client 0:1"),
+            (Act::Note, "Ok kind 2 error 1 code 1 client 0:1"),
+            (
+                Act::Note,
+                "Ok kind 3 data 55 client 0:1 object 5@4278190080",
+            ),
+            (Act::Note, "WouldBlock"),
+        ],
+    },
+    // What the table allows is handed out, also a null, and so is what other clients send.
+    Run {
+        name: "what is allowed is handed out",
+        first: BOUND,
+        entries: &[
+            (Act::RefuseNulls(1), "Ok"),
+            (Act::AddKnot, "Ok"),
+            (Act::Create(FIRST, 5, 55), "Ok 5@4278190080"),
+            (Act::Insert(8, 1, &[]), "Ok client 1:2"),
+            (Act::Create(SECOND, 4, 44), "Ok 4@4278190080"),
+            (Act::Received(FIRST, LABEL, &[]), "Ok"),
+            (
+                Act::Next(FIRST, 1, 8),
+                "Ok kind 1 opcode 1 data 33 arguments 1 bytes 8 by 4@3 (3: 0 length 3) [ 68 65 79 00 00 00 00 00 ]",
+            ),
+            (Act::Finish(FIRST), "Ok"),
+            (Act::Received(FIRST, TIE, &[]), "Ok"),
+            (
+                Act::Next(FIRST, 3, 16),
+                "Ok kind 1 data 55 arguments 3 bytes 16 by 5@4278190080 (8: 0) (3: 0 length 1) (3: 0 at 8 length 1) \
+                 [ 61 00 00 00 00 00 00 00 62 00 00 00 00 00 00 00 ]",
+            ),
+            (Act::Finish(FIRST), "Ok"),
+            (Act::Received(FIRST, TIE_LAST_NULL, &[]), "Ok"),
+            (Act::Next(FIRST, 3, 8), "Closed"),
+            (Act::Received(SECOND, SECOND_LABEL, &[]), "Ok"),
+            (
+                Act::Next(SECOND, 1, 8),
+                "Ok kind 1 opcode 1 data 44 arguments 1 bytes 8 by 4@4278190080 (3: 0 length 3) [ 68 65 79 00 00 00 00 00 ]",
+            ),
+            (Act::Finish(SECOND), "Ok"),
+        ],
+    },
+    // A request that was kept for want of room is refused too, if they are refused by then. It cannot be finished before.
+    Run {
+        name: "a kept action is refused",
+        first: BOUND,
+        entries: &[
+            (Act::Writable, "Ok client 0:1"),
+            (Act::Sent(FIRST, 24), "Ok"),
+            (Act::Received(FIRST, LABEL_NULL, &[]), "Ok"),
+            (Act::Next(FIRST, 0, 0), "TooSmall arguments 1"),
+            (Act::RefuseNulls(1), "Ok"),
+            (Act::Finish(FIRST), "NotOpen"),
+            (Act::Next(FIRST, 1, 0), "Closed"),
+            (Act::Cleanup, "Ok"),
+            (
+                Act::Gone,
+                "Ok client 0:1 data 7 [ 01 00 00 00 00 00 44 00 01 00 00 00 01 00 00 00 2e 00 00 00 49 6e 76 61 6c 69 64 20 6e 75 6c 6c 20 61 72 67 75 6d 65 6e 74 20 31 20 \
+                 69 6e 20 72 65 71 75 65 73 74 20 70 61 64 2e 6c 61 62 65 6c 2e 00 00 00 ] [ ]",
+            ),
+        ],
+    },
+    // They are handed out again once the setting is off.
+    Run {
+        name: "nulls are refused no more",
+        first: BOUND,
+        entries: &[
+            (Act::RefuseNulls(9), "Ok"),
+            (Act::RefuseNulls(0), "Ok"),
+            (Act::Received(FIRST, LABEL_NULL, &[]), "Ok"),
+            (
+                Act::Next(FIRST, 1, 0),
+                "Ok kind 1 opcode 1 data 33 arguments 1 null 1 by 4@3 (8: 0)",
+            ),
+            (Act::Finish(FIRST), "Ok"),
+            (Act::Next(FIRST, 1, 0), "WouldBlock"),
+        ],
+    },
+];
+
+/// Each of them tells what it has to.
+#[test]
+fn refused_nulls(rt: HostRuntime) -> Result<(), Fail> {
+    for run in &REFUSED_NULLS {
         run_tells::<Server>(&rt, run, None, false)?;
     }
     Ok(())

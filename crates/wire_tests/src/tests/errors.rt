@@ -94,7 +94,7 @@ fn refusals_have_texts(rt: HostRuntime) -> Result<(), Fail> {
     tells(
         &rt,
         texts(rt.alloc(), &refusals),
-        "interface 0: a name holds a zero byte\ninterface 1: the name is taken\ninterface 2: a message names an interface outside the table\ninterface 3: a message has more than one new id\ninterface 4: a message with a new id has no child interface\ninterface 50: a message has not one argument interface for each object\nout of memory\n",
+        "interface 0: a name holds a zero byte\ninterface 1: the name is taken\ninterface 2: a message names an interface outside the table, or this one takes no more messages\ninterface 3: a message has more than one new id\ninterface 4: a message with a new id has no child interface\ninterface 50: a message has not one argument interface for each object\nout of memory\n",
     )?;
     tells(
         &rt,

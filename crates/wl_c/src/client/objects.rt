@@ -1,7 +1,8 @@
 //! The objects of a client's session.
 
-ghost use Rattle.std.specs.Prelude.{IsSome, None, Ok, [], ◌≡◌, ◌≢◌};
+ghost use Rattle.std.specs.Prelude.{IsSome, None, Ok, [], ◌≡◌, ◌≢◌, option_map};
 ghost use Rattle.wl_c.specs.Calls.{Did, Found};
+ghost use Rattle.wl_client.specs.ByNumber.{object_at};
 ghost use Rattle.wl_client.specs.Objects.{info_of, user_data_of};
 ghost use Rattle.wl_host.specs.Client.{ConservesClient, Destroys, GivesData, Reclaims, flat_info, found};
 ghost use Rattle.wl_host.specs.Flat.{flat_proxy, proxy_of};
@@ -29,6 +30,27 @@ pub extern "C" fn nb_client_display(
         return Status::NoSession.code();
     };
     let answer = session.display();
+    place.put(session);
+    write_answer(answer, object)
+}
+
+/// Writes the id of the object that has this number.
+#[unsafe(no_mangle)]
+pub extern "C" fn nb_client_object_for_protocol_id(
+    alloc: Global,
+    place: &mut ClientPlace,
+    number: u32,
+    object: &mut FlatObjectId,
+) -> u32
+    ensures none { place.old.kept.held ≡ None → (result ≡ 1) × (place.new.kept.held ≡ None) × (object.new ≡ object.old) }
+    ensures kept { place.new.kept.held ≡ place.old.kept.held }
+    ensures unwritten { result ≢ 0 → object.new ≡ object.old }
+    ensures answer { Found place.old.kept.held result object.old object.new (λ s answer. answer ≡ found (option_map flat_proxy (object_at s.core.session number))) }
+{
+    let Some(session) = place.take(alloc) else {
+        return Status::NoSession.code();
+    };
+    let answer = session.object_for_protocol_id(number);
     place.put(session);
     write_answer(answer, object)
 }

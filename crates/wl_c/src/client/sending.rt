@@ -1,8 +1,8 @@
 //! What a client's session hands out to the host.
 
-ghost use Rattle.std.specs.Prelude.{IfErr, IsSome, None, [], ◌≡◌, ◌≢◌};
+ghost use Rattle.std.specs.Prelude.{IfErr, IsSome, None, [], not, ◌==◌, ◌≡◌, ◌≢◌};
 ghost use Rattle.wl_c.specs.Calls.{Did, Gave, Told};
-ghost use Rattle.wl_host.specs.Client.{ConservesClient, Drops, Flushes, HandsNote, HasNoneDropped, sent, sent_descriptors, to_send, told};
+ghost use Rattle.wl_host.specs.Client.{ConservesClient, Drops, Flushes, HandsFreedId, HandsNote, HasNoneDropped, KeepsFreed, sent, sent_descriptors, to_send, told};
 ghost use Rattle.wl_host.specs.Sending.{copied};
 ghost use Rattle.wl_host.specs.declared.status.Status.TheVariants as status;
 
@@ -86,6 +86,44 @@ pub extern "C" fn nb_client_next_note(
         return Status::NoSession.code();
     };
     let status = session.next_note(destroyed, user_data);
+    place.put(session);
+    status.code()
+}
+
+/// Sets whether the ids of objects whose numbers become free are kept.
+#[unsafe(no_mangle)]
+pub extern "C" fn nb_client_keep_freed(alloc: Global, place: &mut ClientPlace, keeps: u32) -> u32
+    ensures none { place.old.kept.held ≡ None → (result ≡ 1) × (place.new.kept.held ≡ None) }
+    ensures stays { IsSome place.old.kept.held → IsSome place.new.kept.held }
+    ensures call { Did place.old.kept.held result place.new.kept.held (λ s status t. KeepsFreed s.core (not (keeps == 0)) t.core) }
+    ensures beside { Did place.old.kept.held result place.new.kept.held (λ s status t. t ≡ record s { core = t.core }) }
+    ensures descriptors { Did place.old.kept.held result place.new.kept.held (λ s status t. ConservesClient s [] [] t) }
+    ensures answer { IsSome place.old.kept.held → result ≡ 0 }
+{
+    let Some(mut session) = place.take(alloc) else {
+        return Status::NoSession.code();
+    };
+    let status = session.keep_freed(keeps);
+    place.put(session);
+    status.code()
+}
+
+/// Hands out the next id of an object whose number became free.
+#[unsafe(no_mangle)]
+pub extern "C" fn nb_client_next_freed(
+    alloc: Global,
+    place: &mut ClientPlace,
+    object: &mut FlatObjectId,
+) -> u32
+    ensures none { place.old.kept.held ≡ None → (result ≡ 1) × (place.new.kept.held ≡ None) × (object.new ≡ object.old) }
+    ensures stays { IsSome place.old.kept.held → IsSome place.new.kept.held }
+    ensures call { Did place.old.kept.held result place.new.kept.held (λ s status t. HandsFreedId s.core.session.freed s object.old status t object.new) }
+    ensures descriptors { Did place.old.kept.held result place.new.kept.held (λ s status t. ConservesClient s [] [] t) }
+{
+    let Some(mut session) = place.take(alloc) else {
+        return Status::NoSession.code();
+    };
+    let status = session.next_freed(object);
     place.put(session);
     status.code()
 }

@@ -2,9 +2,10 @@
 
 ghost use Rattle.std.specs.Prelude.{IsSome, None, Ok, Some, [], ◌↔◌, ◌≡◌, ◌≢◌};
 ghost use Rattle.wl_c.specs.Calls.{Added, Did, Extended, FoundFlag, Told, fault_code};
-ghost use Rattle.wl_host.specs.Client.{ConservesClient, HostedClient, SetsLimit, limit_of, mailbox_of, with_mailbox};
+ghost use Rattle.wl_host.specs.Client.{ConservesClient, HostedClient, SetsLimit, limit_of, mailbox_of, passing_over, with_mailbox};
 ghost use Rattle.wl_host.specs.Faults.{flat_error, text_of_error};
 ghost use Rattle.wl_host.specs.Lent.{has_room, status_for, written};
+ghost use Rattle.wl_host.specs.Nulls.{sets};
 ghost use Rattle.wl_host.specs.Tables.{AddsToClient, ExtendsClient, IsFaultOf, IsNewClient};
 ghost use Rattle.wl_host.specs.declared.status.Status.TheVariants as status;
 
@@ -169,6 +170,44 @@ pub extern "C" fn nb_client_set_max_buffer_size(
         return Status::NoSession.code();
     };
     let status = session.set_max_buffer_size(has_limit, size);
+    place.put(session);
+    status.code()
+}
+
+/// Sets whether messages of unknown senders are passed over.
+#[unsafe(no_mangle)]
+pub extern "C" fn nb_client_pass_over_unknown_senders(
+    alloc: Global,
+    place: &mut ClientPlace,
+    passes: u32,
+) -> u32
+    ensures none { place.old.kept.held ≡ None → (result ≡ 1) × (place.new.kept.held ≡ None) }
+    ensures stays { IsSome place.old.kept.held → IsSome place.new.kept.held }
+    ensures set { Did place.old.kept.held result place.new.kept.held (λ s status t. t ≡ passing_over s passes) }
+    ensures descriptors { Did place.old.kept.held result place.new.kept.held (λ s status t. ConservesClient s [] [] t) }
+    ensures answer { IsSome place.old.kept.held → result ≡ 0 }
+{
+    let Some(mut session) = place.take(alloc) else {
+        return Status::NoSession.code();
+    };
+    let status = session.pass_over_unknown_senders(passes);
+    place.put(session);
+    status.code()
+}
+
+/// Sets whether an event with a null that the table forbids ends the session: not if `is_on` is 0.
+#[unsafe(no_mangle)]
+pub extern "C" fn nb_client_refuse_nulls(alloc: Global, place: &mut ClientPlace, is_on: u32) -> u32
+    ensures none { place.old.kept.held ≡ None → (result ≡ 1) × (place.new.kept.held ≡ None) }
+    ensures stays { IsSome place.old.kept.held → IsSome place.new.kept.held }
+    ensures set { Did place.old.kept.held result place.new.kept.held (λ s status t. t ≡ record s { refuses_nulls = sets is_on }) }
+    ensures descriptors { Did place.old.kept.held result place.new.kept.held (λ s status t. ConservesClient s [] [] t) }
+    ensures answer { IsSome place.old.kept.held → result ≡ 0 }
+{
+    let Some(mut session) = place.take(alloc) else {
+        return Status::NoSession.code();
+    };
+    let status = session.refuse_nulls(is_on);
     place.put(session);
     status.code()
 }

@@ -6,6 +6,7 @@ ghost use Rattle.wl_host.specs.Calls.{world};
 ghost use Rattle.wl_host.specs.Clients.{SetsRoom};
 ghost use Rattle.wl_host.specs.Descriptors.{Conserves};
 ghost use Rattle.wl_host.specs.Flat.{client_of};
+ghost use Rattle.wl_host.specs.Nulls.{sets};
 ghost use Rattle.wl_host.specs.Server.{ServerState, kept_by_server};
 ghost use Rattle.wl_host.specs.Tables.{AddsInterfaces, ExtendsInterfaces, IsFaultOf, IsNewServer};
 ghost use Rattle.wl_host.specs.declared.status.Status.TheVariants as status;
@@ -175,6 +176,23 @@ pub extern "C" fn nb_server_set_default_max_buffer_size(
         return Status::NoSession.code();
     };
     let status = session.set_default_max_buffer_size(size);
+    place.put(session);
+    status.code()
+}
+
+/// Sets whether requests with a null that the table forbids are refused: not if `is_on` is 0.
+#[unsafe(no_mangle)]
+pub extern "C" fn nb_server_refuse_nulls(alloc: Global, place: &mut ServerPlace, is_on: u32) -> u32
+    ensures none { place.old.kept.held ≡ None → (result ≡ 1) × (place.new.kept.held ≡ None) }
+    ensures stays { IsSome place.old.kept.held → IsSome place.new.kept.held }
+    ensures set { Did place.old.kept.held result place.new.kept.held (λ s status t. t ≡ record s { refuses_nulls = sets is_on }) }
+    ensures descriptors { Did place.old.kept.held result place.new.kept.held (λ s status t. Conserves kept_by_server s [] [] t) }
+    ensures status { IsSome place.old.kept.held → result ≡ 0 }
+{
+    let Some(mut session) = place.take(alloc) else {
+        return Status::NoSession.code();
+    };
+    let status = session.refuse_nulls(is_on);
     place.put(session);
     status.code()
 }

@@ -3,7 +3,7 @@ use Rattle.std.specs.Prelude.{◌≡◌, Bool, false, Result, Ok, Err, MatchResu
 use Rattle.wl_server.specs.Ids.{ClientParts}
 use Rattle.wl_server.specs.declared.error.ActionError.{ActionError}
 use Rattle.wl_server.specs.declared.reading.action.Action.{Action}
-use Rattle.wl_host.specs.Actions.{HandsFrom, Lent, ReadsNext, kills, without_kept}
+use Rattle.wl_host.specs.Actions.{HandsFrom, Lent, ReadsAllowed, kills, without_kept}
 use Rattle.wl_host.specs.Calls.{CoreState}
 use Rattle.wl_host.specs.Status.{of_action}
 use Rattle.wl_host.specs.declared.server.ledger.Ledger.{Ledger}
@@ -26,6 +26,7 @@ AnswersNext core l read before result after l' =
     (λ e. (result ≡ Err e) × (after ≡ before) × (l' ≡ l))
 
 -- the next action of a client with this ledger
-abbrev pub NextOf : CoreState → ClientParts → Ledger → Lent → Result Status ActionError → Lent → CoreState → Ledger → Type 0
-NextOf before id l lent result lent' after l' =
-    (read : Result Action ActionError) × ReadsNext before id l.kept read after × AnswersNext after (without_kept l) read lent result lent' l'
+abbrev pub NextOf : Bool → CoreState → ClientParts → Ledger → Lent → Result Status ActionError → Lent → CoreState → Ledger → Type 0
+NextOf refuses before id l lent result lent' after l' =
+    (read : Result Action ActionError) × ReadsAllowed refuses before id l.kept read after
+    × AnswersNext after (without_kept l) read lent result lent' l'

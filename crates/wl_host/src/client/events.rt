@@ -3,15 +3,17 @@
 ghost use Rattle.std.specs.Prelude.{◌≡◌, ℤ, List, [], None, Some, if◌then◌else◌};
 ghost use Rattle.wl_client.specs.Requests.{session_content};
 ghost use Rattle.wl_host.specs.Arguments.{all_bytes, flat_arguments, queue_after_all};
-ghost use Rattle.wl_host.specs.Client.{ConservesClient, EndsEvent, EndsEventWith, HandsNext, ReadsUnlessKept, data_or_zero, fits, flat_event, kept_of};
+ghost use Rattle.wl_host.specs.Client.{ConservesClient, EndsEvent, EndsEventWith, HandsNext, ReadsUnlessKept, data_or_zero, fits, flat_event, kept_of, null_in};
 ghost use Rattle.wl_host.specs.Flat.{flat_proxy, over_front};
 
-use super::flattening::{flat_event, made_and_ends};
+use super::flattening::{flat_event, forbidden_null_of, made_and_ends};
 use super::notes::take_notes;
+use super::refusals::refuse;
 use super::{Client, Core};
 use crate::arguments::{Needs, write_arguments};
 use crate::descriptors::DescriptorQueue;
 use crate::flat::{FlatArgument, FlatEvent};
+use crate::nulls::is_refused;
 use crate::status::Status;
 use wl_client::ObjectId;
 use wl_wire::{Message, Token};
@@ -32,16 +34,18 @@ fn read(core: &mut Core, event: &mut Message<ObjectId, Token>, is_kept: &mut boo
     }
 }
 
-/// Writes the event, which is open, to the lent memory, and takes its descriptors out. If there is no room for its arguments, it
-/// writes only `out`, and returns false.
+/// Writes the event, which is open and has this null, to the lent memory, and takes its descriptors out. If there is no room for its
+/// arguments, it writes only `out`, and returns false.
 fn hand_out(
     core: &Core,
     event: &Message<ObjectId, Token>,
+    forbidden_null: u32,
     arrivals: &mut DescriptorQueue,
     out: &mut FlatEvent,
     arguments: &mut [FlatArgument],
     bytes: &mut [u8],
 ) -> bool
+    requires null { forbidden_null ≡ null_in core.now (session_content event.now) }
     ensures fits { result ≡ fits event.now.args.items arguments.old bytes.old }
     ensures out { out.new ≡ flat_event core.now (session_content event.now) }
     ensures arguments { arguments.new ≡ (if result then
@@ -51,7 +55,7 @@ fn hand_out(
 {
     let args = event.args.as_slice();
     let needs = Needs::of(args);
-    *out = flat_event(core, event, needs);
+    *out = flat_event(core, event, forbidden_null, needs);
     if !needs.fit(arguments, bytes) {
         return false;
     }
@@ -75,6 +79,11 @@ impl Client {
     /// - `WouldBlock` if what was received has no further event;
     /// - `OutOfMemory` if there is no memory.
     ///
+    /// If nulls are refused (`refuse_nulls`), an event with an argument that is null where the table allows no null is not handed
+    /// out, and the status is `Failed`: the session ends, and its error is a protocol error of code 0 and no object, with a text that
+    /// names the event and the place; `OutOfMemory` if there is no memory for that. The event is closed, as by `fail`, and its
+    /// descriptors come out by `next_dropped`.
+    ///
     /// After any but `TooSmall` and `Ok` what was lent is as it was.
     pub fn next_event(
         &mut self,
@@ -91,9 +100,15 @@ impl Client {
             Status::Ok => {}
             status => return status,
         }
+        let place = forbidden_null_of(&self.core, &self.event);
+        if is_refused(self.refuses_nulls, place) {
+            let alloc = *self.notes.allocator();
+            return refuse(alloc, &mut self.core, &self.event, place, &mut self.is_kept);
+        }
         let handed_out = hand_out(
             &self.core,
             &self.event,
+            place,
             &mut self.arrivals,
             out,
             arguments,

@@ -1,4 +1,4 @@
-//! The error that ended a session.
+//! The error that ended a session, and how the host ends one.
 
 ghost use Rattle.std.specs.Prelude.{◌≡◌, ◌++◌, []};
 ghost use Rattle.wl_host.specs.Client.{ConservesClient, failed};
@@ -80,8 +80,9 @@ fn put_texts(to: &mut [u8], first: &str, second: &str) -> Status
 
 impl Client {
     /// Ends the session, for a reason of the host's own: its error is `IoError` with this number of the system, unless it has
-    /// one. No event comes any more, also none that was kept, and one that is open is closed: an object that it made has no
-    /// data. All descriptors that did not come out do by `next_dropped`. It takes no memory.
+    /// one. No event comes any more, also none that was kept. One that is open is closed, and not finished: an object that it
+    /// made has no data, and a sender that it ends is there and not noted. All descriptors that did not come out do by
+    /// `next_dropped`. It takes no memory.
     pub fn fail(&mut self, number: i32) -> Status
         ensures failed { self.new ≡ failed self.old number }
         ensures descriptors { ConservesClient self.old [] [] self.new }
@@ -95,8 +96,8 @@ impl Client {
     /// The session's error: what it is in `out`, and its text in `text`, the message and then the name of the interface of
     /// the object.
     ///
-    /// The kind is 0 if the session has no error, 1 for a fault of the transport, 2 for a protocol error: one that the
-    /// server sent, or what was wrong with what it sent. The status is `TooSmall` if there is no room for the text. Then the
+    /// The kind is 0 if the session has no error, 1 for a fault of the transport or the host's own error (`fail`), 2 for a
+    /// protocol error: one that the server sent, or what was wrong with what it sent. The status is `TooSmall` if there is no room for the text. Then the
     /// lengths in `out` say how much is needed, and `text` is as it was.
     pub fn last_error(&self, out: &mut FlatError, text: &mut [u8]) -> Status
         ensures error { out.new ≡ flat_error self.now.core.session.error }

@@ -4,7 +4,7 @@ ghost use Rattle.std.specs.Prelude.{◌≡◌, length, min};
 ghost use Rattle.wl_client.specs.Objects.{info_of, user_data_of};
 ghost use Rattle.wl_client.specs.Requests.{session_content};
 ghost use Rattle.wl_host.specs.Arguments.{all_bytes};
-ghost use Rattle.wl_host.specs.Client.{created_by, ends_sender, flat_event, version_in};
+ghost use Rattle.wl_host.specs.Client.{created_by, ends_sender, flat_event, null_in, version_in};
 
 use super::Core;
 use crate::arguments::{FromFlat, Needs, Objects};
@@ -73,8 +73,8 @@ pub fn made_and_ends(core: &Core) -> (ObjectId, bool)
 
 /// The place of the first argument of the event that is null where the table allows no null, counted from 1; 0 if there is
 /// none.
-fn forbidden_null_of(core: &Core, event: &Message<ObjectId, Token>) -> u32
-    ensures { result ≡ (flat_event core.now (session_content event.now)).forbidden_null }
+pub fn forbidden_null_of(core: &Core, event: &Message<ObjectId, Token>) -> u32
+    ensures { result ≡ null_in core.now (session_content event.now) }
 {
     match core
         .protocol()
@@ -85,8 +85,14 @@ fn forbidden_null_of(core: &Core, event: &Message<ObjectId, Token>) -> u32
     }
 }
 
-/// The event without its arguments, which need this much. It is open.
-pub fn flat_event(core: &Core, event: &Message<ObjectId, Token>, needs: Needs) -> FlatEvent
+/// The event, with this null, without its arguments, which need this much. It is open.
+pub fn flat_event(
+    core: &Core,
+    event: &Message<ObjectId, Token>,
+    forbidden_null: u32,
+    needs: Needs,
+) -> FlatEvent
+    requires null { forbidden_null ≡ null_in core.now (session_content event.now) }
     requires arguments { needs.arguments ≡ length event.now.args.items }
     requires bytes { needs.bytes ≡ min (length (all_bytes event.now.args.items)) usize.MAX }
     ensures { result ≡ flat_event core.now (session_content event.now) }
@@ -103,6 +109,6 @@ pub fn flat_event(core: &Core, event: &Message<ObjectId, Token>, needs: Needs) -
         created: FlatObjectId::of_proxy(created),
         version: version_of(core, &created),
         has_data: u32::from(user_data.is_some()),
-        forbidden_null: forbidden_null_of(core, event),
+        forbidden_null,
     }
 }

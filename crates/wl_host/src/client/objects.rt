@@ -1,10 +1,11 @@
 //! The objects of a client.
 
-ghost use Rattle.std.specs.Prelude.{◌≡◌, []};
+ghost use Rattle.std.specs.Prelude.{◌≡◌, [], option_map};
+ghost use Rattle.wl_client.specs.ByNumber.{object_at};
 ghost use Rattle.wl_client.specs.Objects.{info_of, user_data_of};
 ghost use Rattle.wl_host.specs.Client.{ConservesClient, Destroys, GivesData, Reclaims, flat_info, found, status_of};
 ghost use Rattle.wl_host.specs.declared.status.Status.TheVariants as status;
-ghost use Rattle.wl_host.specs.Flat.{proxy_of};
+ghost use Rattle.wl_host.specs.Flat.{flat_proxy, proxy_of};
 
 use super::Client;
 use super::notes::take_notes;
@@ -48,6 +49,18 @@ impl Client {
         match self.core.get_data(&id.proxy()) {
             Ok(user_data) => Ok(*user_data),
             Err(error) => Err(Status::from(error)),
+        }
+    }
+
+    /// The object that has this number, also one that was destroyed, until its number is free.
+    ///
+    /// The status is `InvalidId` if no object has the number.
+    pub fn object_for_protocol_id(&self, number: u32) -> Result<FlatObjectId, Status>
+        ensures { result ≡ found (option_map flat_proxy (object_at self.now.core.session number)) }
+    {
+        match self.core.object_for_protocol_id(number) {
+            Some(id) => Ok(FlatObjectId::of_proxy(id)),
+            None => Err(Status::InvalidId),
         }
     }
 

@@ -1,10 +1,10 @@
 //! The actions of clients, handed out and ended.
 
-ghost use Rattle.std.specs.Prelude.{◌≡◌, ◌≤◌, [], ℤ, List, Bool, Result, MatchOption, None, Ok, Err, Some, length, min};
+ghost use Rattle.std.specs.Prelude.{◌≡◌, ◌≤◌, [], ℤ, List, Bool, Result, MatchOption, None, Ok, Err, Some, IfOk, length, min};
 ghost use Rattle.std.specs.Result.{result_and};
 ghost use Rattle.wl_host.specs.declared.status.Status.{Status};
 ghost use Rattle.wl_host.specs.declared.status.Status.TheVariants as status;
-ghost use Rattle.wl_host.specs.Actions.{EndsBind, EndsRequest, HandsFrom, NextAction, ReadsNext, args_of, ended, flat_action, flat_created, is_end, kills, marked_if, status_of_end, version_created};
+ghost use Rattle.wl_host.specs.Actions.{EndsBind, EndsRequest, HandsFrom, NextAction, ReadsAllowed, ReadsNext, args_of, ended, flat_action, flat_created, is_end, kills, marked_if, null_in, status_of_end, version_created};
 ghost use Rattle.wl_host.specs.Arguments.{all_bytes, flat_arguments, queue_after_all};
 ghost use Rattle.wl_host.specs.Calls.{bit_of, data_or_zero, global_data_or_zero, kept_by, version_or_zero};
 ghost use Rattle.wl_host.specs.Flat.{client_of, count_number, flat_resource, no_action, over_front};
@@ -20,8 +20,9 @@ use crate::descriptors::DescriptorQueue;
 use crate::flat::{
     BIND, FlatAction, FlatArgument, FlatClientId, FlatGlobalId, FlatObjectId, REQUEST, count_number,
 };
-use crate::nulls::forbidden_null;
+use crate::nulls::{forbidden_null, is_refused};
 use crate::server::ledger::Ledger;
+use crate::server::refusals::refuse;
 use crate::server::{Core, Server, no_action};
 use crate::status::Status;
 use std::alloc::Global;
@@ -112,7 +113,7 @@ fn flat_request(
 /// The place of the first argument of the action that is null where the table allows no null, counted from 1; 0 if there is
 /// none.
 fn forbidden_null_of(core: &Core, action: &Action) -> u32
-    ensures { result ≡ (flat_action core.now (handed action.now)).forbidden_null }
+    ensures { result ≡ null_in core.now (handed action.now) }
 {
     let Action::Request {
         sender,
@@ -203,6 +204,32 @@ fn read_action(
     Ok(())
 }
 
+/// Puts the action that was kept, or else the next one, into `action`. Returns the place of its first argument that is null where
+/// the table allows no null, counted from 1; 0 if there is none. If such nulls are refused, the place is 0, and an action with one is
+/// refused: its client is killed, and the answer is as after a request that the core refuses.
+fn read_allowed(
+    core: &mut Core,
+    id: &ClientId,
+    kept: &mut Option<Action>,
+    action: &mut Action,
+    refuses_nulls: bool,
+    alloc: Global,
+) -> Result<u32, ActionError>
+    ensures read { ReadsAllowed refuses_nulls core.old id.now kept.old (result_and result (Ok action.new)) core.new }
+    ensures null { IfOk result (λ place. place ≡ null_in core.new (handed action.new)) }
+    ensures none { kept.new ≡ None }
+{
+    if let Err(error) = read_action(core, id, kept, action) {
+        return Err(error);
+    }
+    let place = forbidden_null_of(core, action);
+    if is_refused(refuses_nulls, place) {
+        refuse(alloc, core, id, action, place);
+        return Err(ActionError::Io(IoFault::Pipe));
+    }
+    Ok(place)
+}
+
 /// Keeps the action in the client's ledger, until there is room for it. `out` says how much it needs.
 fn keep(ledger: &mut Ledger, action: &mut Action, needs: Needs, alloc: Global, out: &mut FlatAction)
     ensures kept { ledger.new ≡ record ledger.old { kept = Some action.old } }
@@ -216,18 +243,20 @@ fn keep(ledger: &mut Ledger, action: &mut Action, needs: Needs, alloc: Global, o
     ledger.kept = Some(mem::replace(action, no_action(alloc)));
 }
 
-/// Writes the action to the lent memory, if that has room for it. Else it is kept in the client's ledger. It is not inlined: among
-/// the code of its caller it would have too few registers.
+/// Writes the action, with this null, to the lent memory, if that has room for it. Else it is kept in the client's ledger. It is not
+/// inlined: among the code of its caller it would have too few registers.
 #[inline(never)]
 fn hand_out(
     core: &Core,
     ledger: &mut Ledger,
     action: &mut Action,
+    forbidden_null: u32,
     alloc: Global,
     out: &mut FlatAction,
     arguments: &mut [FlatArgument],
     bytes: &mut [u8],
 ) -> Status
+    requires null { forbidden_null ≡ null_in core.now (handed action.old) }
     ensures { HandsFrom core.now ledger.old action.old arguments.old bytes.old result (record { out = out.new; arguments = arguments.new; bytes = bytes.new }) ledger.new }
 {
     let needs = needs_of(action);
@@ -238,7 +267,7 @@ fn hand_out(
     *out = FlatAction {
         arguments: count_number(needs.arguments),
         bytes: count_number(needs.bytes),
-        forbidden_null: forbidden_null_of(core, action),
+        forbidden_null,
         ..flat_action(core, action)
     };
     ledger.ends_sender = ends_sender(action);
@@ -252,15 +281,19 @@ fn next_of(
     id: &ClientId,
     ledger: &mut Ledger,
     action: &mut Action,
+    refuses_nulls: bool,
     alloc: Global,
     out: &mut FlatAction,
     arguments: &mut [FlatArgument],
     bytes: &mut [u8],
 ) -> Result<Status, ActionError>
-    ensures { NextOf core.old id.now ledger.old (record { out = out.old; arguments = arguments.old; bytes = bytes.old }) result (record { out = out.new; arguments = arguments.new; bytes = bytes.new }) core.new ledger.new }
+    ensures { NextOf refuses_nulls core.old id.now ledger.old (record { out = out.old; arguments = arguments.old; bytes = bytes.old }) result (record { out = out.new; arguments = arguments.new; bytes = bytes.new }) core.new ledger.new }
 {
-    match read_action(core, id, &mut ledger.kept, action) {
-        Ok(()) => Ok(hand_out(core, ledger, action, alloc, out, arguments, bytes)),
+    match read_allowed(core, id, &mut ledger.kept, action, refuses_nulls, alloc) {
+        Ok(place) => {
+            let status = hand_out(core, ledger, action, place, alloc, out, arguments, bytes);
+            Ok(status)
+        }
         Err(error) => Err(error),
     }
 }
@@ -291,6 +324,12 @@ impl Server {
     /// - `ProtocolError`, `Closed`, `TooBig` or `IoError` if the client was killed, now or before;
     /// - `OutOfMemory`. The next call goes on.
     ///
+    /// If nulls are refused (`refuse_nulls`), an action with an argument that is null where the table allows no null is not handed
+    /// out. Its client is told by `wl_display.error` of its display, with the code 1 (`invalid_method`) and a text that names the
+    /// request and the place, and killed: the status is `Closed`, as after a request that the core refuses. If there is no memory
+    /// for the text, the client is killed as if its connection had ended. The request is finished: if it ends its sender, `next_note`
+    /// tells of that, too. Its descriptors come out by `next_dropped`, once the client is taken out.
+    ///
     /// After any but `Ok` and `TooSmall` `out` is all zeros. After any but `Ok` the rest of the lent memory is as it was.
     pub fn next_action(
         &mut self,
@@ -314,6 +353,7 @@ impl Server {
                     &id,
                     ledger,
                     action,
+                    self.refuses_nulls,
                     alloc,
                     out,
                     arguments,

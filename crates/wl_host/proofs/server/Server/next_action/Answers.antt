@@ -14,6 +14,6 @@ returns c =
     let l = c.in-Some.ledger.now in
     let s : ledger_of id before.seats.ledgers ≡ Some l = search rules in
     let k : c.tell_next.new.self ≡ marked_if (is_killed_in n.result) (record before { core = n.new.core; seats = listed (with_ledger before.seats id n.new.ledger) id.slot }) = search rules in
-    next_handed before c.tell_next.new.self id c.id-id.result c.self.inside.core c.none.result c.args.arguments.now c.args.bytes.now n.result c.tell_next.result
+    next_handed before c.tell_next.new.self id c.id-id.result c.self.inside.refuses_nulls c.self.inside.core c.none.result c.args.arguments.now c.args.bytes.now n.result c.tell_next.result
     (record { out = n.new.out; arguments = n.new.arguments; bytes = n.new.bytes }) n.new.core l n.new.ledger
-    c.id-id.ensures.id (search rules) c.none.ensures s n.ensures c.tell_next.ensures.status k
+    c.id-id.ensures.id (search rules) (search rules) c.none.ensures s n.ensures c.tell_next.ensures.status k

@@ -10,6 +10,7 @@ after c = record {
   notes = c.self.inside.notes.items;
   may_clean_up = c.self.inside.may_clean_up;
   may_have_notes = c.self.inside.may_have_notes;
+  refuses_nulls = c.self.inside.refuses_nulls;
 }
 
 pub returns-clause-call : goal.returns-clause-call

@@ -1,0 +1,185 @@
+-- What a session hands out while it refuses nulls that the table forbids has none.
+use Rattle.std.proofs.Common.{◌≡◌, ◌∙◌, ℕ, ℤ, Bool, true, false, List, [], Option, None, Some, Result, Ok, Err, inl, inr, refl, ap, arith, subst, sym}
+use Rattle.std.proofs.lemmas.Bool.{false≢true}
+use Rattle.std.proofs.lemmas.Bool.Decides.{nat_tests}
+use Rattle.std.specs.Prelude.{MatchBool, MatchOption}
+use Rattle.wl_wire.specs.MessageRows.{event_row, request_row}
+use Rattle.wl_wire.specs.declared.error.IoFault.TheVariants as fault
+use Rattle.wl_link.proofs.Calls.Branches.{either_bool, either_option}
+use Rattle.wl_client.specs.Requests.{SessionMessage}
+use Rattle.wl_server.specs.Deeds.{Handed, handed}
+use Rattle.wl_server.specs.Deeds as deeds
+use Rattle.wl_server.specs.Ids.{ClientParts}
+use Rattle.wl_server.specs.declared.error.ActionError.{ActionError}
+use Rattle.wl_server.specs.declared.error.ActionError.TheVariants as action_error
+use Rattle.wl_server.specs.declared.reading.action.Action.{Action}
+use Rattle.wl_host.proofs.ClientReading.{something_read}
+use Rattle.wl_host.proofs.TellingNulls.{tells_null}
+use Rattle.wl_host.specs.Actions.{HandsOut, Lent, NextAction, ReadsAllowed, ReadsIfAllowed, ReadsNext, Refuses, args_of, fits, is_killed_by, marked_if, null_in, without_kept}
+use Rattle.wl_host.specs.Allowed.{IsAllowedAction, IsAllowedEvent, LendsAllowedAction, LendsAllowedEvent}
+use Rattle.wl_host.specs.Calls.{CoreState}
+use Rattle.wl_host.specs.Client.{ClientCore, HandsAllowed, HandsEvent, HandsNext, HostedClient, LentForEvent, ReadsUnlessKept, RefusesEvent, fits as fits_event, null_in as null_of_event}
+use Rattle.wl_host.specs.Flat.{flat_proxy, flat_resource}
+use Rattle.wl_host.specs.Nulls.{is_refused, signature_of}
+use Rattle.wl_host.specs.Seats.{ledger_of}
+use Rattle.wl_host.specs.Server.{ServerState}
+use Rattle.wl_host.specs.Status.{of_action}
+use Rattle.wl_host.specs.declared.flat.FlatArgument.{FlatArgument}
+use Rattle.wl_host.specs.declared.server.ledger.Ledger.{Ledger}
+use Rattle.wl_host.specs.declared.status.Status.{Status}
+use Rattle.wl_host.specs.declared.status.Status.TheVariants as status
+
+-- ---- what is read
+
+-- nothing was
+pub nothing_allowed : (refuses : Bool) (before after : CoreState) (id : ClientParts) (kept : Option Action) (e : ActionError) → ReadsNext before id kept (Err e) after
+    → ReadsAllowed refuses before id kept (Err e) after
+nothing_allowed false before after id kept e h = h
+nothing_allowed true before after id kept e h = (Err e, after, h, (refl, refl))
+
+module _ (before mid : CoreState) (id : ClientParts) (kept : Option Action) (action : Action) (place : ℕ) where
+  -- an action that is refused
+  pub refused_read : (refuses : Bool) (after : CoreState) → ReadsNext before id kept (Ok action) mid → place ≡ null_in mid (handed action)
+      → is_refused refuses place ≡ true → Refuses mid id (handed action) after → ReadsAllowed refuses before id kept (Err (action_error.Io fault.Pipe)) after
+  refused_read false after h null is r = absurd (false≢true is)
+  refused_read true after h null is r =
+      let e : is_refused true (null_in mid (handed action)) ≡ true = ap (is_refused true) (sym null) ∙ is in
+      (Ok action, mid, h, rw e (refl, r))
+
+  -- one that is not
+  pub allowed_read : (refuses : Bool) → ReadsNext before id kept (Ok action) mid → place ≡ null_in mid (handed action)
+      → is_refused refuses place ≡ false → ReadsAllowed refuses before id kept (Ok action) mid
+  allowed_read false h null is = h
+  allowed_read true h null is =
+      let e : is_refused true (null_in mid (handed action)) ≡ false = ap (is_refused true) (sym null) ∙ is in
+      (Ok action, mid, h, rw e (refl, refl))
+
+-- a message that is not refused has no such null
+none_if_allowed : (n : ℕ) → is_refused true n ≡ false → n ≡ 0
+none_if_allowed n h = grind (arith, nat_tests, is_refused)
+
+-- ---- actions
+
+allowed_action : (core : CoreState) (h : Handed) → null_in core h ≡ 0 → IsAllowedAction core h
+allowed_action core (deeds.Request sender opcode args is_destructor created) none =
+    (tells_null flat_resource (signature_of (request_row core.server.offer.table sender.interface opcode)) args).none.0 none
+allowed_action core (deeds.Bind global object) none = tt
+
+-- the null of what was read; 0 if nothing was
+abbrev null_read : CoreState → Result Action ActionError → ℕ
+null_read core (Ok action) = null_in core (handed action)
+null_read core (Err e) = 0
+
+if_allowed : (mid core : CoreState) (id : ClientParts) (action : Action) (read : Result Action ActionError) (b : Bool) → is_refused true (null_in mid (handed action)) ≡ b
+    → MatchBool b ((read ≡ Err (action_error.Io fault.Pipe)) × Refuses mid id (handed action) core) ((read ≡ Ok action) × (core ≡ mid))
+    → null_read core read ≡ 0
+if_allowed mid core id action read true is (same, refused) = ap (null_read core) same
+if_allowed mid core id action read false is (same, now) =
+    ap (null_read core) same ∙ (ap (λ (c : CoreState). null_in c (handed action)) now ∙ none_if_allowed (null_in mid (handed action)) is)
+
+reads_none : (before core : CoreState) (id : ClientParts) (kept : Option Action) (read : Result Action ActionError) → ReadsAllowed true before id kept read core
+    → null_read core read ≡ 0
+reads_none before core id kept read (found, mid, reads, allowed) = by found allowed
+  where
+    by : (found : Result Action ActionError) → ReadsIfAllowed mid id found read core → null_read core read ≡ 0
+    by (Err e) (same, now) = ap (null_read core) same
+    by (Ok action) h = if_allowed mid core id action read (is_refused true (null_in mid (handed action))) refl h
+
+-- nothing was read
+is_no_action : (e : ActionError) → status.Ok ≡ of_action e → ⊥
+is_no_action (action_error.Io fault.WouldBlock) is = cc
+is_no_action (action_error.Io fault.Pipe) is = cc
+is_no_action (action_error.Io fault.TooBig) is = cc
+is_no_action (action_error.Io fault.Proto) is = cc
+is_no_action (action_error.Io fault.InvalidInput) is = cc
+is_no_action (action_error.Io fault.OutOfMemory) is = cc
+is_no_action (action_error.Io (fault.Other n)) is = cc
+is_no_action action_error.ActionOpen is = cc
+
+-- there was no room
+is_not_kept : status.Ok ≡ status.TooSmall → ⊥
+is_not_kept is = cc
+
+-- the client is not stored
+is_no_client : status.Ok ≡ status.InvalidId → ⊥
+is_no_client is = cc
+
+-- the session has failed
+has_not_failed : status.Ok ≡ status.Failed → ⊥
+has_not_failed is = cc
+
+abbrev HasNone : CoreState → List FlatArgument → List ℕ → Lent → Type 0
+HasNone core arguments bytes lent = LendsAllowedAction core arguments bytes lent × (lent.out.forbidden_null ≡ 0)
+
+hands_none : (core : CoreState) (l l' : Ledger) (read : Result Action ActionError) (arguments : List FlatArgument) (bytes : List ℕ) (lent : Lent) (out : List ℤ)
+    → null_read core read ≡ 0 → HandsOut core l read arguments bytes status.Ok lent out l' → HasNone core arguments bytes lent
+hands_none core l l' (Ok action) arguments bytes lent out none h =
+    elim (either_bool (fits (args_of (handed action)) arguments bytes) h.0) [
+      | inl whole ↦
+          ((l, handed action, whole.1, allowed_action core (handed action) none), ap (λ (t : Lent). t.out.forbidden_null) whole.1 ∙ none)
+      | inr kept ↦ absurd (is_not_kept kept.0)
+    ]
+hands_none core l l' (Err e) arguments bytes lent out none h = absurd (is_no_action e h.0.0)
+
+same_core : (b : Bool) (s : ServerState) → (marked_if b s).core ≡ s.core
+same_core true s = refl
+same_core false s = refl
+
+pub action_allowed : (before after : ServerState) (id : ClientParts) (arguments : List FlatArgument) (bytes : List ℕ) (lent : Lent) (out : List ℤ)
+    → before.refuses_nulls ≡ true → NextAction before id arguments bytes status.Ok lent out after → HasNone after.core arguments bytes lent
+action_allowed before after id arguments bytes lent out on h =
+    elim (either_option (ledger_of id before.seats.ledgers) h) [
+      | inl (none, g) ↦ absurd (is_no_client g.0.0)
+      | inr (l, is, (read, core, l', reads, hands, now)) ↦
+          let found = reads_none before.core core id l.kept read (subst (λ r. ReadsAllowed r before.core id l.kept read core) on reads) in
+          let same : after.core ≡ core = ap (λ (s : ServerState). s.core) now ∙ same_core (is_killed_by read) _ in
+          subst (λ (c : CoreState). HasNone c arguments bytes lent) (sym same) (hands_none core (without_kept l) l' read arguments bytes lent out found hands)
+    ]
+
+-- ---- events
+
+allowed_event : (core : ClientCore) (event : SessionMessage) → null_of_event core event ≡ 0 → IsAllowedEvent core event
+allowed_event core event none =
+    (tells_null flat_proxy (signature_of (event_row core.session.table event.sender.interface event.opcode)) event.args).none.0 none
+
+abbrev HasNoneFor : HostedClient → ClientCore → LentForEvent → LentForEvent → Type 0
+HasNoneFor before core lent lent' = LendsAllowedEvent before core lent lent' × (lent'.out.forbidden_null ≡ 0)
+
+module _ (before after : HostedClient) (core : ClientCore) (event : SessionMessage) (lent lent' : LentForEvent) (out : List ℤ) where
+  abbrev s : HostedClient
+  s = record before { core = core }
+
+  whole : is_refused true (null_of_event core event) ≡ false → HandsEvent s event lent status.Ok out after lent' → HasNoneFor before after.core lent lent'
+  whole is h =
+      elim (either_bool (fits_event event.args lent.arguments lent.bytes) h) [
+        | inl given ↦
+            let none = none_if_allowed (null_of_event core event) is in
+            let same : after.core ≡ core = ap (λ (t : HostedClient). t.core) given.3 in
+            subst (λ (c : ClientCore). HasNoneFor before c lent lent') (sym same)
+            ((event, given.2, allowed_event core event none), ap (λ (t : LentForEvent). t.out.forbidden_null) given.2 ∙ none)
+        | inr kept ↦ absurd (is_not_kept kept.0)
+      ]
+
+  if_whole : (b : Bool) → is_refused true (null_of_event core event) ≡ b
+      → MatchBool b (RefusesEvent s event lent status.Ok out after lent') (HandsEvent s event lent status.Ok out after lent')
+      → HasNoneFor before after.core lent lent'
+  if_whole true is h = absurd (has_not_failed h.0)
+  if_whole false is h = whole is h
+
+some_event : (event : SessionMessage) → None ≡ Some event → ⊥
+some_event event is = cc
+
+pub event_allowed : (before after : HostedClient) (lent lent' : LentForEvent) (out : List ℤ) → before.refuses_nulls ≡ true → HandsNext before lent status.Ok out after lent'
+    → HasNoneFor before after.core lent lent'
+event_allowed before after lent lent' out on (s, kept, core, reads, hands) = by kept reads hands
+  where
+    by : (kept : Option SessionMessage) → ReadsUnlessKept before.kept before.core s kept core
+        → MatchOption kept ((status.Ok ≡ s) × (out ≡ []) × (lent' ≡ lent) × (after ≡ record before { core = core }))
+        (λ event. HandsAllowed before.refuses_nulls (record before { core = core }) event lent status.Ok out after lent')
+        → HasNoneFor before after.core lent lent'
+    by None reads h =
+        let read = something_read before.core core before.kept None (subst (λ (t : Status). ReadsUnlessKept before.kept before.core t None core) (sym h.0) reads) in
+        absurd (some_event read.0 read.1)
+    by (Some event) reads h =
+        if_whole before after core event lent lent' out (is_refused true (null_of_event core event)) refl
+        (subst (λ r. HandsAllowed r (record before { core = core }) event lent status.Ok out after lent') on h)
