@@ -205,8 +205,6 @@ static void act(void)
     nb_status status;
     uint32_t is_kept;
     while ((status = nb_client_next_event(&session, &event, arguments, MOST_ARGUMENTS, bytes, sizeof bytes)) == NB_OK) {
-        if (event.forbidden_null != 0)
-            fail("the server sent a null that the interface does not allow");
         handle(&event, arguments);
         /* The data stand for nothing, so nothing has to be freed if they are not kept. */
         status = nb_is_null(&event.created) ? nb_client_finish_event(&session)
@@ -265,6 +263,7 @@ static void begin(void)
     nb_status status = nb_client_start(&session, &protocol, &fault);
     if (status != NB_OK)
         fail(nb_status_text(status));
+    nb_client_refuse_nulls(&session, 1);
     nb_client_display(&session, &display);
     registry = make(&display, NB_WL_DISPLAY_REQUEST_GET_REGISTRY, 0, nb_int(0), nb_int(0), 1);
     make(&display, NB_WL_DISPLAY_REQUEST_SYNC, AFTER_GLOBALS, nb_int(0), nb_int(0), 1);

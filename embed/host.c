@@ -452,22 +452,12 @@ static nb_status finish(struct client *client, const nb_action *action, struct o
     return kept ? status : NB_CLOSED;
 }
 
-/* A request with a null that its interface does not allow: its client ends. */
-static void refuse(const struct client *client)
-{
-    static const char why[] = "an argument is null and may not be";
-    if (nb_server_refuse_request(&server, &client->id, (const uint8_t *)why, sizeof why - 1) != NB_OK)
-        nb_server_kill_client(&server, &client->id);
-}
-
 static void take(struct client *client, const nb_action *action, const nb_argument *arguments)
 {
     struct object *made;
     if (is_logging)
         log_action(client, action);
-    if (action->forbidden_null != 0)
-        refuse(client);
-    else if (finish(client, action, &made) != NB_OK)
+    if (finish(client, action, &made) != NB_OK)
         nb_server_kill_client(&server, &client->id);
     else if (action->kind == NB_BIND)
         greet(&action->created, action->version);
@@ -626,6 +616,7 @@ static void begin(void)
         fprintf(stderr, "interface %u: fault %u: %s\n", fault.interface, fault.fault, nb_status_text(status));
         exit(1);
     }
+    nb_server_refuse_nulls(&server, 1);
     offer(NB_WL_COMPOSITOR, 4);
     offer(NB_WL_SUBCOMPOSITOR, 1);
     offer(NB_WL_SHM, 1);

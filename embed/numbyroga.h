@@ -46,11 +46,14 @@
  * yours. A session never looks at it: 0 is data like any other, and an object that was given 0 is noted, too. Where
  * `data` is answered for an object that has none, it is 0.
  *
- * Nulls. A peer may send a null string where the table allows none, and a server also a null object. The session hands
- * such a message out, and says so: `forbidden_null` of the action or event is the place of the first such argument,
- * counted from 1, and 0 if there is none. A null string has no bytes, and a null object no data. So look at that number
- * before the arguments. A server's host ends the client by nb_server_refuse_request, and a client's host ends its
- * session. Descriptors of the message are the host's all the same: close them.
+ * Nulls. A peer may send a null string where the table allows none, and a server also a null object. Let the session
+ * refuse such messages: after nb_server_refuse_nulls and nb_client_refuse_nulls none is handed out. The client that
+ * sent it is told why and killed, and a client's session ends.
+ *
+ * Without that the session hands such a message out, and says so: `forbidden_null` of the action or event is the place
+ * of the first such argument, counted from 1, and 0 if there is none. A null string has no bytes, and a null object no
+ * data. So look at that number before the arguments. A server's host ends the client by nb_server_refuse_request, and a
+ * client's host ends its session by nb_client_fail. Descriptors of the message are the host's all the same: close them.
  *
  * Descriptors. Each descriptor has one owner at a time.
  *
@@ -95,7 +98,7 @@ extern "C" {
 
 /* The version of this header. */
 #define NB_VERSION_MAJOR 0
-#define NB_VERSION_MINOR 4
+#define NB_VERSION_MINOR 5
 #define NB_VERSION_PATCH 0
 
 /* The same as one number, which grows with each version: `#if NB_VERSION >= 0x000200`. */
@@ -279,6 +282,17 @@ typedef struct {
     uint32_t kind, is_nullable, interface;
 } nb_argument_row;
 
+/* Reads the signature of a message as libwayland's tables have it (`struct wl_message`): digits for the version since
+ * which the message is there (none, or 0: from version 1 on), and a letter for each argument, behind a question mark if
+ * it may be null: i NB_INT, u NB_UINT, f NB_FIXED, s NB_STRING, o NB_OBJECT, n NB_NEW_ID, a NB_ARRAY, h NB_DESCRIPTOR.
+ *
+ * It writes `since` and `arguments` of the message's row, and the rows of its arguments, with the interface
+ * NB_INTERFACE_ANY: a new id needs another one. It takes no session. Statuses: NB_INVALID_INPUT (the text is no
+ * signature, or the version has more than 32 bits: nothing is written); NB_TOO_SMALL (the message has more arguments
+ * than argument_count: the row of the message is written, and none of an argument). */
+nb_status nb_read_signature(const uint8_t *signature, size_t signature_length, nb_message_row *message,
+                            nb_argument_row *arguments, size_t argument_count);
+
 /* What is wrong with rows. `interface` is the index of the interface's row among those that were passed, from 0. */
 typedef struct {
     uint32_t interface, fault;
@@ -289,7 +303,8 @@ enum {
     NB_FAULT_ROW = 1,            /* a row names what is not there, has a kind that is none, or its name is not UTF-8 */
     NB_FAULT_ZERO_IN_NAME = 2,   /* a name has a zero byte */
     NB_FAULT_DUPLICATE_NAME = 3, /* another interface has the name */
-    NB_FAULT_UNKNOWN_INTERFACE = 4,   /* an argument names an interface that is not in the table */
+    NB_FAULT_UNKNOWN_INTERFACE = 4,   /* an argument names an interface that is not in the table; or a row extends one
+                                         of the three that are in each table beforehand */
     NB_FAULT_TOO_MANY_NEW_IDS = 5,    /* a message makes two objects */
     NB_FAULT_MISSING_CHILD = 6,       /* a new id names no interface */
     NB_FAULT_ARGUMENT_INTERFACES = 7, /* the interfaces of a message are not those of its object arguments */
@@ -358,7 +373,8 @@ typedef struct {
     uint32_t bytes;          /* how many bytes its strings and arrays take, with the zeros behind each */
     nb_global_id global;     /* of a bind */
     uint32_t forbidden_null; /* of a request: 0, or the place, counted from 1, of the first argument that is null where
-                                the table allows no null: refuse it ("Nulls" at the head of this file) */
+                                the table allows no null: refuse it ("Nulls" at the head of this file). 0 after
+                                nb_server_refuse_nulls */
 } nb_action;
 
 /* What the server tells a client: 104 bytes. It is open until it is finished. */
@@ -372,7 +388,8 @@ typedef struct {
     nb_object_id created;    /* the object that the event made; null if none was */
     uint32_t version;        /* of `created`; 0 if none was */
     uint32_t has_data;       /* whether the sender has data (0 or 1) */
-    uint32_t forbidden_null; /* as of an action: 0, or the place of the first argument that is null and may not be */
+    uint32_t forbidden_null; /* as of an action: 0, or the place of the first argument that is null and may not be. 0
+                                after nb_client_refuse_nulls */
 } nb_event;
 
 /* What a client asks its session to send: 64 bytes. */
@@ -501,6 +518,17 @@ nb_status nb_server_merge_interfaces(nb_server *place, const uint8_t *text, size
  * then). Else 0. A call that answers NB_OUT_OF_MEMORY for its own copies leaves it. */
 nb_status nb_server_memory_refused(nb_server *place, uint32_t *is_refused);
 
+/* Sets whether requests with a null that the table forbids are refused: they are if `is_on` is not 0. At first they are
+ * not. The next nb_server_next_action that meets such a request, also one that was kept, does not hand it out, and
+ * answers NB_CLOSED, as for a request that the session refuses by itself:
+ *
+ *   - Its client is told by wl_display.error of its wl_display, with the code 1 (invalid_method) and a text as "Invalid
+ *     null argument 2 in request thing.name.", in which arguments are counted from 1. It is killed, and a note says so.
+ *     If there is no memory for the text, it is killed without being told.
+ *   - The request is finished. If it ends its sender, a note is made of that; what it made has no data, and no note.
+ *   - Its descriptors come by nb_server_next_dropped once nb_server_cleanup has taken the client out. */
+nb_status nb_server_refuse_nulls(nb_server *place, uint32_t is_on);
+
 /* ======== A server's session: clients */
 
 /* Sets how far the buffers of clients that are inserted from now on may grow, in bytes: the one of what is to be sent,
@@ -586,7 +614,7 @@ nb_status nb_server_send_failed(nb_server *place, const nb_client_id *client);
  *   - NB_INVALID_ID: the client is not there (any more).
  *   - NB_OPEN: an action of the client is open.
  *   - NB_CLOSED: the client is killed. It was before, its connection has ended, or it broke the protocol by a
- *     well-formed request, and is told so by wl_display.error.
+ *     well-formed request, and is told so by wl_display.error; by a null, too, after nb_server_refuse_nulls.
  *   - NB_PROTOCOL_ERROR: what it sent is no message that it may send. It is killed.
  *   - NB_WOULD_BLOCK: no whole message is there. Receive first.
  *   - NB_OUT_OF_MEMORY: read again later. What was handled stays handled.
@@ -798,9 +826,24 @@ nb_status nb_client_memory_refused(nb_client *place, uint32_t *is_refused);
  * first. */
 nb_status nb_client_set_max_buffer_size(nb_client *place, uint32_t has_limit, uint64_t size);
 
+/* Sets whether events with a null that the table forbids are refused: they are if `is_on` is not 0. At first they are
+ * not. The next nb_client_next_event that meets such an event, also one that was kept, does not hand it out, and answers
+ * NB_FAILED. The session has ended as by nb_client_fail: its error is a protocol error of code 0 and no object, with a
+ * text as "Invalid null argument 2 in event thing.name.", in which arguments are counted from 1; NB_OUT_OF_MEMORY if
+ * there is none for the text. An error that it has stays. */
+nb_status nb_client_refuse_nulls(nb_client *place, uint32_t is_on);
+
 /* Sets how many bytes wait in what nb_client_to_send answers until no more are put there, as nb_server_set_room. There
  * is no such limit at first. */
 nb_status nb_client_set_room(nb_client *place, uint64_t room);
+
+/* Sets whether messages of unknown senders are passed over, as libwayland does: they are if `passes` is not 0. At first
+ * they are not, and such a message ends the session. A sender is unknown if its number has no object: none was made
+ * there, or one that you destroyed and whose number the server has freed since. Nothing is known of such a message but
+ * its length: it takes no descriptor, and one that came with it goes out with the next event that has one. An event of
+ * an object that you destroyed is dropped with its descriptors, with this setting or without it, if its interface has
+ * it; if not, it is passed over, too. Set it before anything is received. */
+nb_status nb_client_pass_over_unknown_senders(nb_client *place, uint32_t passes);
 
 /* The display, which is object 1. */
 nb_status nb_client_display(nb_client *place, nb_object_id *display);
@@ -823,8 +866,9 @@ nb_status nb_client_receive_failed(nb_client *place, int32_t number);
 nb_status nb_client_send_failed(nb_client *place, int32_t number);
 
 /* Ends the session at once, for a reason of yours: unless it has an error, its error is NB_IO_ERROR with this errno. No
- * event comes any more, also none that was kept, and one that is open is closed: an object that it made has no data. All
- * descriptors that the session has come by nb_client_next_dropped. It takes no memory. */
+ * event comes any more, also none that was kept, and nothing more is sent. An event that is open is closed, and not
+ * finished: an object that it made has no data, and a sender that it ends is there and not noted. All descriptors that
+ * the session has come by nb_client_next_dropped. It takes no memory. */
 nb_status nb_client_fail(nb_client *place, int32_t number);
 
 /* ======== A client's session: events and requests */
@@ -835,7 +879,8 @@ nb_status nb_client_fail(nb_client *place, int32_t number);
  *
  * Statuses; an event that was kept comes before any:
  *
- *   - NB_FAILED: the session has an error, or gets one now (nb_client_last_error).
+ *   - NB_FAILED: the session has an error, or gets one now (nb_client_last_error); by a null, too, after
+ *     nb_client_refuse_nulls.
  *   - NB_OPEN: an event is open.
  *   - NB_WOULD_BLOCK: no whole message is there. Receive first.
  *   - NB_OUT_OF_MEMORY: read again later. What was handled stays handled.
@@ -872,6 +917,10 @@ nb_status nb_client_send_request(nb_client *place, const nb_request *request, co
 
 /* ======== A client's session: objects */
 
+/* The object with this number, also one that you destroyed, as long as its number is not free. Statuses: NB_INVALID_ID (no
+ * object has the number). */
+nb_status nb_client_object_for_protocol_id(nb_client *place, uint32_t number, nb_object_id *object);
+
 /* An object's number, interface and version. Statuses: NB_INVALID_ID (also of one that the client has destroyed). */
 nb_status nb_client_object_info(nb_client *place, const nb_object_id *object, nb_object_info *info);
 
@@ -888,10 +937,11 @@ nb_status nb_client_set_object_data(nb_client *place, const nb_object_id *object
 nb_status nb_client_destroy_object(nb_client *place, const nb_object_id *object);
 
 /* Takes an object out that both sides have given up: the client has destroyed it, by nb_client_destroy_object, by a
- * request or by an event, and the server deleted its id (wl_display.delete_id) before that. Its number can be used again,
- * and its id names nothing. An object that the client destroyed first leaves by itself when the server deletes its id.
- * Without this call the number of an object whose id the server deleted first is never used again, and the session keeps
- * the object. Statuses: NB_INVALID_ID (also of an object that one side has not given up). */
+ * request or by an event, and the server deleted its id (wl_display.delete_id) before that. Its number can be used
+ * again, and its id names nothing; nb_client_next_note tells of it all the same. An object that the client destroyed
+ * first leaves by itself when the server deletes its id. Without this call the number of an object whose id the server
+ * deleted first is never used again, and the session keeps the object. It takes no memory. Statuses: NB_INVALID_ID
+ * (also of an object that one side has not given up). */
 nb_status nb_client_reclaim(nb_client *place, const nb_object_id *object);
 
 /* ======== A client's session: sending */
@@ -919,9 +969,21 @@ nb_status nb_client_last_error(nb_client *place, nb_error *error, uint8_t *text,
  * data: those that it had when it was destroyed. Each object comes once. Statuses: NB_WOULD_BLOCK (there is none). */
 nb_status nb_client_next_note(nb_client *place, nb_object_id *destroyed, uint64_t *data);
 
+/* Sets whether the session keeps the ids of the objects whose numbers become free as events are read, for
+ * nb_client_next_freed. With 0 it does not, as in a new session, and those that wait are dropped. While they are kept,
+ * nb_client_next_event asks for memory before it reads wl_display.delete_id; without memory it answers NB_OUT_OF_MEMORY,
+ * and the message stays unread. */
+nb_status nb_client_keep_freed(nb_client *place, uint32_t keeps);
+
+/* The next id of an object whose number became free as events were read, in the order in which that came about. Each comes
+ * once, and names nothing any more: so drop what you have by it. The program had destroyed the object (nb_client_next_note),
+ * and then the server deleted its id, or made an object of its own at its number. An object that nb_client_reclaim takes out
+ * is not told here. Statuses: NB_WOULD_BLOCK (there is none; `object` is as it was). */
+nb_status nb_client_next_freed(nb_client *place, nb_object_id *object);
+
 /* The next descriptor that the session had and no call will hand out: that of an event for an object that was
- * destroyed, once nb_client_next_event has read the event; or, once the session has failed, any that is left. Close it.
- * Statuses: NB_WOULD_BLOCK (there is none). */
+ * destroyed, once nb_client_next_event has read the event; or, once the session has failed and no event is kept, any
+ * that is left. Close it. Statuses: NB_WOULD_BLOCK (there is none). */
 nb_status nb_client_next_dropped(nb_client *place, int32_t *descriptor);
 
 /* ======== Shorter to write */

@@ -43,10 +43,6 @@ static int act(void)
     uint32_t kept;
     int is_done = 0;
     while ((status = nb_client_next_event(&session, &event, arguments, 20, bytes, sizeof bytes)) == NB_OK) {
-        if (event.forbidden_null != 0) {
-            fprintf(stderr, "the server sent a null that the interface does not allow\n");
-            exit(1);
-        }
         if (event.sender.interface == NB_WL_REGISTRY && event.opcode == NB_WL_REGISTRY_EVENT_GLOBAL)
             printf("%u: %.*s %u\n", nb_uint_of(&arguments[0]), (int)arguments[1].length,
                    (const char *)bytes + arguments[1].at, nb_uint_of(&arguments[2]));
@@ -88,6 +84,7 @@ int main(void)
     if (connection < 0)
         return 1;
     must(nb_client_start(&session, &protocol, &fault));
+    must(nb_client_refuse_nulls(&session, 1)); /* no event has a null that its interface forbids */
     ask(NB_WL_DISPLAY_REQUEST_GET_REGISTRY);
     ask(NB_WL_DISPLAY_REQUEST_SYNC);
     send_all(connection);

@@ -44,10 +44,6 @@ static nb_status finish(int i, const nb_action *action, const nb_argument *argum
             close(arguments[k].value);
             unread[i]--;
         }
-    if (action->forbidden_null != 0) { /* its interface allows no null there: the client ends */
-        static const char why[] = "an argument is null and may not be";
-        return nb_server_refuse_request(&server, &clients[i], (const uint8_t *)why, sizeof why - 1);
-    }
     if (action->kind == NB_BIND) {
         nb_status status = nb_server_finish_bind(&server, &clients[i], 0, &kept);
         if (status == NB_OK && action->created.interface == NB_WL_OUTPUT)
@@ -162,6 +158,7 @@ int main(int argc, char **argv)
     nb_table_fault fault;
     nb_global_id output;
     must(nb_server_start(&server, &protocol, &fault));
+    must(nb_server_refuse_nulls(&server, 1)); /* no request has a null that its interface forbids */
     must(nb_offer(&server, NB_WL_OUTPUT, 3, &output));
     if (getrlimit(RLIMIT_NOFILE, &files) == 0) {
         files.rlim_cur = files.rlim_max; /* all that clients may make this process hold */

@@ -32,6 +32,7 @@ static uint8_t bytes[NB_MOST_WAITING + GUARD];
 static int32_t descriptors[NB_MOST_DESCRIPTORS + 1];
 static uint8_t is_out[MOST_NUMBERS], came[MOST_NUMBERS]; /* a descriptor is the session's; how often it came back */
 static int32_t next_number;
+static uint32_t server_refuses, client_refuses; /* whether nulls are refused */
 
 static void must(int holds, const char *what)
 {
@@ -234,10 +235,11 @@ static void saw_info(const nb_object_info *info)
 }
 
 /* The argument at this place, counted from 1, is null; 0 is none. */
-static void check_null(uint32_t place, uint32_t count)
+static void check_null(uint32_t place, uint32_t count, uint32_t is_refused)
 {
     must(place <= count, "the null that is told of is an argument");
     if (place > 0) {
+        must(!is_refused, "a null that is refused is not handed out");
         const nb_argument *told = &arguments[place - 1];
         must(told->kind == NB_NULL_STRING || (told->kind == NB_OBJECT && nb_is_null(&told->object)), "it is null");
     }
@@ -261,7 +263,7 @@ static void next_action(void)
         saw(action.version);
         saw_global(&action.global);
         check_arguments(action.arguments, room, action.bytes, byte_room, objects);
-        check_null(action.forbidden_null, action.arguments);
+        check_null(action.forbidden_null, action.arguments, server_refuses);
         keep(objects, action.created);
         keep(objects, action.sender);
     } else if (status == NB_TOO_SMALL) {
@@ -286,7 +288,7 @@ static void next_event(void)
         saw(event.version);
         saw(event.has_data);
         check_arguments(event.arguments, room, event.bytes, byte_room, own);
-        check_null(event.forbidden_null, event.arguments);
+        check_null(event.forbidden_null, event.arguments, client_refuses);
         keep(own, event.created);
         keep(own, event.sender);
     } else if (status == NB_TOO_SMALL) {
@@ -431,13 +433,14 @@ static void call_of_server(void)
         break;
     case 18:
         id = any_client();
-        switch (take() % 6) {
+        switch (take() % 7) {
         case 0: see(nb_server_kill_client(&server, &id)); break;
         case 1: see(nb_server_received_end(&server, &id)); break;
         case 2: see(nb_server_receive_failed(&server, &id, take())); break;
         case 3: see(nb_server_send_failed(&server, &id)); break;
         case 4: see(nb_server_set_room(&server, &id, take())); break;
         case 5: see(nb_server_set_max_buffer_size(&server, &id, take_word())); break;
+        case 6: see(nb_server_refuse_nulls(&server, server_refuses = take() % 2)); break;
         }
         break;
     case 19: settle(); break;
@@ -575,6 +578,9 @@ static void call_of_client(void)
             saw_object(&object);
             saw(number);
         }
+        while (see(nb_client_next_freed(&session, &object)) == NB_OK)
+            saw_object(&object);
+        see(nb_client_keep_freed(&session, take() & 3));
         if (see(nb_client_last_error(&session, &error, bytes, NB_MOST_BYTES)) == NB_OK) {
             saw(error.kind);
             saw(error.status);
@@ -590,6 +596,12 @@ static void call_of_client(void)
         case 1: see(nb_client_receive_failed(&session, take())); break;
         case 2: see(nb_client_send_failed(&session, take())); break;
         case 3: see(nb_client_fail(&session, take())); break;
+        case 4: see(nb_client_pass_over_unknown_senders(&session, take() % 2)); break;
+        case 5:
+            if (see(nb_client_object_for_protocol_id(&session, take(), &object)) == NB_OK)
+                saw_object(&object);
+            break;
+        case 6: see(nb_client_refuse_nulls(&session, client_refuses = take() % 2)); break;
         default: see(nb_client_set_room(&session, take())); break;
         }
         break;
@@ -645,6 +657,7 @@ int LLVMFuzzerTestOneInput(const uint8_t *data, size_t size)
     memset(is_out, 0, sizeof is_out);
     memset(came, 0, sizeof came);
     next_number = 0;
+    server_refuses = client_refuses = 0;
     begin();
     /* First the server's calls: each of its descriptors has to be back at its end. */
     size_t of_client = size / 4;

@@ -228,16 +228,21 @@ static int is_deleted(uint32_t number)
     return come(NULL, 0) == NB_OK && next_event() == NB_WOULD_BLOCK;
 }
 
+/* Makes an object. */
+static int makes(nb_object_id *made)
+{
+    const nb_argument placeholder = nb_placeholder();
+    const nb_request make = { object, NB_QUAD_REQUEST_MAKE, 1, 75, 0, 0, 0, 0 };
+    return nb_client_send_request(&session, &make, &placeholder, 1, NULL, 0, made) == NB_OK && sends_on();
+}
+
 /* An object whose id the server deletes first, and which the client destroys then. Whether all that is answered as it
  * has to be. */
 static int lives(nb_object_id *made)
 {
     uint64_t data = 0;
     nb_object_id noted;
-    const nb_argument placeholder = nb_placeholder();
-    const nb_request make = { object, NB_QUAD_REQUEST_MAKE, 1, 75, 0, 0, 0, 0 };
-    return nb_client_send_request(&session, &make, &placeholder, 1, NULL, 0, made) == NB_OK && sends_on() &&
-           nb_client_reclaim(&session, made) == NB_INVALID_ID && is_deleted(made->number) &&
+    return makes(made) && nb_client_reclaim(&session, made) == NB_INVALID_ID && is_deleted(made->number) &&
            nb_client_reclaim(&session, made) == NB_INVALID_ID &&
            nb_client_object_data(&session, made, &data) == NB_OK && data == 75 &&
            nb_client_destroy_object(&session, made) == NB_OK &&
@@ -270,6 +275,131 @@ static void reclaimed(void)
     HOLDS(is_deleted(3));
     IS(nb_client_object_data(&session, &object, &data), NB_INVALID_ID);
     IS(nb_client_reclaim(&session, &object), NB_INVALID_ID);
+    OK(nb_client_end(&session));
+}
+
+/* What a number holds, as long as it is not free. */
+static void by_number(void)
+{
+    nb_object_id found;
+    connect_session();
+    OK(nb_client_object_for_protocol_id(&session, 3, &found));
+    HOLDS(nb_same_object(&found, &object) && found.interface == NB_QUAD);
+    IS(nb_client_object_for_protocol_id(&session, 0, &found), NB_INVALID_ID);
+    IS(nb_client_object_for_protocol_id(&session, 4, &found), NB_INVALID_ID);
+    IS(nb_client_object_for_protocol_id(&session, 0xff000000, &found), NB_INVALID_ID);
+    OK(nb_client_destroy_object(&session, &object));
+    OK(nb_client_object_for_protocol_id(&session, 3, &found));
+    HOLDS(nb_same_object(&found, &object));
+    HOLDS(is_deleted(3));
+    IS(nb_client_object_for_protocol_id(&session, 3, &found), NB_INVALID_ID);
+    OK(nb_client_end(&session));
+}
+
+/* Events of numbers that have no object. */
+static void unknown_senders(void)
+{
+    nb_error error;
+    connect_session();
+    put(99, 0, "uu", 1, 2);
+    OK(come(NULL, 0));
+    IS(next_event(), NB_FAILED);
+    OK(nb_client_last_error(&session, &error, bytes, sizeof bytes));
+    HOLDS(error.kind == NB_ERROR_OF_PROTOCOL);
+    OK(nb_client_end(&session));
+    /* Passed over, of whatever range; then an event of an object. A destroyed object's are dropped, and when its number is
+     * free they are passed over. */
+    connect_session();
+    OK(nb_client_pass_over_unknown_senders(&session, 7));
+    put(99, 0, "uu", 1, 2);
+    put(0, 9, "");
+    put(0xff000009, 1, "u", 5);
+    put(3, NB_QUAD_EVENT_MOVED, "u", 1);
+    OK(come(NULL, 0));
+    OK(next_event());
+    HOLDS(event.opcode == NB_QUAD_EVENT_MOVED && arguments[0].value == 1);
+    OK(nb_client_finish_event(&session));
+    OK(nb_client_destroy_object(&session, &object));
+    put(3, NB_QUAD_EVENT_MOVED, "u", 1);
+    put(3, 77, "");
+    OK(come(NULL, 0));
+    IS(next_event(), NB_WOULD_BLOCK);
+    HOLDS(is_deleted(3));
+    put(3, NB_QUAD_EVENT_MOVED, "u", 1);
+    OK(come(NULL, 0));
+    IS(next_event(), NB_WOULD_BLOCK);
+    OK(nb_client_pass_over_unknown_senders(&session, 0));
+    put(3, NB_QUAD_EVENT_MOVED, "u", 1);
+    OK(come(NULL, 0));
+    IS(next_event(), NB_FAILED);
+    OK(nb_client_end(&session));
+}
+
+/* Whether this object, and no other, is the next whose number became free. */
+static int is_freed(const nb_object_id *expected)
+{
+    nb_object_id freed;
+    return nb_client_next_freed(&session, &freed) == NB_OK && nb_same_object(&freed, expected);
+}
+
+/* The server makes the first object of its range, which has this id then. */
+static int is_made(nb_object_id *made)
+{
+    uint32_t is_kept = 0;
+    put(3, NB_QUAD_EVENT_MADE, "u", 0xff000000);
+    if (come(NULL, 0) != NB_OK || next_event() != NB_OK)
+        return 0;
+    *made = event.created;
+    return made->number == 0xff000000 && nb_client_finish_event_with(&session, 76, &is_kept) == NB_OK && is_kept == 1;
+}
+
+/* The ids of objects whose numbers become free are kept, if that is wanted. */
+static void freed(void)
+{
+    nb_object_id made, other, third, noted, id = { .number = 7 };
+    uint64_t data;
+    connect_session();
+    /* Without the setting none is kept. */
+    HOLDS(makes(&made) && made.number == 4);
+    OK(nb_client_destroy_object(&session, &made));
+    HOLDS(is_deleted(4));
+    OK(nb_client_next_note(&session, &noted, &data));
+    IS(nb_client_next_freed(&session, &id), NB_WOULD_BLOCK);
+    HOLDS(id.number == 7);
+    OK(nb_client_keep_freed(&session, 1));
+    IS(nb_client_next_freed(&session, &id), NB_WOULD_BLOCK);
+    /* One that the program has not destroyed keeps its number. Of one that is reclaimed the answer tells. */
+    HOLDS(lives(&made) && made.number == 4);
+    OK(nb_client_reclaim(&session, &made));
+    IS(nb_client_next_freed(&session, &id), NB_WOULD_BLOCK);
+    /* They come in the order in which the server deletes the ids, in one reading and over two. */
+    HOLDS(makes(&made) && makes(&other) && makes(&third) && third.number == 6);
+    OK(nb_client_destroy_object(&session, &made));
+    OK(nb_client_destroy_object(&session, &other));
+    OK(nb_client_destroy_object(&session, &third));
+    IS(nb_client_next_freed(&session, &id), NB_WOULD_BLOCK);
+    put(1, 1, "u", 6);
+    put(1, 1, "u", 4);
+    HOLDS(come(NULL, 0) == NB_OK && next_event() == NB_WOULD_BLOCK);
+    HOLDS(is_freed(&third));
+    HOLDS(is_deleted(5));
+    HOLDS(is_freed(&made) && is_freed(&other));
+    IS(nb_client_next_freed(&session, &id), NB_WOULD_BLOCK);
+    /* The number is used again, by an object of another id. */
+    HOLDS(makes(&other) && other.number == 4 && !nb_same_object(&other, &made));
+    OK(nb_client_destroy_object(&session, &other));
+    HOLDS(is_deleted(4) && is_freed(&other));
+    /* One of the server's range whose number the server takes for another object. */
+    HOLDS(is_made(&made));
+    OK(nb_client_destroy_object(&session, &made));
+    IS(nb_client_next_freed(&session, &id), NB_WOULD_BLOCK);
+    HOLDS(is_made(&other) && !nb_same_object(&other, &made) && is_freed(&made));
+    /* What waits is dropped when they are kept no more. */
+    OK(nb_client_destroy_object(&session, &other));
+    HOLDS(is_deleted(0xff000000));
+    OK(nb_client_keep_freed(&session, 0));
+    OK(nb_client_keep_freed(&session, 1));
+    IS(nb_client_next_freed(&session, &id), NB_WOULD_BLOCK);
     OK(nb_client_end(&session));
 }
 
@@ -406,6 +536,9 @@ int main(void)
     events();
     not_kept();
     reclaimed();
+    by_number();
+    unknown_senders();
+    freed();
     ends();
     both(1);
     both(7);

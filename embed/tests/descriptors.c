@@ -550,6 +550,33 @@ static void of_events(void)
     next_number = 0;
 }
 
+/* A message that is passed over takes none: the one that came with it goes out with the next event. */
+static void of_an_unknown_sender(void)
+{
+    nb_event event;
+    int32_t number;
+    const int32_t *numbers = fresh(3);
+    const int32_t first = numbers[0];
+    begin_told();
+    OK(nb_client_pass_over_unknown_senders(&told, 1));
+    put(99, 0, "u", 7);
+    OK(nb_client_received(&told, wire, wire_length, numbers, 1));
+    wire_length = 0;
+    IS(nb_client_next_event(&told, &event, arguments, 16, bytes, sizeof bytes), NB_WOULD_BLOCK);
+    IS(nb_client_next_dropped(&told, &number), NB_WOULD_BLOCK);
+    put(LIVE, 0, "");
+    OK(nb_client_received(&told, wire, wire_length, numbers + 1, 2));
+    wire_length = 0;
+    OK(nb_client_next_event(&told, &event, arguments, 16, bytes, sizeof bytes));
+    HOLDS(event.sender.number == LIVE && arguments[0].value == first && arguments[1].value == first + 1);
+    OK(nb_client_finish_event(&told));
+    OK(nb_client_fail(&told, 5));
+    OK(nb_client_next_dropped(&told, &number));
+    HOLDS(number == first + 2);
+    IS(nb_client_next_dropped(&told, &number), NB_WOULD_BLOCK);
+    OK(nb_client_end(&told));
+}
+
 int main(void)
 {
     received();
@@ -559,5 +586,6 @@ int main(void)
     of_a_failed_client(0);
     of_a_failed_client(1);
     of_events();
+    of_an_unknown_sender();
     return tell();
 }

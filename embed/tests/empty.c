@@ -21,6 +21,7 @@ static void server_calls(void)
     NONE(nb_server_extend(&server, &quad, &fault));
     NONE(nb_server_memory_refused(&server, &number));
     NONE(nb_server_set_default_max_buffer_size(&server, 1));
+    NONE(nb_server_refuse_nulls(&server, 1));
     NONE(nb_server_set_max_buffer_size(&server, &id, 1));
     NONE(nb_server_set_room(&server, &id, 1));
     NONE(nb_server_insert_client(&server, 1, 1, &global, 1, &id));
@@ -75,7 +76,9 @@ static void client_calls(void)
     NONE(nb_client_extend(&session, &quad, &fault));
     NONE(nb_client_memory_refused(&session, &number));
     NONE(nb_client_set_max_buffer_size(&session, 1, 1));
+    NONE(nb_client_refuse_nulls(&session, 1));
     NONE(nb_client_set_room(&session, 1));
+    NONE(nb_client_pass_over_unknown_senders(&session, 1));
     NONE(nb_client_display(&session, &object));
     NONE(nb_client_received(&session, bytes, 8, descriptors, 1));
     NONE(nb_client_received_end(&session));
@@ -86,6 +89,7 @@ static void client_calls(void)
     NONE(nb_client_finish_event(&session));
     NONE(nb_client_finish_event_with(&session, 1, &number));
     NONE(nb_client_send_request(&session, &request, arguments, 0, bytes, 0, &object));
+    NONE(nb_client_object_for_protocol_id(&session, 1, &object));
     NONE(nb_client_object_info(&session, &object, &info));
     NONE(nb_client_object_data(&session, &object, &data));
     NONE(nb_client_set_object_data(&session, &object, 1));
@@ -96,6 +100,8 @@ static void client_calls(void)
     NONE(nb_client_sent(&session, 1));
     NONE(nb_client_last_error(&session, &error, bytes, 9));
     NONE(nb_client_next_note(&session, &object, &data));
+    NONE(nb_client_keep_freed(&session, 1));
+    NONE(nb_client_next_freed(&session, &object));
     NONE(nb_client_next_dropped(&session, descriptors));
     HOLDS(number == 7 && data == 7 && session.state == 0);
 }

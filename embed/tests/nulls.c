@@ -1,5 +1,5 @@
 /* A null where the table allows none is told by its place, counted from 1: of a request to a server's session, and of
- * an event to a client's. The messages are written here by hand. */
+ * an event to a client's. Or the session refuses such a message. The messages are written here by hand. */
 #include "tests.h"
 
 /* An interface behind `quad`. Its request `tie` has 70 strings: more than a word has bits. The first alone may be null.
@@ -134,6 +134,63 @@ static void refused(void)
     OK(nb_server_end(&server));
 }
 
+/* The session refuses it, once that is set: its client is told why and killed, and its descriptor is given back with
+ * those that nobody takes. What was kept for want of room is refused, too. */
+static void refused_by_the_session(int is_kept)
+{
+    static const char why[] = "Invalid null argument 1 in request quad.give.";
+    nb_gone gone;
+    nb_note note;
+    int32_t descriptor;
+    begin();
+    if (!is_kept)
+        OK(nb_server_refuse_nulls(&server, 1));
+    give_null();
+    if (is_kept) {
+        IS(nb_server_next_action(&server, &client, &action, arguments, 0, bytes, sizeof bytes), NB_TOO_SMALL);
+        OK(nb_server_refuse_nulls(&server, 7));
+    }
+    memset(&action, 0xee, sizeof action);
+    IS(next_action(), NB_CLOSED);
+    HOLDS(action.kind == 0 && action.arguments == 0 && action.bytes == 0 && action.forbidden_null == 0);
+    HOLDS(nb_is_null(&action.sender) && nb_is_null(&action.created));
+    IS(next_action(), NB_CLOSED);
+    IS(nb_server_finish_request(&server, &client), NB_NOT_OPEN);
+    IS(nb_server_next_dropped(&server, &descriptor), NB_WOULD_BLOCK);
+    OK(nb_server_cleanup(&server));
+    OK(nb_server_next_gone(&server, &gone, bytes, sizeof bytes, descriptors, NB_MOST_DESCRIPTORS));
+    put(1, 0, "uus", 1, 1, why);
+    HOLDS(is_wire(bytes, gone.waiting.bytes) && gone.waiting.descriptors == 0);
+    OK(nb_server_next_dropped(&server, &descriptor));
+    HOLDS(descriptor == 61);
+    IS(nb_server_next_dropped(&server, &descriptor), NB_WOULD_BLOCK);
+    OK(nb_server_next_note(&server, &note, bytes, sizeof bytes));
+    HOLDS(note.kind == NB_INSERTED);
+    OK(nb_server_next_note(&server, &note, bytes, sizeof bytes));
+    HOLDS(note.kind == NB_KILLED && note.is_protocol_error && note.code == 1 && note.object_number == 1);
+    HOLDS(note.message_length == strlen(why) && memcmp(bytes, why, strlen(why)) == 0);
+    OK(nb_server_end(&server));
+}
+
+/* What the table allows is handed out all the same, and all nulls once more if that is set. */
+static void allowed_beside_refused(void)
+{
+    nb_object_id object;
+    begin();
+    OK(nb_server_extend(&server, &knot, &fault));
+    OK(nb_server_create_object(&server, &client, KNOT, 1, 1, 0, &object));
+    OK(nb_server_refuse_nulls(&server, 1));
+    HOLDS(told_of_tie(&object, 0, 0) == 0);
+    HOLDS(told_of_tie(&object, 1, 1) == 0);
+    OK(nb_server_refuse_nulls(&server, 0));
+    HOLDS(told_of_tie(&object, MANY, MANY) == MANY);
+    OK(nb_server_refuse_nulls(&server, 1));
+    put_tie(object.number, 1, MANY);
+    OK(arrive(NULL, 0));
+    IS(nb_server_next_action(&server, &client, &action, many, MANY, bytes, sizeof bytes), NB_CLOSED);
+    OK(nb_server_end(&server));
+}
+
 /* ---- events */
 
 static nb_object_id ask(const nb_object_id *sender, const nb_request *request, const nb_argument *with, size_t count,
@@ -215,13 +272,47 @@ static void kept(void)
     OK(nb_client_end(&session));
 }
 
+/* The session ends by such an event, once that is set, and says which it was. */
+static void refused_events(int is_kept)
+{
+    static const char why[] = "Invalid null argument 2 in event knot.tied.";
+    nb_error error;
+    connect_session();
+    if (!is_kept) {
+        OK(nb_client_refuse_nulls(&session, 1));
+        put(4, TIED, "uu0s", 0, 3, "x");
+        HOLDS(told_of_event(4, TOLD) == 0);
+    }
+    put(4, TIED, "uu00", 0, 0);
+    OK(nb_client_received(&session, wire, wire_length, NULL, 0));
+    wire_length = 0;
+    if (is_kept) {
+        IS(nb_client_next_event(&session, &event, arguments, 0, bytes, 0), NB_TOO_SMALL);
+        OK(nb_client_refuse_nulls(&session, 7));
+    }
+    memset(&event, 0xee, sizeof event);
+    const nb_event as_it_was = event;
+    IS(nb_client_next_event(&session, &event, arguments, 16, bytes, sizeof bytes), NB_FAILED);
+    HOLDS(memcmp(&event, &as_it_was, sizeof event) == 0);
+    IS(nb_client_finish_event(&session), NB_NOT_OPEN);
+    OK(nb_client_last_error(&session, &error, bytes, sizeof bytes));
+    HOLDS(error.kind == NB_ERROR_OF_PROTOCOL && error.code == 0 && error.object_number == 0);
+    HOLDS(error.interface_length == 0 && error.message_length == strlen(why) && memcmp(bytes, why, strlen(why)) == 0);
+    OK(nb_client_end(&session));
+}
+
 int main(void)
 {
     fill_rows();
     places();
     allowed();
     refused();
+    refused_by_the_session(0);
+    refused_by_the_session(1);
+    allowed_beside_refused();
     events();
     kept();
+    refused_events(0);
+    refused_events(1);
     return tell();
 }

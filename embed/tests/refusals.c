@@ -112,6 +112,9 @@ static void serve(void)
         put(3, NB_QUAD_REQUEST_GIVE, "sa", "some text", "array", 5);
         put(1, 0, "u", 5);
         put(4, NB_QUAD_REQUEST_DESTROY, "");
+        see(nb_server_refuse_nulls(&server, round == 2));
+        if (round == 2)
+            put(3, NB_QUAD_REQUEST_GIVE, "0a", "array", 5);
         receive(3);
         take_actions();
         if (see(nb_server_create_object(&server, &client, NB_QUAD + 1, 1, 1, 1, &made)) == NB_OK) {

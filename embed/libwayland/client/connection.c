@@ -274,6 +274,7 @@ static bool begin_session(struct wl_display *display)
     if (!grow_text(display, FIRST_TEXT) || nb_client_start(&display->session, &nothing, &fault) != NB_OK)
         return false;
     nb_client_set_room(&display->session, LIBWAYLAND_ROOM);
+    nb_client_pass_over_unknown_senders(&display->session, 1);
     nb_client_display(&display->session, &id);
     set_session_id(&display->proxy, &id);
     display->proxy.object.interface = &wl_display_interface;

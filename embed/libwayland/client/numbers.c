@@ -1,5 +1,5 @@
-/* A connection's objects by their numbers, and when a number is free again. It touches the numbers of a display, and
- * asks its session which are free.
+/* A connection's proxies by their numbers, and when a number is free again. It touches the numbers of a display, and
+ * asks its session who is there.
  *
  * A number of the client's may be used again when two things have happened: the program has destroyed the object, and
  * the server has said that it knows of that, by wl_display.delete_id. Programs see events later than they are read, and
@@ -7,7 +7,6 @@
  * (a frame's wp_presentation_feedback, ..). The session remembers that, and nb_client_reclaim frees the number when the
  * object is destroyed. */
 #include "client.h"
-#include "../common/log.h"
 #include <stdlib.h>
 
 enum { FIRST_SLOTS = 16 };
@@ -20,48 +19,40 @@ bool numbers_put(struct numbers *numbers, struct wl_proxy *proxy)
         size_t wanted = count > 0 ? count : FIRST_SLOTS;
         while (wanted <= at)
             wanted *= 2;
-        struct slot *slots = realloc(numbers->slots[of_server], wanted * sizeof *slots);
-        if (!slots)
+        struct wl_proxy **proxies = realloc(numbers->proxies[of_server], wanted * sizeof(struct wl_proxy *));
+        if (!proxies)
             return false;
         for (size_t i = count; i < wanted; i++)
-            slots[i] = (struct slot){ NULL, 0 };
-        numbers->slots[of_server] = slots;
+            proxies[i] = NULL;
+        numbers->proxies[of_server] = proxies;
         numbers->counts[of_server] = wanted;
     }
-    numbers->slots[of_server][at] = (struct slot){ proxy, proxy->row };
+    numbers->proxies[of_server][at] = proxy;
     return true;
 }
 
 void numbers_end(struct numbers *numbers)
 {
-    free(numbers->slots[0]);
-    free(numbers->slots[1]);
+    free(numbers->proxies[0]);
+    free(numbers->proxies[1]);
 }
 
 void number_destroyed_locked(struct wl_proxy *proxy)
 {
-    uint32_t number = proxy->object.id;
     struct wl_display *display = proxy->display;
-    struct slot *slot = numbers_find(&display->numbers, number);
+    const uint32_t number = proxy->object.id;
     const nb_object_id id = session_id(proxy);
     nb_client_destroy_object(&display->session, &id);
-    bool is_free = nb_client_reclaim(&display->session, &id) == NB_OK;
-    if (!slot || slot->proxy != proxy)
-        return; /* the number has been used again */
-    slot->proxy = NULL;
-    if (is_free || is_of_server(number)) /* the server uses its numbers again as it likes, without a delete_id */
-        slot->row = 0;
+    nb_client_reclaim(&display->session, &id);
+    if (numbers_proxy(&display->numbers, number) == proxy) /* else the number has been used again */
+        display->numbers.proxies[is_of_server(number)][numbers_index(number)] = NULL;
 }
 
-void number_deleted_locked(struct wl_display *display, uint32_t number)
+uint32_t number_interface_locked(struct wl_display *display, uint32_t number)
 {
-    struct slot *slot = numbers_find(&display->numbers, number);
-    nb_object_info info;
-    if (!slot || slot->row == 0) {
-        log_line("error: received delete_id for unknown id (%u)\n", number);
-        return;
-    }
-    const nb_object_id id = slot->proxy ? session_id(slot->proxy) : nb_null();
-    if (!is_of_server(number) && nb_client_object_info(&display->session, &id, &info) != NB_OK)
-        slot->row = 0;
+    const struct wl_proxy *proxy = numbers_proxy(&display->numbers, number);
+    nb_object_id id;
+    if (proxy)
+        return proxy->row;
+    return nb_client_object_for_protocol_id(&display->session, number, &id) == NB_OK ? id.interface : 0;
 }

@@ -1,4 +1,4 @@
-/* A connection's objects by their numbers. */
+/* A connection's proxies by their numbers. */
 #ifndef NUMBERS_H
 #define NUMBERS_H
 
@@ -7,16 +7,9 @@
 struct wl_display;
 struct wl_proxy;
 
-/* A number. Its row is 0 if the session has no object there. Else it is the row of an object in the session's table: if
- * `proxy` is NULL, the program has destroyed that object, and the server may still send events to it. */
-struct slot {
-    struct wl_proxy *proxy;
-    uint32_t row;
-};
-
-/* Of the client's numbers, and of the server's. */
+/* The proxies of the client's numbers, and of the server's; NULL where the program has none. */
 struct numbers {
-    struct slot *slots[2];
+    struct wl_proxy **proxies[2];
     size_t counts[2];
 };
 
@@ -25,19 +18,12 @@ static inline size_t numbers_index(uint32_t number)
     return is_of_server(number) ? number - (size_t)FIRST_OF_SERVER : number;
 }
 
-/* The slot of a number; NULL if there is none, and then the number is free. */
-static inline struct slot *numbers_find(const struct numbers *numbers, uint32_t number)
-{
-    const bool of_server = is_of_server(number);
-    const size_t at = numbers_index(number);
-    return at < numbers->counts[of_server] ? &numbers->slots[of_server][at] : NULL;
-}
-
 /* The proxy of a number, or NULL. */
 static inline struct wl_proxy *numbers_proxy(const struct numbers *numbers, uint32_t number)
 {
-    const struct slot *slot = numbers_find(numbers, number);
-    return slot ? slot->proxy : NULL;
+    const bool of_server = is_of_server(number);
+    const size_t at = numbers_index(number);
+    return at < numbers->counts[of_server] ? numbers->proxies[of_server][at] : NULL;
 }
 
 /* The proxy has its number from now on. False if there is no memory. */
@@ -48,7 +34,8 @@ void numbers_end(struct numbers *numbers);
 /* The program destroys the object: so does the session. */
 void number_destroyed_locked(struct wl_proxy *proxy);
 
-/* The session has read that the number of an object may be used again. */
-void number_deleted_locked(struct wl_display *display, uint32_t number);
+/* The interface of the object that a number has, by its number in the session's table; 0 if it has none. One that the
+ * program has destroyed has its number until that is free. */
+uint32_t number_interface_locked(struct wl_display *display, uint32_t number);
 
 #endif

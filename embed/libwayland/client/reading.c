@@ -1,9 +1,9 @@
 /* From the socket into the queues. It touches what came, the session, and the queues by event.c.
  *
  * Whole messages alone go to the session, each with all of its descriptors, so between two calls it has nothing that it
- * has not read. This file looks at the head of each message for three reasons: messages for an object that is not there
- * are passed over, as libwayland does; so delete_id is told to numbers.c; and a message whose descriptors did not come
- * is an error, as there. */
+ * has not read. This file looks at the head of each message for three reasons: one whose descriptors did not come is an
+ * error, as in libwayland; delete_id is counted and logged; and a log has a line for each message that the session
+ * passes over or drops. */
 #include "reading.h"
 #include "../../socket.h"
 #include "../common/arguments.h"
@@ -249,19 +249,22 @@ static int lacks_descriptor(const struct wl_display *display, const struct head 
     return -1;
 }
 
-/* Adds a message of an object that is there to the run, or was and the program has destroyed it. */
-static int add_message(struct wl_display *display, struct run *run, const struct head *head)
+/* What the log calls an object that is not there. libwayland remembers those that the program has destroyed and whose
+ * events may have descriptors. */
+static const char *word_for_missing(const struct wl_display *display, uint32_t number, uint32_t interface)
 {
-    const struct slot *slot = numbers_find(&display->numbers, head->sender);
+    return !is_of_server(number) && table_brings_descriptors(&display->table, interface) ? "[zombie]" : "[unknown]";
+}
+
+/* Adds a message to the run. Its sender is of this interface; if that is 0, it is unknown, and takes no descriptor. */
+static int add_message(struct wl_display *display, struct run *run, const struct head *head, uint32_t interface)
+{
+    const bool is_there = numbers_proxy(&display->numbers, head->sender);
     struct input *input = &display->input;
-    uint32_t needed = table_event_descriptors(&display->table, slot->row, head->opcode);
-    if (is_logging && !slot->proxy)
-        print_thrown_away("[zombie]", head->sender, head->opcode, needed, head->size);
-    if (!slot->proxy && !table_has_event(&display->table, slot->row, head->opcode)) {
-        int answer = feed_run(display, run);
-        pass_over(run, head->size);
-        return answer;
-    }
+    uint32_t needed = table_event_descriptors(&display->table, interface, head->opcode);
+    if (is_logging && !is_there)
+        print_thrown_away(word_for_missing(display, head->sender, interface), head->sender,
+                          head->opcode, needed, head->size);
     if ((run->descriptors + needed > NB_MOST_DESCRIPTORS || run->to - run->from + head->size > MOST_AT_ONCE) &&
         feed_run(display, run) < 0)
         return -1;
@@ -272,7 +275,7 @@ static int add_message(struct wl_display *display, struct run *run, const struct
     }
     if (feed_run(display, run) < 0)
         return -1;
-    if (slot->proxy)
+    if (is_there)
         return lacks_descriptor(display, head);
     close_all(input->descriptors, input->descriptor_count);
     take_away(input, (uint32_t)input->descriptor_count);
@@ -284,11 +287,14 @@ static int add_message(struct wl_display *display, struct run *run, const struct
 static int take_delete(struct wl_display *display, struct run *run, const struct head *head)
 {
     const union wl_argument number = { .u = head->number };
+    bool is_known;
     if (is_of_server(head->number)) {
         if (feed_run(display, run) < 0)
             return -1;
         pass_over(run, head->size);
+        is_known = numbers_proxy(&display->numbers, head->number);
     } else {
+        is_known = number_interface_locked(display, head->number) != 0;
         run->to += head->size;
         if (feed_run(display, run) < 0)
             return -1;
@@ -296,30 +302,26 @@ static int take_delete(struct wl_display *display, struct run *run, const struct
     if (is_logging)
         print_message("", &display->proxy.object, &wl_display_interface.events[1], &number, true);
     display->deleted++;
-    number_deleted_locked(display, head->number);
+    if (!is_known)
+        log_line("error: received delete_id for unknown id (%u)\n", head->number);
     return 0;
 }
 
 static int take_message(struct wl_display *display, struct run *run, const struct head *head)
 {
-    const struct slot *slot = numbers_find(&display->numbers, head->sender);
     if (head->size < 8) { /* the session says what is wrong; what is after it has no meaning */
         run->to = display->input.count;
         return feed_run(display, run);
     }
     if (head->sender == 1 && head->opcode == 1 && head->size == 12)
         return take_delete(display, run, head);
-    if (slot && slot->row != 0)
-        return add_message(display, run, head);
-    if (feed_run(display, run) < 0) /* it may make the object */
-        return -1;
-    slot = numbers_find(&display->numbers, head->sender);
-    if (slot && slot->row != 0)
-        return add_message(display, run, head);
-    if (is_logging)
-        print_thrown_away("[unknown]", head->sender, head->opcode, 0, head->size);
-    pass_over(run, head->size);
-    return 0;
+    uint32_t interface = number_interface_locked(display, head->sender);
+    if (interface == 0) { /* the run may make the object */
+        if (feed_run(display, run) < 0)
+            return -1;
+        interface = number_interface_locked(display, head->sender);
+    }
+    return add_message(display, run, head, interface);
 }
 
 /* What came stands on the stack, or in memory that is freed. What is left of it is kept: mostly nothing, so a

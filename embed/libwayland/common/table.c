@@ -49,17 +49,19 @@ static const struct table_row *row_of(const struct table *table, uint32_t number
                : NULL;
 }
 
-bool table_has_event(const struct table *table, uint32_t number, uint32_t event)
-{
-    static const uint32_t events_beforehand[NB_INTERFACE_FIRST] = { 0, 2, 2, 1 };
-    const struct table_row *row = row_of(table, number);
-    return event < (row ? (uint32_t)row->event_count : number < NB_INTERFACE_FIRST ? events_beforehand[number] : 0);
-}
-
 uint32_t table_event_descriptors(const struct table *table, uint32_t number, uint32_t event)
 {
     const struct table_row *row = row_of(table, number);
     return row && event < (uint32_t)row->event_count ? ((const uint8_t *)row->descriptors.data)[event] : 0;
+}
+
+bool table_brings_descriptors(const struct table *table, uint32_t number)
+{
+    const struct table_row *row = row_of(table, number);
+    for (int i = 0; row && i < row->event_count; i++)
+        if (((const uint8_t *)row->descriptors.data)[i] > 0)
+            return true;
+    return false;
 }
 
 static const char *name_of(const struct table *table, uint32_t number)
@@ -339,10 +341,10 @@ static void find(struct addition *addition, const struct wl_interface *interface
     }
 }
 
-/* Whether the row of an argument names an interface. */
-static bool names_interface(const struct table *table, char letter)
+/* Whether the row of an argument of this kind names an interface. */
+static bool names_interface(const struct table *table, uint32_t kind)
 {
-    return letter == 'n' || (letter == 'o' && !table->is_of_client);
+    return kind == NB_NEW_ID || (kind == NB_OBJECT && !table->is_of_client);
 }
 
 static void find_in(struct addition *addition, const struct wl_message *messages, int count)
@@ -352,7 +354,8 @@ static void find_in(struct addition *addition, const struct wl_message *messages
         char letter;
         bool is_nullable;
         for (uint32_t j = 0; (rest = signature_next(rest, &letter, &is_nullable)); j++)
-            if (names_interface(addition->table, letter) && messages[i].types[j] && !addition->is_refused)
+            if (is_object(letter) && messages[i].types[j] && !addition->is_refused &&
+                names_interface(addition->table, letter == 'n' ? NB_NEW_ID : NB_OBJECT))
                 find(addition, messages[i].types[j]);
     }
 }
@@ -374,20 +377,6 @@ static void find_all(struct addition *addition, const struct wl_interface *inter
     while (!addition->is_refused && (found < count_of(&addition->found) || longer < count_of(&addition->longer))) {
         find_in_all(addition, &addition->found, &found);
         find_in_all(addition, &addition->longer, &longer);
-    }
-}
-
-static uint32_t kind_of(char letter)
-{
-    switch (letter) {
-    case 'i': return NB_INT;
-    case 'u': return NB_UINT;
-    case 'f': return NB_FIXED;
-    case 's': return NB_STRING;
-    case 'o': return NB_OBJECT;
-    case 'n': return NB_NEW_ID;
-    case 'a': return NB_ARRAY;
-    default: return NB_DESCRIPTOR;
     }
 }
 
@@ -415,32 +404,18 @@ static void rows_end(struct rows *rows)
     free(rows->arguments.data);
 }
 
-/* The number in the row of an object argument. */
-static uint32_t number_of_type(const struct addition *addition, char letter, const struct wl_interface *type)
-{
-    return type && names_interface(addition->table, letter) ? number_after(addition, type) : NB_INTERFACE_ANY;
-}
-
 static bool add_message(const struct addition *addition, struct rows *rows, const struct wl_message *message)
 {
-    const char *rest = message->signature;
-    char letter;
-    bool is_nullable;
-    nb_message_row row = { .name_at = (uint32_t)rows->text.size,
-                           .name_length = (uint32_t)strlen(message->name),
-                           .since = signature_since(rest),
-                           .arguments = signature_count(rest) };
-    if (row.arguments > MOST_ARGUMENTS || !append(&rows->text, message->name, row.name_length) ||
-        !append(&rows->messages, &row, sizeof row))
+    nb_message_row row = { .name_at = (uint32_t)rows->text.size, .name_length = (uint32_t)strlen(message->name) };
+    nb_argument_row arguments[MOST_ARGUMENTS];
+    if (nb_read_signature((const uint8_t *)message->signature, strlen(message->signature), &row, arguments,
+                          MOST_ARGUMENTS) != NB_OK ||
+        !append(&rows->text, message->name, row.name_length) || !append(&rows->messages, &row, sizeof row))
         return false;
-    for (uint32_t i = 0; (rest = signature_next(rest, &letter, &is_nullable)); i++) {
-        nb_argument_row argument = { .kind = kind_of(letter), .is_nullable = is_nullable };
-        if (is_object(letter) && message->types)
-            argument.interface = number_of_type(addition, letter, message->types[i]);
-        if (!append(&rows->arguments, &argument, sizeof argument))
-            return false;
-    }
-    return true;
+    for (uint32_t i = 0; message->types && i < row.arguments; i++)
+        if (names_interface(addition->table, arguments[i].kind) && message->types[i])
+            arguments[i].interface = number_after(addition, message->types[i]);
+    return append(&rows->arguments, arguments, row.arguments * sizeof *arguments);
 }
 
 /* The name of a row; behind it a number, which no interface has, if rows before it have that name: in a client's table

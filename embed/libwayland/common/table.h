@@ -34,10 +34,10 @@ void table_end(struct table *table);
  * logged. */
 uint32_t table_number(struct table *table, const struct wl_interface *interface);
 
-/* Whether the interface has this event. */
-bool table_has_event(const struct table *table, uint32_t number, uint32_t event);
-
 /* How many descriptors an event of this interface has; 0 if there is no such event. */
 uint32_t table_event_descriptors(const struct table *table, uint32_t number, uint32_t event);
+
+/* Whether any event of this interface has descriptors. */
+bool table_brings_descriptors(const struct table *table, uint32_t number);
 
 #endif

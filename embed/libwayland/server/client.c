@@ -223,7 +223,7 @@ EXPORT struct wl_display *wl_client_get_display(struct wl_client *client)
     return client->display;
 }
 
-EXPORT void wl_client_get_credentials(struct wl_client *client, pid_t *pid, uid_t *uid, gid_t *gid)
+EXPORT void wl_client_get_credentials(READ_ONLY(struct wl_client) client, pid_t *pid, uid_t *uid, gid_t *gid)
 {
     if (pid)
         *pid = client->pid;

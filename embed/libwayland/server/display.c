@@ -131,7 +131,7 @@ EXPORT void wl_display_terminate(struct wl_display *display)
     errno = before;
 }
 
-EXPORT uint32_t wl_display_get_serial(struct wl_display *display)
+EXPORT uint32_t wl_display_get_serial(READ_ONLY(struct wl_display) display)
 {
     return display->serial;
 }

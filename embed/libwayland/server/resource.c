@@ -322,7 +322,7 @@ EXPORT void wl_resource_set_dispatcher(struct wl_resource *resource, wl_dispatch
     resource->dispatcher = dispatcher;
 }
 
-EXPORT uint32_t wl_resource_get_id(struct wl_resource *resource)
+EXPORT uint32_t wl_resource_get_id(READ_ONLY(struct wl_resource) resource)
 {
     return resource->object.id;
 }
@@ -363,7 +363,7 @@ EXPORT void *wl_resource_get_user_data(struct wl_resource *resource)
     return resource->data;
 }
 
-EXPORT int wl_resource_get_version(struct wl_resource *resource)
+EXPORT int wl_resource_get_version(READ_ONLY(struct wl_resource) resource)
 {
     return lent_core(resource) ? 0 : resource->version;
 }
@@ -381,7 +381,7 @@ EXPORT int wl_resource_instance_of(struct wl_resource *resource, const struct wl
            resource->object.implementation == implementation;
 }
 
-EXPORT const char *wl_resource_get_class(struct wl_resource *resource)
+EXPORT const char *wl_resource_get_class(READ_ONLY(struct wl_resource) resource)
 {
     return resource->object.interface->name;
 }

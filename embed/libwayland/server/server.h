@@ -29,6 +29,10 @@
 #include <wayland-server-core.h>
 #include <wayland-server-protocol.h>
 
+/* A pointer to what a public call only reads: headers of 1.26 have more of them const than those of 1.24 and older. */
+#define READ_ONLY(type)                                                                                                \
+    __typeof__(_Generic(&wl_resource_get_id, uint32_t (*)(const struct wl_resource *): (const type *)0, default: (type *)0))
+
 struct trace;
 
 /* The fields up to `data` are shown by wayland-server.h, so their order is fixed; a program may have such a struct of

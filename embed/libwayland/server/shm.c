@@ -351,22 +351,22 @@ EXPORT void *wl_shm_buffer_get_data(struct wl_shm_buffer *buffer)
     return pool->data + buffer->offset;
 }
 
-EXPORT int32_t wl_shm_buffer_get_stride(struct wl_shm_buffer *buffer)
+EXPORT int32_t wl_shm_buffer_get_stride(READ_ONLY(struct wl_shm_buffer) buffer)
 {
     return buffer->stride;
 }
 
-EXPORT uint32_t wl_shm_buffer_get_format(struct wl_shm_buffer *buffer)
+EXPORT uint32_t wl_shm_buffer_get_format(READ_ONLY(struct wl_shm_buffer) buffer)
 {
     return buffer->format;
 }
 
-EXPORT int32_t wl_shm_buffer_get_width(struct wl_shm_buffer *buffer)
+EXPORT int32_t wl_shm_buffer_get_width(READ_ONLY(struct wl_shm_buffer) buffer)
 {
     return buffer->width;
 }
 
-EXPORT int32_t wl_shm_buffer_get_height(struct wl_shm_buffer *buffer)
+EXPORT int32_t wl_shm_buffer_get_height(READ_ONLY(struct wl_shm_buffer) buffer)
 {
     return buffer->height;
 }

@@ -338,7 +338,7 @@ plain! {
         value: i32 = 4,
         /// Where a string or array stands in the bytes that are lent beside.
         at: u32 = 8,
-        /// How many bytes it has. A string has no zero at its end.
+        /// How many bytes it has. A zero follows a string that is handed out, and is not counted.
         length: u32 = 12,
         /// The object; null if its number is 0.
         object: nb_object_id = 16,
@@ -540,6 +540,14 @@ plain! {
 unsafe extern "C" {
     /// The version of the library: 65536 times the major number, 256 times the minor number, and the patch.
     pub safe fn nb_version() -> u32;
+    /// Reads the signature of a message.
+    pub fn nb_read_signature(
+        signature: *const u8,
+        signature_length: usize,
+        message: &mut nb_message_row,
+        arguments: *mut nb_argument_row,
+        argument_count: usize,
+    ) -> nb_status;
     /// Makes a server's session.
     pub fn nb_server_new(
         place: &mut nb_server,
@@ -588,6 +596,8 @@ unsafe extern "C" {
         place: &mut nb_server,
         size: u64,
     ) -> nb_status;
+    /// Sets whether requests with a null that the table forbids are refused.
+    pub safe fn nb_server_refuse_nulls(place: &mut nb_server, is_on: u32) -> nb_status;
     /// Sets how far the buffers of a client may grow.
     pub safe fn nb_server_set_max_buffer_size(
         place: &mut nb_server,
@@ -871,6 +881,13 @@ unsafe extern "C" {
         has_limit: u32,
         size: u64,
     ) -> nb_status;
+    /// Sets whether messages of unknown senders are passed over.
+    pub safe fn nb_client_pass_over_unknown_senders(
+        place: &mut nb_client,
+        passes: u32,
+    ) -> nb_status;
+    /// Sets whether an event with a null that the table forbids ends the session.
+    pub safe fn nb_client_refuse_nulls(place: &mut nb_client, is_on: u32) -> nb_status;
     /// Sets how many bytes wait for the host.
     pub safe fn nb_client_set_room(place: &mut nb_client, room: u64) -> nb_status;
     /// The display.
@@ -917,6 +934,12 @@ unsafe extern "C" {
         bytes: *const u8,
         byte_count: usize,
         created: &mut nb_object_id,
+    ) -> nb_status;
+    /// The object with this number.
+    pub safe fn nb_client_object_for_protocol_id(
+        place: &mut nb_client,
+        number: u32,
+        object: &mut nb_object_id,
     ) -> nb_status;
     /// An object's number, interface and version.
     pub safe fn nb_client_object_info(
@@ -967,6 +990,11 @@ unsafe extern "C" {
         destroyed: &mut nb_object_id,
         data: &mut u64,
     ) -> nb_status;
+    /// Sets whether the ids of objects whose numbers become free are kept.
+    pub safe fn nb_client_keep_freed(place: &mut nb_client, keeps: u32) -> nb_status;
+    /// The next id of an object whose number became free.
+    pub safe fn nb_client_next_freed(place: &mut nb_client, object: &mut nb_object_id)
+        -> nb_status;
     /// The next descriptor that no call will hand out.
     pub safe fn nb_client_next_dropped(place: &mut nb_client, descriptor: &mut i32) -> nb_status;
 }

@@ -986,6 +986,36 @@ fn the_data_of_many_objects_leave_with_their_numbers() {
 }
 
 #[test]
+fn data_leave_when_the_server_takes_the_number() {
+    let kept: Arc<Mutex<Vec<Weak<dyn ObjectData>>>> = Arc::default();
+    let made = Arc::new(Mutex::new(None));
+    let (keeps, seen) = (kept.clone(), made.clone());
+    let (client, server, _) = bound(data(move |_, event| {
+        let Argument::NewId(id) = &event.args[0] else {
+            panic!("{event:?}")
+        };
+        *seen.lock().unwrap() = Some(id.clone());
+        let given: Arc<dyn ObjectData> = quiet();
+        keeps.lock().unwrap().push(Arc::downgrade(&given));
+        Some(given)
+    }));
+    let is_kept = |at: usize| kept.lock().unwrap()[at].upgrade().is_some();
+    give(&server, &bytes(3, MADE, &[0xFF00_0000]), &[]);
+    assert_eq!(read(&client).unwrap(), 1);
+    let first = made.lock().unwrap().take().unwrap();
+    client.destroy_object(&first).unwrap();
+    assert!(is_kept(0));
+    give(&server, &bytes(3, MADE, &[0xFF00_0000]), &[]);
+    assert_eq!(read(&client).unwrap(), 1);
+    assert!(!is_kept(0) && is_kept(1));
+    let second = made.lock().unwrap().take().unwrap();
+    client.destroy_object(&second).unwrap();
+    give(&server, &bytes(1, 1, &[0xFF00_0000]), &[]);
+    assert!(would_block(read(&client)));
+    assert!(!is_kept(1));
+}
+
+#[test]
 fn data_can_be_replaced() {
     let (client, _server, thing) = bound(quiet());
     let (old, new) = (quiet(), quiet());

@@ -41,8 +41,6 @@ pub(super) struct Session {
     event: Event,
     /// Objects that were destroyed, whose data are kept until the number is free.
     leaving: ByNumber,
-    /// Numbers that the server has said to be free.
-    freed: Vec<u32>,
     outgoing: Outgoing,
     /// What ended the connection on this side: the socket failed while it was written, or a descriptor of a request could
     /// not be duplicated, so that nothing behind it can be sent.
@@ -232,7 +230,6 @@ impl Session {
             data: Slab::new(),
             event: Event::default(),
             leaving: ByNumber::default(),
-            freed: Vec::new(),
             outgoing: Outgoing::default(),
             fault: None,
             has_failed: false,
@@ -638,27 +635,18 @@ impl Session {
     }
 
     /// Takes out the data of objects whose numbers are free.
-    ///
-    /// The session does not tell which these are, so it is asked for those of which a message of the server says so.
     #[inline]
     pub(super) fn take_unused(&mut self, leftovers: &mut Leftovers) {
-        self.library.move_freed(&mut self.freed);
-        let mut freed = mem::take(&mut self.freed);
-        for number in freed.drain(..) {
-            let Some(Leaving { serial, key }) = self.leaving.get(number) else {
-                continue;
-            };
-            let raw = RawObjectId {
-                serial,
-                number,
-                ..RawObjectId::default()
-            };
-            if self.library.object_data(&raw).is_none() {
-                self.leaving.remove(number);
-                self.remove_data(key, leftovers);
+        while let Some(freed) = self.library.next_freed() {
+            match self.leaving.get(freed.number) {
+                Some(left) if left.serial == freed.serial => {
+                    self.leaving.remove(freed.number);
+                    self.remove_data(left.key, leftovers);
+                }
+                // They were taken out when another object took the number.
+                _ => {}
             }
         }
-        self.freed = freed;
     }
 }
 

@@ -79,10 +79,11 @@ impl Client {
             )
         };
         done(status);
+        done(sys::nb_client_keep_freed(&mut place, 1));
         Client {
             place,
             lent: Lent::new(),
-            inbox: Inbox::of_server(),
+            inbox: Inbox::default(),
             is_full: false,
             descriptors: 0,
             dangers: 0,
@@ -190,12 +191,6 @@ impl Client {
             Some(Ending::Failed(error)) => self.receive_failed(error),
         }
         receipt
-    }
-
-    /// Appends the numbers that the server has said to be free, by messages that have come since the last time.
-    #[inline]
-    pub(crate) fn move_freed(&mut self, to: &mut Vec<u32>) {
-        self.inbox.move_freed(to);
     }
 
     /// The socket failed while it was read.
@@ -308,6 +303,14 @@ impl Client {
         ))
         .ok()?;
         Some(info)
+    }
+
+    /// The next object whose number became free as events were taken.
+    #[inline]
+    pub(crate) fn next_freed(&mut self) -> Option<RawObjectId> {
+        let mut object = RawObjectId::default();
+        answer(sys::nb_client_next_freed(&mut self.place, &mut object)).ok()?;
+        Some(object)
     }
 
     /// An object's data, also of one that was destroyed, as long as its number is not free.

@@ -1,23 +1,11 @@
-//! How many messages are in a stream, and which numbers a server says to be free.
+//! How many messages are in a stream.
 
 /// How many bytes the header of a message has. Its last two say how long the message is, header and all.
 const HEADER: usize = 8;
 
-/// The header of `wl_display.delete_id`: object 1, event 1, and one word, which is the number.
-const DELETE_ID: [u8; HEADER] = {
-    let [a, b, c, d] = 1u32.to_ne_bytes();
-    let [e, f, g, h] = (12u32 << 16 | 1).to_ne_bytes();
-    [a, b, c, d, e, f, g, h]
-};
-
 /// Counts the messages of a stream as its bytes come.
 #[derive(Debug, Default)]
 pub(super) struct Frames {
-    /// Whether the stream is a server's: then the numbers are noted that it says to be free.
-    is_of_server: bool,
-    freed: Vec<u32>,
-    /// The number in such a message that has not come as a whole.
-    number: [u8; 4],
     /// The header of a message that has not come as a whole.
     header: [u8; HEADER],
     /// How many bytes of the header have come.
@@ -27,26 +15,13 @@ pub(super) struct Frames {
 }
 
 impl Frames {
-    pub(super) fn of_server() -> Frames {
-        Frames {
-            is_of_server: true,
-            ..Frames::default()
-        }
-    }
-
-    /// Appends the numbers that the server has said to be free since the last time.
-    #[inline]
-    pub(super) fn move_freed(&mut self, to: &mut Vec<u32>) {
-        to.append(&mut self.freed);
-    }
-
     /// These bytes come next. The answer is how many messages have come as a whole by them.
     #[inline]
     pub(super) fn push(&mut self, mut bytes: &[u8]) -> usize {
         let mut count = 0;
         loop {
             if self.is_between() {
-                count += self.take_whole(&mut bytes);
+                count += Frames::take_whole(&mut bytes);
             }
             if bytes.is_empty() {
                 return count;
@@ -75,17 +50,10 @@ impl Frames {
             self.missing = length(&self.header) - HEADER;
         }
         let count = self.missing.min(bytes.len());
-        if self.tells_freed(&self.header) {
-            let at = self.number.len() - self.missing;
-            self.number[at..at + count].copy_from_slice(&bytes[..count]);
-        }
         *bytes = &bytes[count..];
         self.missing -= count;
         if self.missing > 0 {
             return 0;
-        }
-        if self.tells_freed(&self.header) {
-            self.freed.push(u32::from_ne_bytes(self.number));
         }
         self.has = 0;
         1
@@ -93,27 +61,16 @@ impl Frames {
 
     /// Takes the messages off that stand first as a whole, and answers how many these are.
     #[inline]
-    fn take_whole(&mut self, bytes: &mut &[u8]) -> usize {
+    fn take_whole(bytes: &mut &[u8]) -> usize {
         let mut count = 0;
         while let Some(header) = bytes.first_chunk() {
-            let Some((message, rest)) = bytes.split_at_checked(length(header)) else {
+            let Some(rest) = bytes.get(length(header)..) else {
                 break;
             };
-            if self.tells_freed(header) {
-                if let Some(number) = message[HEADER..].first_chunk() {
-                    self.freed.push(u32::from_ne_bytes(*number));
-                }
-            }
             *bytes = rest;
             count += 1;
         }
         count
-    }
-
-    /// Whether a message with this header says that a number is free.
-    #[inline]
-    fn tells_freed(&self, header: &[u8; HEADER]) -> bool {
-        *header == DELETE_ID && self.is_of_server
     }
 }
 
@@ -151,31 +108,6 @@ mod tests {
             assert_eq!(before, expected, "cut at {first}");
             assert_eq!(is_between, [0, 8, 20, 65552, 65560].contains(&first));
         }
-    }
-
-    #[test]
-    fn numbers_that_a_server_frees_are_known_wherever_the_stream_is_cut() {
-        let freed = |number: u32| {
-            let words = [1, 12 << 16 | 1, number];
-            words.iter().flat_map(|word| word.to_ne_bytes()).collect()
-        };
-        let stream: Vec<u8> = [freed(5), message(12), freed(0x0102_0304), freed(6)].concat();
-        for first in 0..=stream.len() {
-            let (one, other) = stream.split_at(first);
-            let mut numbers = Vec::new();
-            let mut frames = Frames::of_server();
-            for part in [one, other] {
-                frames.push(part);
-                frames.move_freed(&mut numbers);
-            }
-            assert_eq!(numbers, [5, 0x0102_0304, 6], "cut at {first}");
-        }
-        // In the stream of a client it is another message.
-        let mut frames = Frames::default();
-        let mut numbers = Vec::new();
-        assert_eq!(frames.push(&stream), 4);
-        frames.move_freed(&mut numbers);
-        assert_eq!(numbers, []);
     }
 
     #[test]

@@ -64,20 +64,6 @@ pub(super) enum Ending {
 }
 
 impl Inbox {
-    /// What has come from a server.
-    pub(super) fn of_server() -> Inbox {
-        Inbox {
-            frames: Frames::of_server(),
-            ..Inbox::default()
-        }
-    }
-
-    /// Appends the numbers that the server has said to be free since the last time.
-    #[inline]
-    pub(super) fn move_freed(&mut self, to: &mut Vec<u32>) {
-        self.frames.move_freed(to);
-    }
-
     /// Receives once from the socket, by way of a buffer, and of another one for control data. `arrive` hands bytes and
     /// descriptors to the session.
     #[inline]
