@@ -72,17 +72,17 @@ get_other (x ∷ table) (suc place) (suc other) now apart = get_other table plac
 keeps-longer : (table : List InterfaceRow) (more : Extension) → KeepsInterfaces table (extended_table table more)
 keeps-longer table more place was at =
     elim (slice_get table more.place) as (λ o. slice_get table more.place ≡ o
-        → (is : InterfaceRow) × (slice_get (option_map_or (λ row. set table more.place (extended_row more row)) o table) place ≡ Some is) × GoesOn was is) [
+    → (is : InterfaceRow) × (slice_get (option_map_or (λ row. set table more.place (extended_row more row)) o table) place ≡ Some is) × GoesOn was is) [
       | None ↦ λ e. (was, at, goes_on-same was)
       | Some row ↦ λ e. elim (eqb more.place place) as (λ b. eqb more.place place ≡ b
           → (is : InterfaceRow) × (slice_get (set table more.place (extended_row more row)) place ≡ Some is) × GoesOn was is) [
-        | true ↦ λ same.
-            let p : more.place ≡ place = eqb-true more.place place same in
-            let r : row ≡ was = cc in
-            let s : slice_get (set table more.place (extended_row more row)) more.place ≡ Some (extended_row more row) = get_set table more.place row (extended_row more row) e in
-            (extended_row more was, rw (sym p, sym r) s, goes_on-extended more was)
-        | false ↦ λ apart. (was, get_other table more.place place (extended_row more row) (eqb-false more.place place apart) ∙ at, goes_on-same was)
-      ] refl
+            | true ↦ λ same.
+                let p : more.place ≡ place = eqb-true more.place place same in
+                let r : row ≡ was = cc in
+                let s : slice_get (set table more.place (extended_row more row)) more.place ≡ Some (extended_row more row) = get_set table more.place row (extended_row more row) e in
+                (extended_row more was, rw (sym p, sym r) s, goes_on-extended more was)
+            | false ↦ λ apart. (was, get_other table more.place place (extended_row more row) (eqb-false more.place place apart) ∙ at, goes_on-same was)
+          ] refl
     ] refl
 
 keeps-growth : (table : List InterfaceRow) (more : Growth) (answer : Result (Unit {0}) TableError) → KeepsInterfaces table (table_after table more answer)

@@ -45,6 +45,6 @@ pub use flat::{
 };
 pub use laws::{a_forbidden_null_is_told, flat_arguments_come_back};
 pub use rows::{ArgumentRow, InterfaceRow, MessageRow, Rows, TableFault, fault};
-pub use signatures::read_signature;
 pub use server::{HostClient, HostGlobal, Server};
+pub use signatures::read_signature;
 pub use status::Status;

@@ -34,7 +34,7 @@ module _ {D : Type 0} (c s : List (Option (Object D))) (w : Within c s) where
     each = λ k from below. (elim (cases_lt k 0xFF000000) [
       | inl small ↦ omega (arith, client_unused k small, full)
       | inr large ↦ omega (arith, server_unused k (k - 0xFF000000) (omega arith), used)
-    ])
+    ]);
   }
   next_of_server full (Some n) (fits, is) = record {
     within = omega arith;

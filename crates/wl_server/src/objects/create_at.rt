@@ -105,7 +105,9 @@ impl<T: Transport + Drop, U: Drop, G: GlobalHandler<C> + Drop, C: Drop> Backend<
             return Err(CreateError::InvalidId);
         };
         let protocol = &self.protocol;
-        let answer = stored.create_object_at(client, protocol, interface, version, number, user_data);
+        let answer = stored.create_object_at(
+            client, protocol, interface, version, number, user_data,
+        );
         self.refused = lacks_memory(&answer);
         answer
     }

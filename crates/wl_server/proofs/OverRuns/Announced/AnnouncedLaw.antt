@@ -356,11 +356,11 @@ module _ {T U G C : Type 0} (w : World T G C) (id : ClientParts) (r : Id) where
       of_client offer (same_client o.client id) s _ _ lacked did t (λ p q (no_memory, none, set). (elim (either_option (named p.store o) set) [
         | inl (nobody, (is, same)) ↦ none_done w.views id r offer p q did none same
         | inr (x, some, by) ↦ elim (either_bool (has_version offer.table x.interface version) by) [
-            | inr (is, same) ↦ none_done w.views id r offer p q did none same
-            | inl (is, same) ↦
-                quietly w.views id r offer p q _ did (ap log_of none, ap registries_in none) same (rewrote_goes w.views id r offer
-                (part_scene p) o.number x (with_version version x) (named_is_held p.store o x some) refl refl)
-          ]
+          | inr (is, same) ↦ none_done w.views id r offer p q did none same
+          | inl (is, same) ↦
+              quietly w.views id r offer p q _ did (ap log_of none, ap registries_in none) same (rewrote_goes w.views id r offer
+              (part_scene p) o.number x (with_version version x) (named_is_held p.store o x some) refl refl)
+        ]
       ])) h
   step_follows offer known (step.CreateObjectAt target i version n u) answer s lacked did t about numbered alone (a, is, h) =
       of_client offer (same_client target id) s _ _ lacked did t

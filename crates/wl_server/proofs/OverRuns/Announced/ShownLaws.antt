@@ -71,10 +71,14 @@ module _ {G C : Type 0} (views : G → ClientParts → C → GlobalParts → Boo
   -- the same globals by name, over the same table
   pub stored_stays : (offer offer' : Offer G) → offer'.globals.store ≡ offer.globals.store → offer'.table ≡ offer.table → StaysShown offer offer'
   stored_stays offer offer' same table = record {
-    kept = λ a h. shown_in offer offer' a (λ x at. (ap (λ (store : Store (KeptGlobal G)). held store a.name) same ∙ at,
-        ap (λ (rows : List InterfaceRow). announced_as rows (shown_as (a.name, x))) table)) h;
-    only = λ a h. shown_in offer' offer a (λ x at. (ap (λ (store : Store (KeptGlobal G)). held store a.name) (sym same) ∙ at,
-        ap (λ (rows : List InterfaceRow). announced_as rows (shown_as (a.name, x))) (sym table))) h;
+    kept = λ a h. shown_in offer offer' a (λ x at. (
+      ap (λ (store : Store (KeptGlobal G)). held store a.name) same ∙ at,
+      ap (λ (rows : List InterfaceRow). announced_as rows (shown_as (a.name, x))) table,
+    )) h;
+    only = λ a h. shown_in offer' offer a (λ x at. (
+      ap (λ (store : Store (KeptGlobal G)). held store a.name) (sym same) ∙ at,
+      ap (λ (rows : List InterfaceRow). announced_as rows (shown_as (a.name, x))) (sym table),
+    )) h;
   }
 
   module _ (offer : Offer G) (name : ℕ) where

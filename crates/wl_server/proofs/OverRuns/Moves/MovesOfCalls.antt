@@ -128,11 +128,11 @@ module _ {T U C : Type 0} (kind : Kind) (sends : T → Queue → Result ℕ IoFa
             elim (either_bool (eqb p.last_serial last_possible_serial) more) [
               | inl (is, same) ↦ rw (is, same) (stayed refl refl)
               | inr by ↦ elim (either_flag (is_free_own p.store n) by) [
-                  | inl (free, inl (is, same)) ↦ let (absent, ne) = own_absent p.store n free in
-                      rw is (bears n (new_object p i version u) absent ne refl refl same)
-                  | inl (free, inr (is, unused, same)) ↦ rw (is, same) (stayed refl refl)
-                  | inr (taken, (is, same)) ↦ rw (is, same) (stayed refl refl)
-                ]
+                | inl (free, inl (is, same)) ↦ let (absent, ne) = own_absent p.store n free in
+                    rw is (bears n (new_object p i version u) absent ne refl refl same)
+                | inl (free, inr (is, unused, same)) ↦ rw (is, same) (stayed refl refl)
+                | inr (taken, (is, same)) ↦ rw (is, same) (stayed refl refl)
+              ]
             ]
       ]
 

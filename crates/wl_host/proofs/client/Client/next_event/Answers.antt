@@ -48,8 +48,8 @@ returns-then-is_refused c =
     rw set (ap (is_refused c.self.inside.refuses_nulls) (sym c.forbidden_null_of-place.ensures) ∙ sym c.if-is_refused.ensures) in (
       [],
       rw c.refuse.ensures.status
-      (refuses_event c.args.self.now _ _ c.read.new.core (session_content c.read.new.event) c.refuse.ensures.ended.0 _ reads kept is c.refuse.ensures.ended.1
-      (rw (c.refuse.ensures.ended.2, c.refuse.ensures.kept) (search rules))),
+          (refuses_event c.args.self.now _ _ c.read.new.core (session_content c.read.new.event) c.refuse.ensures.ended.0 _ reads kept is c.refuse.ensures.ended.1
+          (rw (c.refuse.ensures.ended.2, c.refuse.ensures.kept) (search rules))),
       search rules,
     )
 
