@@ -63,6 +63,7 @@ module _ {T U : Type 0} where
       ap (λ (a : SessionState T U). a.table) same,
       ap (λ (a : SessionState T U). a.last_serial) same,
     );
+    passes_over = ap (λ (a : SessionState T U). a.passes_over) same;
   }
   takes (first ∷ ids) s id after waits (is, same) = record {
     taken = (hands (first ∷ ids) s id after waits (is, same)).1;
@@ -77,6 +78,7 @@ module _ {T U : Type 0} where
       ap (λ (a : SessionState T U). a.table) same,
       ap (λ (a : SessionState T U). a.last_serial) same,
     );
+    passes_over = ap (λ (a : SessionState T U). a.passes_over) same;
   }
 
   pub takes_freed : (s : SessionState T U) (id : Option IdParts) (after : SessionState T U) → HandsFreed s.freed s id after → TakesFreed s id after
@@ -95,6 +97,7 @@ module _ {T U : Type 0} where
         notes = refl;
         link = refl;
         rest = (refl, refl, refl, refl);
+        passes_over = refl;
       })
 
   -- it has one outcome

@@ -1,7 +1,7 @@
 -- Which object leaves its number as a message is handled, and the ids of such objects while they are kept.
 --
 -- A message takes out one object at most: that of a number whose id the server deletes, or that of a number at which the server
--- makes a new one. The client had destroyed it.
+-- makes a new one. The client had destroyed it, or an event had.
 use Rattle.std.specs.Prelude.{◌≡◌, ℕ, List, [], ◌∷◌, ◌++◌, Bool, ◌==◌, ◌&&◌, if◌then◌else◌, Option, None, Some}
 use Rattle.wl_wire.specs.declared.argument.Argument.TheVariants as arg
 use Rattle.wl_wire.specs.Argument.{WireArgument}

@@ -5,7 +5,7 @@ use Rattle.wl_client.specs.Histories.{Called, Changed, Deed, Grown}
 use Rattle.wl_client.specs.Replies.{SameReply}
 
 module _ {T U : Type 0} where
-  -- The same calls were made, the transport became the same by the same changes, and the table was asked to take the same.
+  -- The same calls were made, the transport became the same by the same changes, and the same was to be added to the table.
   -- Memory was not refused in any of them.
   abbrev pub SameDeeds : List (Deed T U) → List (Deed T U) → Type 0
   SameDeeds [] [] = Unit {0}

@@ -82,7 +82,7 @@ module _ {U : Type 0} where
     events = λ d. handed h;
   }
 
-  -- the object that leaves its number in the handling of this message is told, if that is wanted
+  -- the core with the id of the object that leaves its number by this message, if there is one and the program has ids kept
   abbrev pub freed_core : Core U → WireMessage → Handling U → Core U
   freed_core c m h = freeing c (freed_as c.passes_over c.table (objects_in c) m h)
 

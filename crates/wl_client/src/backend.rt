@@ -257,7 +257,8 @@ impl<T: Drop, U: Drop> Backend<T, U> {
     ///
     /// The sender of a message is unknown if its number holds no object: none was ever made there, or the server has deleted
     /// the id of one that the client destroyed. Nothing is known of the arguments of such a message: its bytes are passed over,
-    /// and it takes no descriptor. If it had some, the next message that takes descriptors gets them.
+    /// and it takes no descriptor. If it had some, the next message that takes descriptors gets them. A message whose length is
+    /// below 8, that of the header, ends the session all the same.
     ///
     /// An object that the client destroyed, and whose id is not deleted yet, is known, and so are its events: with this setting
     /// and without it they are dropped with their descriptors. With it one that its interface does not have is passed over, too.

@@ -10,7 +10,7 @@ use crate::objects::id_at;
 impl<T: Drop, U: Drop> Backend<T, U> {
     /// The id of the object that has this number. `None` if the number holds none.
     ///
-    /// An object that the client has destroyed has its number until that is free, so it has an id here, too.
+    /// An object that the client has destroyed has an id here, too, until it leaves its number (`keep_freed`).
     pub fn object_for_protocol_id(&self, number: u32) -> Option<ObjectId>
         ensures { result ≡ object_at self.now.session number }
     {

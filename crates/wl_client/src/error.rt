@@ -135,7 +135,7 @@ pub enum EventError {
     /// Nothing more can be read now, or 64 receives brought no event.
     #[error("would block")]
     WouldBlock,
-    /// There was no memory for what was received, or for an event.
+    /// There was no memory for what was received, for an event, or for the id of a `delete_id` while ids are kept (`keep_freed`).
     #[error("out of memory")]
     OutOfMemory,
 }

@@ -67,9 +67,9 @@ impl<T: Drop, U: Drop> Backend<T, U> {
     /// Sets whether the session keeps the ids of the objects that leave their numbers in a reading, for `next_freed`. In a new
     /// session it does not.
     ///
-    /// Such an object was destroyed by the client before: the server deletes its id (`wl_display.delete_id`), or makes an object
-    /// of its own at its number. So a program that has data by number or id drops them as soon as the number is free. The only
-    /// other call by which an object leaves its number is `reclaim`, whose answer says so.
+    /// Such an object *leaves its number* when the server deletes its id (`wl_display.delete_id`), or makes an object of its own
+    /// there. The client had destroyed it, or an event had. So a program that has data by number or id can drop them then. The
+    /// only other call by which an object leaves its number is `reclaim`, whose answer says so.
     ///
     /// While ids are kept, a reading asks for the place of one before it reads a `delete_id`. If there is no memory for that, the
     /// message stays unread, and the answer is `OutOfMemory`. If they are kept no more, those that wait are dropped. This call
@@ -93,7 +93,8 @@ impl<T: Drop, U: Drop> Backend<T, U> {
     }
 
     /// Takes the next id that was kept (`keep_freed`), in the order in which the objects left their numbers; `None` if there is
-    /// none. It names nothing any more. It allocates nothing.
+    /// none. It names nothing any more. Its number may have a new object by now, so compare the serial. The call allocates
+    /// nothing.
     pub fn next_freed(&mut self) -> Option<ObjectId>
         ensures call { CallsLocally self.old step.NextFreed (reply.NextFreed result) self.new }
         ensures plain { TakesFreed self.old.session result self.new.session }

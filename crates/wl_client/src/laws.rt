@@ -99,7 +99,7 @@ pub fn a_number_is_free_only_once_both_sides_gave_it_up<T: Transport, U>()
         History (CallOf T.sends T.receives) begun deeds after → held begun.store n ≡ Some x → HasOrLeft T.sends T.receives n x begun deeds after }
 {}
 
-/// The law of free numbers: each object that leaves its number is told once, while the session keeps such ids.
+/// The law of freed ids: while a session keeps the ids of the objects that leave their numbers, each is handed out once, or waits.
 ///
 /// It holds of every history over which ids are kept (`Backend::keep_freed`). The ids that were taken, followed by those that still
 /// wait, are those that waited before it, followed by those of the objects that left their numbers in it, in order. What

@@ -26,9 +26,10 @@
 //! hold (`Accounts`). A clause `plain` says what a program finds after it (`Plain`, `Plain/Calls`).
 //!
 //! The functions of [`laws`] do nothing. Their contracts are the laws of runs of calls, in the words of these files:
-//! `Handed` and `Named` (ids), `Noted` (notes), `Numbers` (when a number is free again), `Failed` (errors), `Replies` (there is
-//! one outcome), `Cutting`, `Heard` and `Stretches` (it does not matter how bytes are cut; the words of a reader are in `Reader`
-//! and `Served` of `wl_link`), `ReadingEnds` (why a reading ends), `Scripted` (calls of `Memory` as steps).
+//! `Handed` and `Named` (ids), `Noted` (notes), `Numbers` (when a number is free again), `Freed` (which objects left their
+//! numbers), `Failed` (errors), `Replies` (there is one outcome), `Cutting`, `Heard` and `Stretches` (it does not matter how bytes
+//! are cut; the words of a reader are in `Reader` and `Served` of `wl_link`), `ReadingEnds` (why a reading ends), `Scripted`
+//! (calls of `Memory` as steps).
 #![tactic(auto)]
 
 /// The session: its fields, `connect`, `display_id`, `last_error`, `fail`, `take_notes`, the table, the transport, the limit.

@@ -30,7 +30,7 @@ module _ {T U : Type 0} (s : SessionState T U) (id : IdParts) where
   -- ---- data
 
   unset : (u : U) → named s.store id ≡ None → SetsData s id u (Err _) s
-  unset u none = record { object = (none, refl); objects = λ other differ. refl; notes = refl; link = refl; rest = (refl, refl, refl, refl) }
+  unset u none = record { object = (none, refl); objects = λ other differ. refl; notes = refl; link = refl; rest = (refl, refl, refl, refl); settings = (refl, (refl, refl)) }
 
   set : (u : U) (x : Object (Kept U)) → named s.store id ≡ Some x
       → SetsData s id u (Ok tt) (record s { store = rewritten s.store id.number (with_user_data u x) })
@@ -104,5 +104,13 @@ module _ {T U : Type 0} (sends : T → Queue → Result ℕ IoFault → T → Ty
         | inl (none, (flushed, link, by, ends)) ↦ ended none link flushed answer after by ends
         | inr (e, some, (is, same)) ↦
             to answer (Err flush.Failed) after s is same
-            (record { answered = inl (ap is_some some, refl); objects = refl; last_serial = refl; open_event = refl; notes = refl; table = refl })
+            (record {
+              answered = inl (ap is_some some, refl);
+              objects = refl;
+              last_serial = refl;
+              open_event = refl;
+              notes = refl;
+              table = refl;
+              settings = (refl, (refl, refl));
+            })
       ]

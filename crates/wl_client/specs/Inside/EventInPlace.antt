@@ -45,7 +45,7 @@ NumbersAre (k ∷ kinds) payload (b ∷ values) =
 NumbersAre _ payload _ = ⊥
 
 module _ {T U : Type 0} where
-  -- The message at the front says that the server deletes the id of this number: its sender has an event 1 of one word, it is there
+  -- The message at the front reads as a `delete_id` of this number: its sender has an event 1 of one word, the message is there
   -- whole, and it has one word after its header.
   pub record DeleteWaits (table : List InterfaceRow) (store : Store (Kept U)) (link : LinkState T) (n : ℕ) : Type 0 where
     pub opcode : opcode_of link.incoming.bytes ≡ 1

@@ -173,11 +173,11 @@ module _ {T U : Type 0} where
       ⊎ ((end ≡ record { error = no_event.OutOfMemory; refused = true }) × NotTaken before parse.OutOfMemory × (after ≡ before))
   NotTakenTo before _ after = ⊥
 
-  -- the object that leaves its number in the handling of this message is told, if that is wanted
+  -- the session with the id of the object that leaves its number by this message, if there is one and the program has ids kept
   abbrev pub freed_session : SessionState T U → WireMessage → Handling U → SessionState T U
   freed_session s m h = frees s (freed_as s.passes_over s.table (objects_of s) m h)
 
-  -- so the handling of this message was carried out
+  -- the message was handled so, and the id of the object that leaves its number by it is kept, if ids are
   abbrev pub HandledOf : SessionState T U → WireMessage → Handling U → MessageResult → SessionState T U → Type 0
   HandledOf before m h to after = HandledTo (freed_session before m h) h to after
 

@@ -46,6 +46,14 @@ module _ {T U : Type 0} where
   abbrev pub RestStays : SessionState T U → SessionState T U → Type 0
   RestStays before after = (after.open_event ≡ before.open_event) × (after.error ≡ before.error) × (after.table ≡ before.table) × (after.last_serial ≡ before.last_serial)
 
+  -- ids of objects that leave their numbers are kept as before, and so are those that wait
+  abbrev pub FreedStay : SessionState T U → SessionState T U → Type 0
+  FreedStay before after = (after.keeps_freed ≡ before.keeps_freed) × (after.freed ≡ before.freed)
+
+  -- so is whether messages of unknown senders are passed over
+  abbrev pub SettingsStay : SessionState T U → SessionState T U → Type 0
+  SettingsStay before after = (after.passes_over ≡ before.passes_over) × FreedStay before after
+
   -- ---- the calls on objects
 
   -- The object that the id names has the data, and is otherwise as it was. Or the id names none, and nothing has changed.
@@ -57,6 +65,7 @@ module _ {T U : Type 0} where
     pub notes : after.notes ≡ before.notes
     pub link : after.link ≡ before.link
     pub rest : RestStays before after
+    pub settings : SettingsStay before after
 
   -- The closure is called once with the user data of the object that the id names, which has what the call left. Without such
   -- data it is not called, and nothing has changed.
@@ -80,6 +89,7 @@ module _ {T U : Type 0} where
     pub objects : OtherObjectsStay before id after
     pub link : after.link ≡ before.link
     pub rest : RestStays before after
+    pub settings : SettingsStay before after
 
   -- The object that the id names had been given up by both sides, and is gone. Or it was not so, and nothing has changed.
   pub record ReclaimsObject (before : SessionState T U) (id : IdParts) (answer : Result (Unit {0}) InvalidId) (after : SessionState T U) : Type 0 where
@@ -91,6 +101,7 @@ module _ {T U : Type 0} where
     pub notes : after.notes ≡ before.notes
     pub link : after.link ≡ before.link
     pub rest : RestStays before after
+    pub settings : SettingsStay before after
 
   -- ---- the connection
 
@@ -116,6 +127,7 @@ module _ {T U : Type 0} where
     pub open_event : after.open_event ≡ before.open_event
     pub notes : after.notes ≡ before.notes
     pub table : after.table ≡ before.table
+    pub settings : SettingsStay before after
 
   -- The buffers have the limit. Nothing else has changed.
   pub record SetsLimit (before : SessionState T U) (limit : Option ℕ) (after : SessionState T U) : Type 0 where
@@ -123,6 +135,7 @@ module _ {T U : Type 0} where
     pub objects : ObjectsStay before after
     pub notes : after.notes ≡ before.notes
     pub rest : RestStays before after
+    pub settings : SettingsStay before after
 
   -- The session passes over messages of unknown senders from now on, or does not. Nothing else has changed.
   pub record SetsPassingOver (before : SessionState T U) (passes : Bool) (after : SessionState T U) : Type 0 where
@@ -131,6 +144,7 @@ module _ {T U : Type 0} where
     pub notes : after.notes ≡ before.notes
     pub link : after.link ≡ before.link
     pub rest : RestStays before after
+    pub freed : FreedStay before after
 
   -- The session has the error that it had, or else this one, and no event is open. Nothing else has changed.
   pub record FailsBy (before : SessionState T U) (e : WaylandError) (after : SessionState T U) : Type 0 where
@@ -141,6 +155,7 @@ module _ {T U : Type 0} where
     pub notes : after.notes ≡ before.notes
     pub link : after.link ≡ before.link
     pub table : after.table ≡ before.table
+    pub settings : SettingsStay before after
 
   -- ---- the ids of objects that left their numbers
 
@@ -154,6 +169,7 @@ module _ {T U : Type 0} where
     pub notes : after.notes ≡ before.notes
     pub link : after.link ≡ before.link
     pub rest : RestStays before after
+    pub passes_over : after.passes_over ≡ before.passes_over
 
   -- The first of those that wait is handed out, if there is one. Nothing else has changed.
   pub record TakesFreed (before : SessionState T U) (answer : Option IdParts) (after : SessionState T U) : Type 0 where
@@ -164,6 +180,7 @@ module _ {T U : Type 0} where
     pub notes : after.notes ≡ before.notes
     pub link : after.link ≡ before.link
     pub rest : RestStays before after
+    pub passes_over : after.passes_over ≡ before.passes_over
 
   -- ---- notes and interfaces
 
@@ -174,6 +191,7 @@ module _ {T U : Type 0} where
     pub objects : ObjectsStay before after
     pub link : after.link ≡ before.link
     pub rest : RestStays before after
+    pub settings : SettingsStay before after
 
   -- The table has grown by that. Or it answers why not, and is as before. Nothing else has changed.
   pub record GrowsTable (before : SessionState T U) (growth : Growth) (answer : Result (Unit {0}) TableError) (after : SessionState T U) : Type 0 where
@@ -185,6 +203,7 @@ module _ {T U : Type 0} where
     pub link : after.link ≡ before.link
     pub open_event : after.open_event ≡ before.open_event
     pub error : after.error ≡ before.error
+    pub settings : SettingsStay before after
 
   -- the new rows follow the others
   abbrev pub AddsInterfaces : SessionState T U → List InterfaceRow → Result (Unit {0}) TableError → SessionState T U → Type 0

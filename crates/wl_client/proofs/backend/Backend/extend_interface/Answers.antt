@@ -20,4 +20,5 @@ returns-clause-plain g c =
       link = refl;
       open_event = refl;
       error = refl;
+      settings = (refl, (refl, refl));
     })

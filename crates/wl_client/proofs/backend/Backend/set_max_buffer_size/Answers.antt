@@ -9,4 +9,4 @@ returns-clause-call g c = rw (← c.self.view_is) (refl, refl, (c.set_max_buffer
 
 pub returns-clause-plain : goal.returns-clause-plain
 returns-clause-plain g c =
-    rw (← c.self.view_is) (record { link = c.set_max_buffer_size.ensures; objects = refl; notes = refl; rest = (refl, refl, refl, refl) })
+    rw (← c.self.view_is) (record { link = c.set_max_buffer_size.ensures; objects = refl; notes = refl; rest = (refl, refl, refl, refl); settings = (refl, (refl, refl)) })

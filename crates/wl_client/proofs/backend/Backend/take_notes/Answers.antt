@@ -20,4 +20,5 @@ returns-clause-plain g c =
       objects = refl;
       link = refl;
       rest = (refl, refl, refl, refl);
+      settings = (refl, (refl, refl));
     })
