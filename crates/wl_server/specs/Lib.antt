@@ -23,7 +23,6 @@ pub mod Lending
 pub mod Lookups
 pub mod Next
 pub mod Chosen
-pub mod FlushedClient
 pub mod Posted
 -- ---- laws of runs
 pub mod Outcome

@@ -60,7 +60,7 @@ module _ {T U G C : Type 0} where
   SameStep (step.Arrive target bytes tokens) s' = ArrivesSame target (record { bytes = bytes.items; tokens = tokens.items }) s'
   SameStep s s' = s ≡ s'
 
-  -- the same step, the same change of a transport, or the same for the table to take
+  -- the same step, the same change of a transport, or the same interfaces or messages to be added to the table
   abbrev pub SameCall : Call T U G C → Call T U G C → Type 0
   SameCall (Asked s _) (Asked s' _) = SameStep s s'
   SameCall (Changed id t) (Changed id' t') = (id ≡ id') × (t ≡ t')

@@ -65,8 +65,8 @@ over sends receives views = record { sends = sends; receives = receives; moves =
 abbrev pub over_scripts : {G C : Type 0} → (G → ClientParts → C → GlobalParts → Bool) → World Script G C
 over_scripts views = record { sends = ScriptSends; receives = ScriptReceives; moves = ScriptMoves; views = views }
 
--- A call of a server: a step with its reply; a change of a client's transport to this value, by the program; or what the table
--- was asked to take, with the answer.
+-- A call of a server: a step with its reply; a change of a client's transport to this value, by the program; or interfaces or
+-- messages that were to be added to the table, with the answer.
 pub data Call (T U G C : Type 0) : Type 0 where
   Asked : Step T U G C → Reply T U → Call T U G C
   Changed : ClientParts → T → Call T U G C

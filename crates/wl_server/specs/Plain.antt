@@ -11,6 +11,7 @@ pub mod DataInPlace
 pub mod Dispatch
 pub mod Transport
 pub mod Chosen
+pub mod FlushedClient
 use Rattle.std.specs.Prelude.{◌≡◌, ◌⊎◌, ℕ, List, [], ◌∷◌, ◌++◌, Bool, true, false, ◌&&◌, if◌then◌else◌, Option, None, Some, IsSome, is_some, Result, Ok, Err, MatchOption, MatchResult, Vec, option_map}
 use Rattle.std.specs.Global.{Global}
 use Rattle.wl_wire.specs.declared.error.IoFault.{IoFault}

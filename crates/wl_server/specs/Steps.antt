@@ -88,8 +88,8 @@ module _ {T U G C : Type 0} where
   offer_after offer (Grown rows answer) = with_table offer (table_after offer.table rows answer)
   offer_after offer _ = offer
 
-  -- A new global has the next name and the next serial, and each error has its reason. What the table is asked to take is
-  -- refused for its first fault, and for want of memory if it has none.
+  -- A new global has the next name and the next serial, and each error has its reason. Interfaces or messages that are added to
+  -- the table are refused for their first fault, and for want of memory if they have none.
   abbrev pub AnswersShared : Offer G → Call T U G C → Type 0
   AnswersShared offer (Asked (step.CreateGlobal i version handler) (reply.CreateGlobal r)) = CreatesGlobal offer.table offer.globals i version r
   AnswersShared offer (Grown rows answer) = AnswersTo offer.table rows answer

@@ -40,12 +40,12 @@ pub enum CreateError {
     /// Each serial was given out.
     #[error("no serial is left")]
     SerialsExhausted,
-    /// The number that was asked for is not free. Only `create_object_at` asks for one.
-    #[error("the number is not free")]
-    NotFree,
     /// There was no memory.
     #[error("out of memory")]
     OutOfMemory,
+    /// The number that was asked for is not free. Only `create_object_at` asks for one.
+    #[error("the number is not free")]
+    NotFree,
 }
 
 /// Writes what `Display` writes.
@@ -135,7 +135,7 @@ pub enum GlobalError {
     /// The version is above that of the interface in the table.
     #[error("the version is above the interface's")]
     VersionTooHigh,
-    /// Each name has a global, or each serial was given out.
+    /// Each name has a global, or, while names are kept, was in use; or each serial was given out.
     #[error("no name or no serial is left")]
     Full,
     /// There was no memory.

@@ -16,7 +16,7 @@
 //!
 //! | Calls | Code | Relations, in `specs/` |
 //! |---|---|---|
-//! | `insert_client`, `next_client_id`, `kill_client`, `flush`, `flush_client`, the limits | `client::insert`, `client::kill`, `client::flush`, `client::flush_client`, `client::limits` | `PartStep`, `Felt`, `Telling`, `Next`, `FlushedClient` |
+//! | `insert_client`, `next_client_id`, `kill_client`, `flush`, `flush_client`, the limits | `client::insert`, `client::kill`, `client::flush`, `client::flush_client`, `client::limits` | `PartStep`, `Felt`, `Telling`, `Next`, `Plain/FlushedClient` |
 //! | `transport_mut` | `client::transport` | `Backend`, `Lending`, `Plain/Transport` |
 //! | `create_object`, `destroy_object`, `set_object_data`, `with_object_data` | `objects` | `Objects`, `Plain/DataInPlace` |
 //! | `create_object_at`, `set_object_version` | `objects::create_at`, `objects::version` | `Chosen`, `Plain/Chosen` |

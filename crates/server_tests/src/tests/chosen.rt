@@ -151,7 +151,7 @@ static ROWS: [Row; 8] = [
         ],
         told: "client 0, 1\ncreated 4278190080, 1, 4 of 0\ncreated 4278190081, 2, 4 of 0\n4278190081, 2, 4 of 0 with 8\n1, 0, 1 of 0\nInvalid Id\nInvalid Id\nInvalid Id\n1, 0, 1 of 0\n4278190080, 1, 4 of 0 with 9\n4278190081, 2, 4 of 0 with 8\nInvalid Id\n",
     },
-    // A transport that takes nothing more leaves something that waits; a fault is told as a flush tells it.
+    // A transport that takes nothing more leaves something that waits; another fault is told as a flush tells it.
     Row {
         name: "flush of one client",
         acts: &[
@@ -165,10 +165,12 @@ static ROWS: [Row; 8] = [
             Act::Beside(Beside::FlushClient(FIRST)),
             Act::Do(Call::AcceptFault(FIRST, IoFault::WouldBlock)),
             Act::Beside(Beside::FlushClient(FIRST)),
+            Act::Do(Call::AcceptFault(FIRST, IoFault::Pipe)),
+            Act::Beside(Beside::FlushClient(FIRST)),
             Act::Beside(Beside::FlushClient(FIRST)),
             Act::Do(Call::TakeSent(FIRST)),
         ],
-        told: "all is sent\nclient 0, 1\nall is sent\ncreated 4278190080, 1, 4 of 0\ndone\nmore waits\nwould block\nall is sent\n00 00 00 ff 00\n00 0c 00 07 00 00 00\n",
+        told: "all is sent\nclient 0, 1\nall is sent\ncreated 4278190080, 1, 4 of 0\ndone\nmore waits\nmore waits\nbroken pipe\nall is sent\n00 00 00 ff 00\n00 0c 00 07 00 00 00\n",
     },
 ];
 

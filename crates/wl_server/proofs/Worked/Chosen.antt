@@ -10,7 +10,7 @@ use Rattle.wl_server.specs.declared.runs.step.Reply.TheVariants as reply
 use Rattle.wl_server.specs.declared.runs.step.Step.{Step}
 use Rattle.wl_server.specs.declared.runs.step.Step.TheVariants as step
 use Rattle.wl_server.specs.Chosen.{has_version, with_version}
-use Rattle.wl_server.specs.FlushedClient.{left_by, without_left}
+use Rattle.wl_server.specs.Plain.FlushedClient.{TellsLeft, left_by}
 use Rattle.wl_server.specs.Globals.{keeping, new_offer}
 use Rattle.wl_server.specs.Part.{fresh_object}
 use Rattle.wl_server.specs.PartStep.{Asked, PartStep, World}
@@ -51,5 +51,7 @@ module _ (w : World ℕ ℕ Bool) (made : List (Happening ℕ)) where
 
 -- ---- a flush
 
-flushes : (left_by [] ≡ All) × (left_by (7 ∷ []) ≡ More) × (without_left (Ok More) ≡ Ok tt) × (without_left (Err fault.Pipe) ≡ Err fault.Pipe)
-flushes = (refl, refl, refl, refl)
+-- a transport that takes no more is no error, and bytes wait then
+flushes : (left_by [] ≡ All) × (left_by (7 ∷ []) ≡ More) × TellsLeft (Ok tt) All (Ok All) × TellsLeft (Err fault.WouldBlock) More (Ok More)
+    × TellsLeft (Err fault.Pipe) More (Err fault.Pipe)
+flushes = (refl, refl, refl, refl, refl)

@@ -1,10 +1,11 @@
 //! Sends what waits for one client, and says whether more waits.
 
-ghost use Rattle.std.specs.Prelude.{◌≡◌, IfOk, Some};
+ghost use Rattle.std.specs.Prelude.{◌≡◌, Result, Some};
 ghost use Rattle.wl_server.specs.Backend.{Calls};
-ghost use Rattle.wl_server.specs.FlushedClient.{left_in, left_of, without_left};
+ghost use Rattle.wl_server.specs.Plain.FlushedClient.{TellsLeft, left_in, left_of};
 ghost use Rattle.wl_server.specs.PartStep.{over};
 ghost use Rattle.wl_server.specs.Plain.{FlushesClients};
+ghost use Rattle.wl_wire.specs.declared.error.IoFault.{IoFault};
 ghost use Rattle.wl_server.specs.declared.runs.step.Reply.TheVariants as reply;
 ghost use Rattle.wl_server.specs.declared.runs.step.Step.TheVariants as step;
 
@@ -20,7 +21,7 @@ use wl_wire::IoFault;
 pub enum Flushed {
     /// None do, or the client is not stored.
     All,
-    /// Some do: the transport took no more. `flush_client` goes on with them once it does.
+    /// Some do: the transport takes no more now. `flush_client` goes on with them once it does.
     More,
 }
 
@@ -39,14 +40,16 @@ impl<T: Transport + Drop, U: Drop, G: GlobalHandler<C> + Drop, C: Drop> Backend<
     /// Sends what waits for the client, as `flush(Some(client))` does, and says whether more waits: then the host watches
     /// for when its socket takes more.
     ///
-    /// It stands for `wl_client_flush` of libwayland. It answers `All` for a client that is not stored, and the error is that
-    /// of `flush`: what was not sent then still waits.
+    /// It stands for `wl_client_flush` of libwayland. It answers `All` for a client that is not stored. A socket that takes no
+    /// more is no error here: the answer is `More`. Any other error is that of `flush`.
     pub fn flush_client(&mut self, client: &ClientId) -> Result<Flushed, IoFault>
-        ensures call { Calls (over T.sends T.receives G.views) self.old (step.Flush (Some client.now)) (reply.Flush (without_left result)) self.new }
-        ensures plain { FlushesClients T.sends self.old (Some client.now) (without_left result) self.new }
-        ensures left { IfOk result (λ left. left ≡ left_in self.new client.now) }
+        ensures call { (answer : Result (Unit {0}) IoFault) × Calls (over T.sends T.receives G.views) self.old (step.Flush (Some client.now)) (reply.Flush answer) self.new × TellsLeft answer (left_in self.new client.now) result }
+        ensures plain { (answer : Result (Unit {0}) IoFault) × FlushesClients T.sends self.old (Some client.now) answer self.new × TellsLeft answer (left_in self.new client.now) result }
     {
-        self.flush(Some(*client))?;
+        match self.flush(Some(*client)) {
+            Ok(()) | Err(IoFault::WouldBlock) => {}
+            Err(fault) => return Err(fault),
+        }
         Ok(match self.client(client) {
             Some(stored) => left(stored),
             None => Flushed::All,

@@ -106,8 +106,9 @@ impl<T: Transport + Drop, U: Drop, G: GlobalHandler<C> + Drop, C: Drop> Backend<
     /// Creates a global, and announces it by `wl_registry.global` to the registries of each live client that may see it.
     ///
     /// It stands for `wayland_backend::server::Handle::create_global`. The global gets the least name that no other
-    /// global has; while names are kept (`keep_global_names`), the least that was never in use. `version` is the greatest version that clients may bind. If a client cannot be told, for lack of
-    /// memory or for another reason, it is killed, and the global is created all the same.
+    /// global has; while names are kept (`keep_global_names`), the least that was never in use. `version` is the greatest
+    /// version that clients may bind. If a client cannot be told, for lack of memory or for another reason, it is killed, and
+    /// the global is created all the same.
     ///
     /// # Errors
     ///

@@ -95,7 +95,7 @@ impl<T: Transport + Drop, U: Drop, G: GlobalHandler<C> + Drop, C: Drop> Backend<
         }
     }
 
-    /// Removes the global: its name is free for another.
+    /// Removes the global: its name is free for another, unless names are kept (`keep_global_names`).
     ///
     /// It stands for `wayland_backend::server::Handle::remove_global`. If the global was not disabled before, each
     /// registry of each live client is told, as by `disable_global`. If the server does not have the global, nothing

@@ -1,17 +1,13 @@
 -- What a flush of one client says of the bytes that wait then.
-use Rattle.std.specs.Prelude.{ℕ, List, [], ◌∷◌, Option, None, Some, Result, Ok, Err}
+use Rattle.std.specs.Prelude.{◌≡◌, ℕ, List, [], ◌∷◌, Option, None, Some, Result, Ok, Err}
 use Rattle.wl_wire.specs.declared.error.IoFault.{IoFault}
+use Rattle.wl_wire.specs.declared.error.IoFault.TheVariants as fault
 use Rattle.wl_server.specs.declared.client.flush_client.Flushed.{Flushed}
 use Rattle.wl_server.specs.declared.client.flush_client.Flushed.TheVariants.{All, More}
 use Rattle.wl_server.specs.Backend.{BackendState}
 use Rattle.wl_server.specs.Ids.{ClientParts}
 use Rattle.wl_server.specs.Lookups.{client_of}
 use Rattle.wl_server.specs.Part.{Part}
-
--- the answer of a flush, without what it says of the bytes that wait
-abbrev pub without_left : Result Flushed IoFault → Result (Unit {0}) IoFault
-without_left (Ok left) = Ok tt
-without_left (Err e) = Err e
 
 abbrev pub left_by : List ℕ → Flushed
 left_by [] = All
@@ -29,3 +25,9 @@ module _ {T U C : Type 0} where
 -- none wait for a client that is not stored
 abbrev pub left_in : {T U G C : Type 0} → BackendState T U G C → ClientParts → Flushed
 left_in b id = left_if_stored (client_of b.server id)
+
+-- What is told of a flush that was answered so, and of what waits then. A transport that takes no more is no error.
+abbrev pub TellsLeft : Result (Unit {0}) IoFault → Flushed → Result Flushed IoFault → Type 0
+TellsLeft (Ok _) left result = result ≡ Ok left
+TellsLeft (Err fault.WouldBlock) left result = result ≡ Ok left
+TellsLeft (Err e) left result = result ≡ Err e
