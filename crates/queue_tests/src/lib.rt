@@ -2,6 +2,8 @@
 #![tactic(auto)]
 
 #[cfg(test)]
+mod drill;
+#[cfg(test)]
 mod run;
 #[cfg(test)]
 mod tests;

@@ -102,8 +102,9 @@ fn perform_quiet(queues: &mut Queues<u32>, log: &mut String, act: Act) -> Result
     }
 }
 
-/// Makes the call, and tells what it answers.
-fn perform(
+/// Makes the call, and tells what it answers. But for `Act::Put`, which makes an event, it takes no memory that the call does not
+/// take, if the log has room.
+pub fn perform(
     alloc: Global,
     queues: &mut Queues<u32>,
     log: &mut String,

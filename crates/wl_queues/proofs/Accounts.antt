@@ -3,7 +3,7 @@ use Rattle.std.proofs.Common.{◌≡◌, ℕ, List, [], ◌∷◌, ◌++◌, Boo
 use Rattle.std.specs.Prelude.{if◌then◌else◌, ◌==◌}
 use Rattle.std.proofs.lemmas.Bool.Decides.{nat_tests}
 use Rattle.wl_queues.specs.declared.events.Event.{Event}
-use Rattle.wl_queues.specs.Queues.{Call, Add, Destroy, DropQueue, Does, Fail, Finish, NewQueue, Next, Note, Put, QueuesState, SetQueue}
+use Rattle.wl_queues.specs.Queues.{Call, Add, Destroy, DropQueue, Does, Fail, Finish, NewQueue, Next, NextUnused, Put, QueuesState, SetQueue}
 use Rattle.wl_queues.specs.Runs.{AccountsForQueues, Runs, all_by, comes_by, leaves_by, new_queues}
 
 module _ {E : Type 0} where
@@ -35,7 +35,7 @@ module _ {E : Type 0} where
   step s m q (Destroy object) d = as-it-was s m q (d.leaves.waiting q)
   step s m q (Finish ticket e) d = as-it-was s m q (d.leaves.waiting q)
   step s m q Fail d = as-it-was s m q (d.leaves.waiting q)
-  step s m q (Note object) d = as-it-was s m q (d.leaves.waiting q)
+  step s m q (NextUnused object) d = as-it-was s m q (d.leaves.waiting q)
 
   accounts : (s t : QueuesState E) (q : ℕ) (calls : List (Call E)) → Runs s calls t →
       s.waiting q ++ all_by (comes_by q) calls ≡ all_by (leaves_by q) calls ++ t.waiting q

@@ -7,7 +7,7 @@ use Rattle.wl_queues.specs.declared.objects.Fate.TheVariants.{Alive}
 use Rattle.wl_queues.specs.declared.objects.Object.{Object}
 use Rattle.wl_queues.specs.Events.{reason_against}
 use Rattle.wl_queues.specs.Objects.{alive_in, destroyed, in_queue, is_alive, nobody}
-use Rattle.wl_queues.specs.Queues.{Call, Add, Destroy, DropQueue, Does, Fail, Finish, NewQueue, Next, Note, Outcome, Put, QueuesState, SetQueue, outcome_by}
+use Rattle.wl_queues.specs.Queues.{Call, Add, Destroy, DropQueue, Does, Fail, Finish, NewQueue, Next, NextUnused, Outcome, Put, QueuesState, SetQueue, outcome_by}
 use Rattle.wl_queues.specs.Runs.{DropsForGood, HandsNoneOutAfterFailing, Runs, all_by, comes_by, hands_by, is_handed, new_queues}
 
 -- an event is handed out only if nothing is against it
@@ -23,7 +23,7 @@ alive-left queue x true alive = alive
 alive-left queue x false alive = alive
 
 module _ {E : Type 0} where
-  -- no object that is alive has a queue that was dropped, and the first queue was not
+  -- no object that is alive has a queue that was dropped, and the default queue was not
   record AreOpen (s : QueuesState E) : Type 0 where
     first : s.is_dropped 0 ≡ false
     each : (o : ℕ) → (s.objects o).fate ≡ Alive → s.is_dropped (s.objects o).queue ≡ false
@@ -55,7 +55,7 @@ module _ {E : Type 0} where
   open-step s m (Add object queue) d was = open-with s m object (alive_in queue) d.leaves.objects d.leaves.is_dropped (λ alive. d.answers.1.kept) was
   open-step s m (SetQueue object queue) d was = open-with s m object (in_queue queue (s.objects object)) d.leaves.objects d.leaves.is_dropped (λ alive. d.answers.1.kept) was
   open-step s m (Destroy object) d was = open-with s m object (destroyed (s.objects object)) d.leaves.objects d.leaves.is_dropped (λ alive. absurd (grind (arith, alive))) was
-  open-step s m (Note object) d was = open-with s m object nobody d.leaves.objects d.leaves.is_dropped (λ alive. absurd (grind (arith, alive))) was
+  open-step s m (NextUnused object) d was = open-with s m object nobody d.leaves.objects d.leaves.is_dropped (λ alive. absurd (grind (arith, alive))) was
   open-step s m (DropQueue queue) d was = record {
     first = d.leaves.is_dropped 0 ∙ grind (arith, nat_tests, d.answers.1, was.first);
     each = λ o alive.
@@ -91,7 +91,7 @@ module _ {E : Type 0} where
   dropped-step s m q (Next queue e outcome) d dropped = d.leaves.is_dropped q ∙ dropped
   dropped-step s m q (Finish ticket e) d dropped = d.leaves.is_dropped q ∙ dropped
   dropped-step s m q Fail d dropped = d.leaves.is_dropped q ∙ dropped
-  dropped-step s m q (Note object) d dropped = d.leaves.is_dropped q ∙ dropped
+  dropped-step s m q (NextUnused object) d dropped = d.leaves.is_dropped q ∙ dropped
 
   none-put : (s : QueuesState E) (q queue : ℕ) (e : Event E) → s.is_dropped q ≡ true → s.is_dropped queue ≡ false → (b : Bool) → (q == queue) ≡ b → (if b then e ∷ [] else []) ≡ []
   none-put s q queue e dropped kept true here = let same : q ≡ queue = grind (arith, nat_tests, here) in absurd (clash (sym dropped ∙ (ap s.is_dropped same ∙ kept)))
@@ -111,7 +111,7 @@ module _ {E : Type 0} where
   comes-none s m q (Next queue e outcome) d was dropped = refl
   comes-none s m q (Finish ticket e) d was dropped = refl
   comes-none s m q Fail d was dropped = refl
-  comes-none s m q (Note object) d was dropped = refl
+  comes-none s m q (NextUnused object) d was dropped = refl
 
   none-handed : (e : Event E) (outcome : Outcome) (b : Bool) → is_handed outcome ≡ false → (if b then (if is_handed outcome then e ∷ [] else []) else []) ≡ []
   none-handed e outcome true against = ap (λ h. if h then e ∷ [] else []) against
@@ -137,7 +137,7 @@ module _ {E : Type 0} where
   hands-none s m q (Put queue e) d dropped = refl
   hands-none s m q (Finish ticket e) d dropped = refl
   hands-none s m q Fail d dropped = refl
-  hands-none s m q (Note object) d dropped = refl
+  hands-none s m q (NextUnused object) d dropped = refl
 
   both-none : (xs ys : List (Event E)) → xs ≡ [] → ys ≡ [] → xs ++ ys ≡ []
   both-none xs ys x y = ap (λ zs. zs ++ ys) x ∙ y
@@ -161,7 +161,7 @@ module _ {E : Type 0} where
   failed-step s m (Put queue e) d failed = d.leaves.failed ∙ failed
   failed-step s m (Next queue e outcome) d failed = d.leaves.failed ∙ failed
   failed-step s m (Finish ticket e) d failed = d.leaves.failed ∙ failed
-  failed-step s m (Note object) d failed = d.leaves.failed ∙ failed
+  failed-step s m (NextUnused object) d failed = d.leaves.failed ∙ failed
 
   hands-failed : (s m : QueuesState E) (q : ℕ) (c : Call E) → Does s c m → s.failed ≡ true → hands_by q c ≡ []
   hands-failed s m q (Next queue e outcome) d failed =
@@ -175,7 +175,7 @@ module _ {E : Type 0} where
   hands-failed s m q (Put queue e) d failed = refl
   hands-failed s m q (Finish ticket e) d failed = refl
   hands-failed s m q Fail d failed = refl
-  hands-failed s m q (Note object) d failed = refl
+  hands-failed s m q (NextUnused object) d failed = refl
 
   failed-run : (s t : QueuesState E) (q : ℕ) (calls : List (Call E)) → Runs s calls t → s.failed ≡ true → (t.failed ≡ true) × (all_by (hands_by q) calls ≡ [])
   failed-run s t q [] r failed = (r.failed ∙ failed, refl)

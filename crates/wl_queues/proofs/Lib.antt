@@ -1,9 +1,9 @@
 pub mod Accounts
 pub mod Dropped
 pub mod Lists
-pub mod Noted
 pub mod Reading
 pub mod Refusing
 pub mod Slots
 pub mod States
 pub mod Times
+pub mod Unused

@@ -5,9 +5,10 @@ use Rattle.std.specs.List.{sum_by}
 use Rattle.std.proofs.lemmas.Bool.Decides.{nat_tests}
 use Rattle.std.proofs.lemmas.List.Elements.{All-cons, All-head, All-nil, All-tail}
 use Rattle.std.proofs.lemmas.List.Sums.{sum_by-cons}
+use Rattle.wl_queues.specs.declared.events.Event.{Event}
 use Rattle.wl_queues.specs.declared.events.Held.{Held}
 use Rattle.wl_queues.specs.declared.queues.Queue.{Queue}
-use Rattle.wl_queues.specs.Events.{times_named}
+use Rattle.wl_queues.specs.Events.{IsFirstSender, times_named}
 use Rattle.wl_queues.specs.Inside.Counts.{dropped_at, events_of, is_gone, named_by_held, named_by_queue, named_in_hand, named_waiting, waiting_at}
 use Rattle.wl_queues.specs.Queues.{QueuesState, IsUnnamed, with_waiting}
 
@@ -53,6 +54,15 @@ all-of-zero f (x ∷ xs) none =
     All-cons (λ x. f x ≡ 0) x xs (omega (arith, both, none)) (all-of-zero f xs (omega (arith, both, none)))
 
 module _ {E : Type 0} where
+  -- what is found at the front is the first event
+  pub first-there : (events : List (Event E)) (e : Event E) → 0 < length events → e ≡ get_or events 0 e → (later : List (Event E)) × (events ≡ e ∷ later)
+  first-there [] e some is = absurd (omega arith)
+  first-there (x ∷ later) e some is = (later, ap (λ y. y ∷ later) (sym is))
+
+  -- two events that are first are for one object
+  pub same-sender : (events : List (Event E)) (o : ℕ) (e : Event E) (later : List (Event E)) → IsFirstSender o events → events ≡ e ∷ later → o ≡ e.sender
+  same-sender events o e later first is = first.3 ∙ ap (λ ws. (get_or ws 0 e).sender) (sym first.2 ∙ is)
+
   pub waiting-set : (queues : List (Queue E)) (i : ℕ) (q : Queue E) (n : ℕ) → i < length queues → waiting_at (slice_set queues i q) n ≡ with_waiting i q.events.items (waiting_at queues) n
   waiting-set queues i q n lt = map-at events_of queues i q n [] lt
 

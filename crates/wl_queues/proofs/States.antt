@@ -1,16 +1,19 @@
 -- What calls leave, as states.
-use Rattle.std.proofs.Common.{◌≡◌, ℕ, zero, suc, ◌<◌, List, [], ◌∷◌, length, get_or, true, refl, sym, ap, ◌∙◌, arith, Option, Some, None}
+use Rattle.std.proofs.Common.{◌≡◌, ℕ, zero, suc, ◌<◌, List, [], ◌∷◌, length, get_or, Bool, true, refl, sym, ap, ◌∙◌, arith, Option, Some, None}
 use Rattle.std.specs.Prelude.{IfNone, IfSome, remove, slice_get, unwrap_or}
 use Rattle.std.specs.List.{position}
 use Rattle.std.proofs.lemmas.Bool.Decides.{nat_tests}
 use Rattle.std.proofs.lemmas.List.Quantifiers.{position-Some}
+use Rattle.wl_queues.specs.declared.events.Event.{Event}
 use Rattle.wl_queues.specs.declared.events.Held.{Held}
-use Rattle.wl_queues.specs.Events.{has_ticket}
+use Rattle.wl_queues.specs.declared.events.Reason.{Reason}
+use Rattle.wl_queues.specs.Events.{IsFirstSender, has_ticket, reason_against}
+use Rattle.wl_queues.specs.Nexts.{HandsNext}
 use Rattle.wl_queues.specs.declared.objects.Fate.TheVariants.{Destroyed}
 use Rattle.wl_queues.specs.declared.queues.Queues.{Queues}
 use Rattle.wl_queues.specs.Inside.Objects.{object_of, references_of}
-use Rattle.wl_queues.specs.Objects.{given_up}
-use Rattle.wl_queues.specs.Queues.{Does, Finish, IsUnused, Note, QueuesState}
+use Rattle.wl_queues.specs.Objects.{given_up, is_alive}
+use Rattle.wl_queues.specs.Queues.{Does, Finish, IsUnused, NextUnused, QueuesState, outcome_by, outcome_of}
 use Rattle.wl_queues.specs.States.{state_of}
 use Rattle.wl_queues.proofs.Lists.{unnamed-of-zero, zero-of-unnamed}
 
@@ -28,10 +31,10 @@ module _ {E : Type 0} where
   none-unused q None h = λ o u. let zero-times = q.counted.each o ∙ zero-of-unnamed (state_of q) o q.queues.items q.in_hand.items (λ n. refl) refl u.unnamed in omega (arith, h o u.destroyed, zero-times)
   none-unused q (Some o) h = tt
 
-  pub note-does : (s t : QueuesState E) (r : Option ℕ) → IfSome r (λ o. IsUnused s o) → ((p : ℕ) → t.objects p ≡ given_up r s.objects p) → t.queues ≡ s.queues → ((n : ℕ) → t.is_dropped n ≡ s.is_dropped n) →
-      ((n : ℕ) → t.waiting n ≡ s.waiting n) → t.in_hand ≡ s.in_hand → t.tickets ≡ s.tickets → t.failed ≡ s.failed → IfSome r (λ o. Does s (Note o) t)
-  note-does s t None unused objects queues dropped waiting in_hand tickets failed = tt
-  note-does s t (Some o) unused objects queues dropped waiting in_hand tickets failed = record {
+  pub told-does : (s t : QueuesState E) (r : Option ℕ) → IfSome r (λ o. IsUnused s o) → ((p : ℕ) → t.objects p ≡ given_up r s.objects p) → t.queues ≡ s.queues → ((n : ℕ) → t.is_dropped n ≡ s.is_dropped n) →
+      ((n : ℕ) → t.waiting n ≡ s.waiting n) → t.in_hand ≡ s.in_hand → t.tickets ≡ s.tickets → t.failed ≡ s.failed → IfSome r (λ o. Does s (NextUnused o) t)
+  told-does s t None unused objects queues dropped waiting in_hand tickets failed = tt
+  told-does s t (Some o) unused objects queues dropped waiting in_hand tickets failed = record {
     answers = unused;
     leaves = record { objects = objects; queues = queues; is_dropped = dropped; waiting = waiting; in_hand = in_hand; tickets = tickets; failed = failed };
   }
@@ -62,3 +65,18 @@ module _ {E : Type 0} where
     where
       ticket-is : has_ticket ticket h ≡ true → h.ticket ≡ ticket
       ticket-is e = grind (arith, nat_tests, e)
+
+  -- the outcome of the first event, by what was looked up of it
+  pub outcome-found : (s : QueuesState E) (queue o : ℕ) (e : Event E) (reason : Option Reason) (dropped alive : Bool) → o ≡ e.sender → s.is_dropped queue ≡ dropped → alive ≡ is_alive (s.objects o).fate →
+      reason ≡ reason_against s.failed dropped alive → outcome_by s.tickets reason ≡ outcome_of s queue e
+  outcome-found s queue o e reason dropped alive same is_dropped is_alive_so is =
+      ap (outcome_by s.tickets) (is
+      ∙ (ap (λ d. reason_against s.failed d alive) (sym is_dropped)
+      ∙ (ap (λ a. reason_against s.failed (s.is_dropped queue) a) is_alive_so
+      ∙ ap (λ n. reason_against s.failed (s.is_dropped queue) (is_alive (s.objects n).fate)) same)))
+
+  -- the first event is to be handed out, if no reason was found against that
+  pub hands-found : (s : QueuesState E) (queue o : ℕ) (events : List (Event E)) (dropped alive : Bool) → s.waiting queue ≡ events → IsFirstSender o events → s.is_dropped queue ≡ dropped →
+      alive ≡ is_alive (s.objects o).fate → None ≡ reason_against s.failed dropped alive → HandsNext s queue
+  hands-found s queue o events dropped alive waiting first is_dropped is_alive_so none =
+      (first.0, first.1, waiting ∙ first.2, sym (outcome-found s queue o first.0 None dropped alive first.3 is_dropped is_alive_so none))

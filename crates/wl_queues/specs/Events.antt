@@ -1,5 +1,5 @@
 -- Events, and which objects they name.
-use Rattle.std.specs.Prelude.{◌≡◌, ℕ, ◌+◌, ◌==◌, Bool, true, false, if◌then◌else◌, List, Option, None, Some, All}
+use Rattle.std.specs.Prelude.{◌≡◌, ℕ, ◌+◌, ◌==◌, Bool, true, false, if◌then◌else◌, List, [], ◌∷◌, ◌++◌, Option, None, Some, All}
 use Rattle.std.specs.List.{count_by}
 use Rattle.wl_queues.specs.declared.events.Event.{Event}
 use Rattle.wl_queues.specs.declared.events.Held.{Held}
@@ -21,6 +21,14 @@ module _ {E : Type 0} where
   pub record NamesLive (objects : ℕ → Object) (e : Event E) : Type 0 where
     pub sender : (objects e.sender).fate ≡ Alive
     pub arguments : All (λ o. (objects o).fate ≡ Alive) e.arguments.items
+
+  -- behind these events comes this one
+  abbrev pub IsAppended : List (Event E) → Event E → List (Event E) → Type 0
+  IsAppended events e more = more ≡ events ++ e ∷ []
+
+  -- the first of these events is for this object
+  abbrev pub IsFirstSender : ℕ → List (Event E) → Type 0
+  IsFirstSender o events = (e : Event E) × (later : List (Event E)) × (events ≡ e ∷ later) × (o ≡ e.sender)
 
   abbrev pub has_ticket : ℕ → Held E → Bool
   has_ticket ticket h = h.ticket == ticket

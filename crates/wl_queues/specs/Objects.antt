@@ -32,7 +32,19 @@ destroyed x = record { queue = x.queue; fate = Destroyed }
 abbrev pub in_queue : ℕ → Object → Object
 in_queue queue x = record { queue = queue; fate = x.fate }
 
--- objects of a queue that is dropped have the first queue
+-- a new object of the queue is in this slot
+abbrev pub with_new : ℕ → ℕ → (ℕ → Object) → ℕ → Object
+with_new object queue objects = with_object object (alive_in queue) objects
+
+-- the object has this queue
+abbrev pub with_queue : ℕ → ℕ → (ℕ → Object) → ℕ → Object
+with_queue object queue objects = with_object object (in_queue queue (objects object)) objects
+
+-- the object is destroyed
+abbrev pub with_destroyed : ℕ → (ℕ → Object) → ℕ → Object
+with_destroyed object objects = with_object object (destroyed (objects object)) objects
+
+-- objects of a queue that is dropped have the default queue
 abbrev pub left_by : ℕ → Object → Object
 left_by queue x = if x.queue == queue then in_queue 0 x else x
 

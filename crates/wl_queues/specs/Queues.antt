@@ -9,7 +9,7 @@ use Rattle.wl_queues.specs.declared.objects.Fate.{Fate}
 use Rattle.wl_queues.specs.declared.objects.Fate.TheVariants.{Alive, Destroyed, Free}
 use Rattle.wl_queues.specs.declared.objects.Object.{Object}
 use Rattle.wl_queues.specs.Events.{NamesLive, has_ticket, reason_against, times_named}
-use Rattle.wl_queues.specs.Objects.{alive_in, destroyed, in_queue, is_alive, left_by, nobody, with_object}
+use Rattle.wl_queues.specs.Objects.{is_alive, left_by, nobody, with_destroyed, with_new, with_object, with_queue}
 
 -- The objects by their slots; how many queues were made, which of them were dropped, and the events that wait in each, the oldest
 -- first; the events that were handed out and not finished, and how many were handed out at all; and whether the session failed.
@@ -63,6 +63,14 @@ module _ {E : Type 0} where
   abbrev pub has_events : QueuesState E → ℕ → Bool
   has_events s queue = is_some_event (s.waiting queue)
 
+  -- no event in hand has this ticket
+  abbrev pub HasNoTicket : QueuesState E → ℕ → Type 0
+  HasNoTicket s ticket = position (has_ticket ticket) s.in_hand ≡ None
+
+  -- the queue that the sender of the event has
+  abbrev pub queue_of : QueuesState E → Event E → ℕ
+  queue_of s e = (s.objects e.sender).queue
+
   -- the event in hand with this ticket
   abbrev pub event_of : QueuesState E → ℕ → Option (Event E)
   event_of s ticket = option_and_then (λ i. option_map (λ h. h.event) (slice_get s.in_hand i)) (position (has_ticket ticket) s.in_hand)
@@ -89,7 +97,7 @@ tickets_in (Dropped reason) = 0
 
 -- A call that changes something, with what it answered: a new queue, a dropped one, a new object in a slot, another queue for an
 -- object's later events, an object that is destroyed, an event that comes into a queue, one that leaves it, the end of one that is
--- in hand, the failing of the session, and the note that an object is unused.
+-- in hand, the failing of the session, and an object that is told unused.
 pub data Call (E : Type 0) : Type 0 where
   NewQueue : (queue : ℕ) → Call E
   DropQueue : (queue : ℕ) → Call E
@@ -100,7 +108,7 @@ pub data Call (E : Type 0) : Type 0 where
   Next : (queue : ℕ) (event : Event E) (outcome : Outcome) → Call E
   Finish : (ticket : ℕ) (event : Event E) → Call E
   Fail : Call E
-  Note : (object : ℕ) → Call E
+  NextUnused : (object : ℕ) → Call E
 
 module _ {E : Type 0} where
   -- at one queue the events are these, and at the others as they were
@@ -109,6 +117,10 @@ module _ {E : Type 0} where
 
   abbrev pub outcome_of : QueuesState E → ℕ → Event E → Outcome
   outcome_of s queue e = outcome_by s.tickets (reason_against s.failed (s.is_dropped queue) (is_alive (s.objects e.sender).fate))
+
+  -- the event comes into the queue that its sender has
+  abbrev pub put_of : QueuesState E → Event E → Call E
+  put_of s e = Put (queue_of s e) e
 
   -- in hand is also what was handed out
   abbrev pub handed : Outcome → Event E → List (Held E)
@@ -126,19 +138,19 @@ module _ {E : Type 0} where
   Answers s (Add object queue) = ((s.objects object).fate ≡ Free) × IsOpen s queue
   Answers s (SetQueue object queue) = ((s.objects object).fate ≡ Alive) × IsOpen s queue
   Answers s (Destroy object) = (s.objects object).fate ≡ Alive
-  Answers s (Put queue e) = NamesLive s.objects e × (queue ≡ (s.objects e.sender).queue)
+  Answers s (Put queue e) = NamesLive s.objects e × (queue ≡ queue_of s e)
   Answers s (Next queue e outcome) = ((later : List (Event E)) × (s.waiting queue ≡ e ∷ later)) × (outcome ≡ outcome_of s queue e)
   Answers s (Finish ticket e) = (i : ℕ) × (position (has_ticket ticket) s.in_hand ≡ Some i) × (slice_get s.in_hand i ≡ Some (record { ticket = ticket; event = e }))
   Answers s Fail = Unit {0}
-  Answers s (Note object) = IsUnused s object
+  Answers s (NextUnused object) = IsUnused s object
 
   -- the state after a call
   abbrev pub after : QueuesState E → Call E → QueuesState E
   after s (NewQueue queue) = record s { queues = s.queues + 1 }
   after s (DropQueue queue) = record s { objects = λ o. left_by queue (s.objects o); is_dropped = λ q. if q == queue then true else s.is_dropped q }
-  after s (Add object queue) = record s { objects = with_object object (alive_in queue) s.objects }
-  after s (SetQueue object queue) = record s { objects = with_object object (in_queue queue (s.objects object)) s.objects }
-  after s (Destroy object) = record s { objects = with_object object (destroyed (s.objects object)) s.objects }
+  after s (Add object queue) = record s { objects = with_new object queue s.objects }
+  after s (SetQueue object queue) = record s { objects = with_queue object queue s.objects }
+  after s (Destroy object) = record s { objects = with_destroyed object s.objects }
   after s (Put queue e) = record s { waiting = with_waiting queue (s.waiting queue ++ e ∷ []) s.waiting }
   after s (Next queue e outcome) = record s {
     waiting = with_waiting queue (drop 1 (s.waiting queue)) s.waiting;
@@ -147,7 +159,7 @@ module _ {E : Type 0} where
   }
   after s (Finish ticket e) = record s { in_hand = remove s.in_hand (place_of ticket s.in_hand) }
   after s Fail = record s { failed = true }
-  after s (Note object) = record s { objects = with_object object nobody s.objects }
+  after s (NextUnused object) = record s { objects = with_object object nobody s.objects }
 
   -- what a call does that answers so
   pub record Does (s : QueuesState E) (c : Call E) (t : QueuesState E) : Type 0 where

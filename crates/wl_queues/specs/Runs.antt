@@ -4,7 +4,7 @@ use Rattle.wl_queues.specs.declared.events.Event.{Event}
 use Rattle.wl_queues.specs.declared.objects.Fate.{Fate}
 use Rattle.wl_queues.specs.declared.objects.Fate.TheVariants.{Alive, Destroyed, Free}
 use Rattle.wl_queues.specs.Objects.{nobody}
-use Rattle.wl_queues.specs.Queues.{Call, Add, Does, Dropped, Handed, IsAlike, IsUnnamed, Next, Note, Outcome, Put, QueuesState}
+use Rattle.wl_queues.specs.Queues.{Call, Add, Does, Dropped, Handed, IsAlike, IsUnnamed, Next, NextUnused, Outcome, Put, QueuesState}
 
 abbrev pub is_handed : Outcome → Bool
 is_handed (Handed ticket) = true
@@ -17,7 +17,7 @@ times_kept Alive = 1
 times_kept Destroyed = 1
 
 module _ {E : Type 0} where
-  -- queues as they are made: the first one, with no events, and no objects
+  -- queues as they are made: the default one, with no events, and no objects
   abbrev pub new_queues : QueuesState E
   new_queues = record {
     objects = λ o. nobody;
@@ -53,15 +53,15 @@ module _ {E : Type 0} where
   all_by events [] = []
   all_by events (c ∷ calls) = events c ++ all_by events calls
 
-  -- ---- how often an object comes into a slot, and leaves it
+  -- ---- how often an object comes into a slot, and is told unused
 
   abbrev pub added_by : ℕ → Call E → ℕ
   added_by o (Add object queue) = if o == object then 1 else 0
   added_by o _ = 0
 
-  abbrev pub noted_by : ℕ → Call E → ℕ
-  noted_by o (Note object) = if o == object then 1 else 0
-  noted_by o _ = 0
+  abbrev pub told_by : ℕ → Call E → ℕ
+  told_by o (NextUnused object) = if o == object then 1 else 0
+  told_by o _ = 0
 
   abbrev pub count_all : (Call E → ℕ) → List (Call E) → ℕ
   count_all count [] = 0
@@ -75,15 +75,15 @@ AccountsForQueues E =
     (calls : List (Call E)) (s : QueuesState E) → Runs new_queues calls s →
     (queue : ℕ) → all_by (comes_by queue) calls ≡ all_by (leaves_by queue) calls ++ s.waiting queue
 
--- each object that came into a slot was noted once, but for the one that is there now
-abbrev pub NotesEachObject : Type 0 → Type 0
-NotesEachObject E =
+-- each object that came into a slot was told unused once, but for the one that is there now
+abbrev pub TellsEachObjectUnusedOnce : Type 0 → Type 0
+TellsEachObjectUnusedOnce E =
     (calls : List (Call E)) (s : QueuesState E) → Runs new_queues calls s →
-    (o : ℕ) → count_all (added_by o) calls ≡ count_all (noted_by o) calls + times_kept (s.objects o).fate
+    (o : ℕ) → count_all (added_by o) calls ≡ count_all (told_by o) calls + times_kept (s.objects o).fate
 
--- no event that waits or is in hand names an object that was noted
-abbrev pub NamesNoNoted : Type 0 → Type 0
-NamesNoNoted E =
+-- no event that waits or is in hand names a slot that is free
+abbrev pub NamesNoFreeObject : Type 0 → Type 0
+NamesNoFreeObject E =
     (calls : List (Call E)) (s : QueuesState E) → Runs new_queues calls s →
     (o : ℕ) → (s.objects o).fate ≡ Free → IsUnnamed s o
 

@@ -1,7 +1,9 @@
 -- What contracts see of queues.
-use Rattle.std.specs.Prelude.{length}
+use Rattle.std.specs.Prelude.{◌≡◌, ℕ, length}
+use Rattle.wl_queues.specs.declared.objects.Fate.TheVariants.{Alive}
+use Rattle.wl_queues.specs.declared.objects.Object.{Object}
 use Rattle.wl_queues.specs.declared.queues.Queues.{Queues}
-use Rattle.wl_queues.specs.Queues.{QueuesState}
+use Rattle.wl_queues.specs.Queues.{Call, Does, IsAlike, QueuesState}
 use Rattle.wl_queues.specs.Inside.Counts.{dropped_at, waiting_at}
 use Rattle.wl_queues.specs.Inside.Objects.{object_of}
 
@@ -15,3 +17,19 @@ state_of q = record {
   tickets = q.tickets;
   failed = q.failed;
 }
+
+-- the objects, by their slots
+abbrev pub all_objects : {E : Type 0} → Queues E → ℕ → Object
+all_objects q = (state_of q).objects
+
+-- the slot has an object that is not destroyed
+abbrev pub IsLive : {E : Type 0} → Queues E → ℕ → Type 0
+IsLive q o = (all_objects q o).fate ≡ Alive
+
+-- a call that answered so did what it does
+abbrev pub Calls : {E : Type 0} → Queues E → Call E → Queues E → Type 0
+Calls old c new = Does (state_of old) c (state_of new)
+
+-- nothing changed
+abbrev pub IsUnchanged : {E : Type 0} → Queues E → Queues E → Type 0
+IsUnchanged old new = IsAlike (state_of old) (state_of new)

@@ -1,9 +1,10 @@
 //! Events: what they name, and what becomes of them.
 
-ghost use Rattle.std.specs.Prelude.{◌≡◌, ◌↔◌, ℕ, ◌+◌, ◌-◌, ◌≤◌, All, IsTrue, length, nat_le};
+ghost use Rattle.std.specs.Prelude.{◌≡◌, ◌↔◌, ℕ, ◌+◌, ◌≤◌, All, IsTrue, length};
 ghost use Rattle.std.specs.List.{list_all, position};
 ghost use Rattle.wl_queues.specs.Events.{has_ticket, reason_against, times_in, times_named};
-ghost use Rattle.wl_queues.specs.Inside.Objects.{object_of, references_of};
+ghost use Rattle.wl_queues.specs.Inside.Objects.{AddsReferences, HasRoom, IsLiveIn, KeepsObjects, TakesReferences, object_of, references_of};
+ghost use Rattle.wl_queues.specs.Inside.Refusals.{has_room};
 ghost use Rattle.wl_queues.specs.Objects.{is_alive};
 
 use crate::objects::{Fate, Objects};
@@ -15,13 +16,16 @@ pub struct Event<E> {
     pub sender: usize,
     /// The slots of the objects among its arguments, in their order. An argument that is null is left out.
     pub arguments: Vec<usize>,
+    /// All else: the host's own. It is kept with the event, and comes out with it.
     pub content: E,
 }
 
 /// An event that was handed out, and is not finished.
 #[derive(Drop)]
 pub struct Held<E> {
+    /// The number by which the host names the event until it is finished: from 0 to 2^64 - 2 in their order, and each is given out once.
     pub ticket: u64,
+    /// The event, with all that it owns.
     pub event: Event<E>,
 }
 
@@ -59,7 +63,7 @@ pub(crate) fn reason_against_handing(
 
 /// Whether the slot has an object that is not destroyed.
 pub(crate) fn is_live(objects: &Objects, object: usize) -> bool
-    ensures live { IsTrue result ↔ ((object_of objects.now object).fate ≡ Fate.Alive) }
+    ensures live { IsTrue result ↔ IsLiveIn objects.now object }
     ensures value { result ≡ is_alive (object_of objects.now object).fate }
 {
     match objects.get(object).fate {
@@ -77,14 +81,14 @@ pub(crate) fn are_live(objects: &Objects, arguments: &[usize]) -> bool
 
 /// Whether the object can be referred to so often more.
 pub(crate) fn is_countable(objects: &Objects, object: usize, more: u64) -> bool
-    ensures { result ≡ nat_le (references_of objects.now object) (0xFFFFFFFFFFFFFFFF - more) }
+    ensures { result ≡ has_room (references_of objects.now) more object }
 {
     objects.references(object) <= u64::MAX - more
 }
 
 /// Whether each of these objects can be referred to so often more.
 pub(crate) fn are_countable(objects: &Objects, arguments: &[usize], more: u64) -> bool
-    ensures { result ≡ list_all (λ o. nat_le (references_of objects.now o) (0xFFFFFFFFFFFFFFFF - more)) arguments.now }
+    ensures { result ≡ list_all (λ o. has_room (references_of objects.now) more o) arguments.now }
 {
     arguments
         .iter()
@@ -93,10 +97,10 @@ pub(crate) fn are_countable(objects: &Objects, arguments: &[usize], more: u64) -
 
 /// These objects are referred to, each once more for each time that it is among them.
 pub(crate) fn hold_all(objects: &mut Objects, arguments: &[usize])
-    requires live { All (λ o. (object_of objects.old o).fate ≡ Fate.Alive) arguments.now }
-    requires room { All (λ o. references_of objects.old o + (length arguments.now + 1) ≤ 0xFFFFFFFFFFFFFFFF) arguments.now }
-    ensures objects { (p : ℕ) → object_of objects.new p ≡ object_of objects.old p }
-    ensures references { (p : ℕ) → references_of objects.new p ≡ references_of objects.old p + times_in p arguments.now }
+    requires live { All (λ o. IsLiveIn objects.old o) arguments.now }
+    requires room { All (λ o. HasRoom objects.old (length arguments.now + 1) o) arguments.now }
+    ensures objects { KeepsObjects objects.old objects.new }
+    ensures references { AddsReferences objects.old objects.new (λ o. times_in o arguments.now) }
 {
     for object in arguments {
         objects.hold(*object);
@@ -105,9 +109,9 @@ pub(crate) fn hold_all(objects: &mut Objects, arguments: &[usize])
 
 /// These objects are referred to once less for each time that it is among them.
 pub(crate) fn release_all(objects: &mut Objects, arguments: &[usize])
-    requires { (p : ℕ) → times_in p arguments.now ≤ references_of objects.old p }
-    ensures objects { (p : ℕ) → object_of objects.new p ≡ object_of objects.old p }
-    ensures references { (p : ℕ) → references_of objects.new p + times_in p arguments.now ≡ references_of objects.old p }
+    requires { (o : ℕ) → times_in o arguments.now ≤ references_of objects.old o }
+    ensures objects { KeepsObjects objects.old objects.new }
+    ensures references { TakesReferences objects.old objects.new (λ o. times_in o arguments.now) }
 {
     for object in arguments {
         objects.release(*object);
@@ -116,9 +120,9 @@ pub(crate) fn release_all(objects: &mut Objects, arguments: &[usize])
 
 /// The event names its objects no more.
 pub(crate) fn release<E>(objects: &mut Objects, event: &Event<E>)
-    requires { (p : ℕ) → times_named p event.now ≤ references_of objects.old p }
-    ensures objects { (p : ℕ) → object_of objects.new p ≡ object_of objects.old p }
-    ensures references { (p : ℕ) → references_of objects.new p + times_named p event.now ≡ references_of objects.old p }
+    requires { (o : ℕ) → times_named o event.now ≤ references_of objects.old o }
+    ensures objects { KeepsObjects objects.old objects.new }
+    ensures references { TakesReferences objects.old objects.new (λ o. times_named o event.now) }
 {
     release_all(objects, &event.arguments);
     objects.release(event.sender);

@@ -3,7 +3,7 @@
 //! A *schedule* is a list of what threads do, one after another. A *run* is a list of calls of queues, each with its answer, from
 //! new queues on.
 
-ghost use Rattle.wl_queues.specs.Runs.{AccountsForQueues, DropsForGood, HandsNoneOutAfterFailing, NamesNoNoted, NotesEachObject};
+ghost use Rattle.wl_queues.specs.Runs.{AccountsForQueues, DropsForGood, HandsNoneOutAfterFailing, NamesNoFreeObject, TellsEachObjectUnusedOnce};
 ghost use Rattle.wl_queues.specs.Schedules.{AtMostOneReads, NoneIsLeftWaiting};
 
 /// The law of reading: over every schedule of any number of threads, at most one reads at a time.
@@ -26,15 +26,19 @@ pub fn each_queue_is_accounted_for<E>()
     ensures every { AccountsForQueues E }
 {}
 
-/// The law of notes: over every run, `next_unused` told of each object that was added to a slot once, but for the one that is
+/// The law of unused objects: over every run, `next_unused` told each object that was added to a slot once, but for the one that is
 /// there now.
-pub fn each_object_is_noted_once<E>()
-    ensures every { NotesEachObject E }
+pub fn each_object_is_told_unused_once<E>()
+    ensures every { TellsEachObjectUnusedOnce E }
 {}
 
-/// The law of names: over every run, no event that waits or is in hand names an object of which `next_unused` told.
-pub fn no_event_names_a_noted_object<E>()
-    ensures every { NamesNoNoted E }
+/// The law of names: over every run, no event that waits or is in hand names a slot that is free.
+///
+/// So when `next_unused` tells an object, no event names it; and as long as its slot is free, none comes to name it. Once the slot is
+/// used again, the law says nothing of the former object by itself: that none names it then follows from what it says of each
+/// beginning of the run, since a slot is used again only after it was free.
+pub fn no_event_names_a_free_object<E>()
+    ensures every { NamesNoFreeObject E }
 {}
 
 /// The law of dropped queues: over every run, a queue that was dropped stays dropped. No event comes into it, and none of it is

@@ -2,7 +2,7 @@
 //! referred to.
 
 ghost use Rattle.std.specs.Prelude.{◌≡◌, ◌↔◌, ℕ, ◌+◌, ◌<◌, ◌==◌, ◌&&◌, IfOk, IfSome, IsTrue, OnErr, IfNone, OnOk, false, if◌then◌else◌, length, true};
-ghost use Rattle.wl_queues.specs.Objects.{alive_in, destroyed, given_up, in_queue, is_destroyed, left_by, nobody, with_object};
+ghost use Rattle.wl_queues.specs.Objects.{given_up, is_destroyed, left_by, nobody, with_destroyed, with_queue};
 ghost use Rattle.wl_queues.specs.Inside.Slots.{IsListed, is_unused, slot_at};
 
 use std::alloc::{AllocError, Global};
@@ -24,6 +24,7 @@ pub enum Fate {
 pub struct Object {
     /// The queue in which its events wait that are still to come.
     pub queue: usize,
+    /// What has become of it.
     pub fate: Fate,
 }
 
@@ -33,7 +34,7 @@ pub(crate) struct Slot {
     pub(crate) object: Object,
     /// How often events that wait, or that are in hand, name it.
     pub(crate) references: u64,
-    /// The slot that was given up before this one, if this one is free.
+    /// The slot that was freed before this one, if this one is free.
     pub(crate) next: usize,
 }
 
@@ -48,7 +49,7 @@ fn is_last(slot: &Slot) -> bool
 #[derive(Drop)]
 pub(crate) struct Objects {
     slots: Vec<Slot>,
-    /// The slot that was given up last. It is not free, or not there, if no slot is.
+    /// The slot that was freed last. It is not free, or not there, if no slot is.
     first_free: usize,
     /// The objects that are destroyed and that nothing refers to: the oldest first.
     unused: VecDeque<usize>,
@@ -56,7 +57,7 @@ pub(crate) struct Objects {
 }
 
 impl Objects {
-    ghost use Rattle.wl_queues.specs.Inside.Objects.{object_of, references_of};
+    ghost use Rattle.wl_queues.specs.Inside.Objects.{AddsObject, AddsReferences, AreAllReferred, IsLiveIn, IsUnreferred, KeepsObjects, KeepsReferences, ListsUnused, ObjectsAre, TakesOldest, TakesReferences, UsesFreedSlot, is_last_reference, object_of, once_for, references_of};
 
     /// No objects.
     pub(crate) fn new(alloc: Global) -> Self
@@ -95,12 +96,13 @@ impl Objects {
         }
     }
 
-    /// A new object of the queue, in a slot that was free.
+    /// A new object of the queue, in a slot that was free: the one that was freed last, and a new one only if none is free.
     pub(crate) fn add(&mut self, queue: usize) -> Result<usize, AllocError>
         ensures free { IfOk result (λ o. (object_of self.old o).fate ≡ Fate.Free) }
-        ensures objects { IfOk result (λ o. (p : ℕ) → object_of self.new p ≡ with_object o (alive_in queue) (object_of self.old) p) }
-        ensures refused { OnErr result ((p : ℕ) → object_of self.new p ≡ object_of self.old p) }
-        ensures references { (p : ℕ) → references_of self.new p ≡ references_of self.old p }
+        ensures reused { IfOk result (λ o. UsesFreedSlot self.old o) }
+        ensures objects { IfOk result (λ o. AddsObject self.old queue o self.new) }
+        ensures refused { OnErr result (KeepsObjects self.old self.new) }
+        ensures references { KeepsReferences self.old self.new }
     {
         self.unused.reserve(self.slots.len() + 1)?;
         let object = Object {
@@ -124,17 +126,17 @@ impl Objects {
 
     /// Later events of the object wait in this queue.
     pub(crate) fn set_queue(&mut self, object: usize, queue: usize)
-        requires { (object_of self.old object).fate ≡ Fate.Alive }
-        ensures objects { (p : ℕ) → object_of self.new p ≡ with_object object (in_queue queue (object_of self.old object)) (object_of self.old) p }
-        ensures references { (p : ℕ) → references_of self.new p ≡ references_of self.old p }
+        requires { IsLiveIn self.old object }
+        ensures objects { ObjectsAre self.new (with_queue object queue (object_of self.old)) }
+        ensures references { KeepsReferences self.old self.new }
     {
         self.slots[object].object.queue = queue;
     }
 
-    /// The objects of this queue have the first one from now on.
+    /// The objects of this queue have the default queue from now on.
     pub(crate) fn leave_queue(&mut self, queue: usize)
-        ensures objects { (p : ℕ) → object_of self.new p ≡ left_by queue (object_of self.old p) }
-        ensures references { (p : ℕ) → references_of self.new p ≡ references_of self.old p }
+        ensures objects { ObjectsAre self.new (λ o. left_by queue (object_of self.old o)) }
+        ensures references { KeepsReferences self.old self.new }
     {
         for object in 0..self.slots.len() {
             if self.slots[object].object.queue == queue {
@@ -145,9 +147,10 @@ impl Objects {
 
     /// The program destroys the object.
     pub(crate) fn destroy(&mut self, object: usize)
-        requires { (object_of self.old object).fate ≡ Fate.Alive }
-        ensures objects { (p : ℕ) → object_of self.new p ≡ with_object object (destroyed (object_of self.old object)) (object_of self.old) p }
-        ensures references { (p : ℕ) → references_of self.new p ≡ references_of self.old p }
+        requires { IsLiveIn self.old object }
+        ensures objects { ObjectsAre self.new (with_destroyed object (object_of self.old)) }
+        ensures references { KeepsReferences self.old self.new }
+        ensures listed { ListsUnused self.old (references_of self.old object == 0) object self.new }
     {
         let references = self.slots[object].references;
         self.slots[object].object.fate = Fate::Destroyed;
@@ -158,10 +161,10 @@ impl Objects {
 
     /// The object is referred to once more.
     pub(crate) fn hold(&mut self, object: usize)
-        requires alive { (object_of self.old object).fate ≡ Fate.Alive }
+        requires alive { IsLiveIn self.old object }
         requires room { references_of self.old object < 0xFFFFFFFFFFFFFFFF }
-        ensures objects { (p : ℕ) → object_of self.new p ≡ object_of self.old p }
-        ensures references { (p : ℕ) → references_of self.new p ≡ references_of self.old p + (if p == object then 1 else 0) }
+        ensures objects { KeepsObjects self.old self.new }
+        ensures references { AddsReferences self.old self.new (once_for object) }
     {
         self.slots[object].references += 1;
     }
@@ -169,8 +172,9 @@ impl Objects {
     /// The object is referred to once less.
     pub(crate) fn release(&mut self, object: usize)
         requires { 0 < references_of self.old object }
-        ensures objects { (p : ℕ) → object_of self.new p ≡ object_of self.old p }
-        ensures references { (p : ℕ) → references_of self.new p + (if p == object then 1 else 0) ≡ references_of self.old p }
+        ensures objects { KeepsObjects self.old self.new }
+        ensures references { TakesReferences self.old self.new (once_for object) }
+        ensures listed { ListsUnused self.old (is_last_reference self.old object) object self.new }
     {
         let slot = self.slots[object];
         self.slots[object].references = slot.references - 1;
@@ -181,10 +185,12 @@ impl Objects {
 
     /// The object that became unused first. Its slot is free from now on.
     pub(crate) fn next_unused(&mut self) -> Option<usize>
-        ensures unused { IfSome result (λ o. ((object_of self.old o).fate ≡ Fate.Destroyed) × (references_of self.old o ≡ 0)) }
-        ensures none { IfNone result ((o : ℕ) → (object_of self.old o).fate ≡ Fate.Destroyed → 0 < references_of self.old o) }
-        ensures objects { (p : ℕ) → object_of self.new p ≡ given_up result (object_of self.old) p }
-        ensures references { (p : ℕ) → references_of self.new p ≡ references_of self.old p }
+        ensures unused { IfSome result (λ o. IsUnreferred self.old o) }
+        ensures none { IfNone result (AreAllReferred self.old) }
+        ensures oldest { TakesOldest self.old result self.new }
+        ensures freed { IfSome result (λ o. o ≡ self.new.first_free) }
+        ensures objects { ObjectsAre self.new (given_up result (object_of self.old)) }
+        ensures references { KeepsReferences self.old self.new }
     {
         let object = self.unused.pop_front()?;
         let slot = &mut self.slots[object];

@@ -3,16 +3,16 @@
 ghost use Rattle.std.specs.Prelude.{◌≡◌, ◌↔◌, ◌⊎◌, ℕ, ◌+◌, ◌<◌, ◌≤◌, ◌∷◌, ◌++◌, [], IfErr, IfOk, IfSome, IfNone, IsTrue, OnErr, OnOk, Some, None, Err, All, drop, false, length, option_copied, slice_set, true, if◌then◌else◌};
 ghost use Rattle.std.specs.Option.{option_map};
 ghost use Rattle.std.specs.List.{position};
-ghost use Rattle.wl_queues.specs.Events.{NamesLive, has_ticket, times_named};
+ghost use Rattle.wl_queues.specs.Events.{IsAppended, IsFirstSender, NamesLive, times_named};
 ghost use Rattle.wl_queues.specs.Inside.Counts.{IsCounted, dropped_at, named_waiting, waiting_at};
-ghost use Rattle.wl_queues.specs.Inside.Objects.{object_of, references_of};
+ghost use Rattle.wl_queues.specs.Inside.Objects.{AddsNames, ArgumentsHaveRoom, HasRoom, KeepsObjects, KeepsReferences, object_of, references_of};
 ghost use Rattle.wl_queues.specs.Inside.Refusals.{refusal_of};
 
 use crate::events::{
     Event, Held, Reason, are_countable, are_live, hold_all, is_countable, is_live, place_by_ticket,
     reason_against_handing, release,
 };
-use crate::objects::{Fate, Object, Objects};
+use crate::objects::{Object, Objects};
 use std::alloc::{AllocError, Global};
 use std::collections::VecDeque;
 
@@ -21,6 +21,7 @@ use std::collections::VecDeque;
 pub(crate) struct Queue<E> {
     /// The events that wait in it, the oldest first.
     pub(crate) events: VecDeque<Event<E>>,
+    /// Whether the program dropped it.
     pub(crate) is_dropped: bool,
 }
 
@@ -35,7 +36,7 @@ pub enum Next<E> {
     Dropped(Reason, Event<E>),
 }
 
-/// There is no such queue, or it was dropped.
+/// No such queue was made, or it was dropped already; or it is the default queue, 0, which is never dropped.
 #[derive(Clone, Copy, Debug, PartialEq, Eq)]
 pub struct NoQueue;
 
@@ -46,32 +47,37 @@ pub struct NoObject;
 /// Why an object is not added.
 #[derive(Clone, Copy, Debug, PartialEq, Eq)]
 pub enum AddError {
-    /// There is no such queue, or it was dropped.
+    /// No such queue was made, or it was dropped.
     NoQueue,
+    /// There is no memory for the object: for its slot, or for its place among those that are unused.
     OutOfMemory,
 }
 
 /// Why an object's queue is not set.
 #[derive(Clone, Copy, Debug, PartialEq, Eq)]
 pub enum SetQueueError {
-    /// The slot has no object, or one that was destroyed.
+    /// The slot has no object, or one that was destroyed. This comes first, if the queue is not there either.
     NoObject,
-    /// There is no such queue, or it was dropped.
+    /// No such queue was made, or it was dropped.
     NoQueue,
 }
 
 /// Why an event is not put into a queue.
 #[derive(Clone, Copy, Debug, PartialEq, Eq)]
 pub enum PutError {
-    /// It names a slot that has no object, or one that was destroyed.
+    /// It names a slot that has no object, or one that was destroyed: as its sender, or as an argument.
     NoObject,
+    /// There is no memory for its place in the queue. Or an object that it names is named so often, by events that wait or are in
+    /// hand, that with all names of this one there would be more than 2^64 - 1; so many do not fit into memory.
     OutOfMemory,
 }
 
 /// An event that was not put into a queue, and why.
 #[derive(Drop)]
 pub struct PutRefused<E> {
+    /// Why it was not put.
     pub error: PutError,
+    /// The event, as it was given.
     pub event: Event<E>,
 }
 
@@ -80,8 +86,9 @@ pub struct PutRefused<E> {
 pub enum NextError {
     /// No such queue was made.
     NoQueue,
-    /// No ticket is left: each one was given out.
+    /// The first event is to be handed out, and no ticket is left: each of the 2^64 - 1 was given out.
     TicketsExhausted,
+    /// The first event is to be handed out, and there is no memory for its place in hand.
     OutOfMemory,
 }
 
@@ -92,15 +99,15 @@ fn append<E: Drop>(
     event: Event<E>,
 ) -> Result<(), Event<E>>
     requires live { NamesLive (object_of objects.old) event }
-    requires sender { references_of objects.old event.sender + (length event.arguments.items + 1) ≤ 0xFFFFFFFFFFFFFFFF }
-    requires arguments { All (λ o. references_of objects.old o + (length event.arguments.items + 1) ≤ 0xFFFFFFFFFFFFFFFF) event.arguments.items }
-    ensures events { OnOk result (queue.new.events.items ≡ queue.old.events.items ++ event ∷ []) }
-    ensures references { OnOk result ((p : ℕ) → references_of objects.new p ≡ references_of objects.old p + times_named p event) }
+    requires sender { HasRoom objects.old (length event.arguments.items + 1) event.sender }
+    requires arguments { ArgumentsHaveRoom objects.old event }
+    ensures events { OnOk result (IsAppended queue.old.events.items event queue.new.events.items) }
+    ensures references { OnOk result (AddsNames objects.old event objects.new) }
     ensures given_back { IfErr result (λ e. e ≡ event) }
     ensures refused { OnErr result (queue.new.events.items ≡ queue.old.events.items) }
-    ensures unreferred { OnErr result ((p : ℕ) → references_of objects.new p ≡ references_of objects.old p) }
+    ensures unreferred { OnErr result (KeepsReferences objects.old objects.new) }
     ensures kept { queue.new.is_dropped ≡ queue.old.is_dropped }
-    ensures objects { (p : ℕ) → object_of objects.new p ≡ object_of objects.old p }
+    ensures objects { KeepsObjects objects.old objects.new }
 {
     if queue.events.reserve(1).is_err() {
         return Err(event);
@@ -132,23 +139,32 @@ fn refusal<E>(objects: &Objects, event: &Event<E>) -> Option<PutError>
     None
 }
 
-/// Takes the first event out of the queue.
-fn take_first<E>(queue: &mut Queue<E>) -> Option<Event<E>>
-    ensures event { IfSome result (λ event. queue.old.events.items ≡ event ∷ queue.new.events.items) }
-    ensures none { IfNone result (queue.old.events.items ≡ []) }
-    ensures unchanged { IfNone result (queue.new.events.items ≡ queue.old.events.items) }
-    ensures rest { queue.new.events.items ≡ drop 1 queue.old.events.items }
+/// The sender of the first event of the queue, if one waits.
+fn first_sender<E>(queue: &Queue<E>) -> Option<usize>
+    ensures sender { IfSome result (λ o. IsFirstSender o queue.now.events.items) }
+    ensures none { IfNone result (queue.now.events.items ≡ []) }
+{
+    Some(queue.events.front()?.sender)
+}
+
+/// Takes the first event out of the queue, in which one waits.
+fn take_first<E>(queue: &mut Queue<E>) -> Event<E>
+    requires { 0 < length queue.old.events.items }
+    ensures event { queue.old.events.items ≡ result ∷ queue.new.events.items }
     ensures kept { queue.new.is_dropped ≡ queue.old.is_dropped }
 {
-    queue.events.pop_front()
+    queue.events.pop_front().unwrap()
 }
 
 /// Events that wait in queues, and that were handed out. It stands for the `wl_event_queue`s of a `wl_display`, and for what
 /// libwayland does with the references of proxies.
 ///
-/// An *object* has a slot, from `add` until `next_unused` tells of it. Each event waits in the queue that its sender had when it was
+/// An *object* has a slot, from `add` until `next_unused` tells it. Each event waits in the queue that its sender had when it was
 /// put. `next_of` hands it out with a ticket, or says why it is dropped. An object that the program destroys stays in its slot as
 /// long as an event that waits or is in hand names it.
+///
+/// A call that refuses changes nothing. No contract of these calls says which slot a new object gets, nor which of several unused
+/// objects is told first: it is the slot that was freed last, or a new one if none is free; and the object that became unused first.
 #[derive(Drop)]
 pub struct Queues<E> {
     objects: Objects,
@@ -161,13 +177,15 @@ pub struct Queues<E> {
 }
 
 impl<E: Drop> Queues<E> {
-    ghost use Rattle.wl_queues.specs.Queues.{Does, IsAlike, IsOpen, IsUnused, argument_of, event_of, has_events};
+    ghost use Rattle.wl_queues.specs.Queues.{HasNoTicket, IsAlike, IsOpen, IsUnused, argument_of, event_of, has_events, put_of};
     ghost use Rattle.wl_queues.specs.Queues as call;
-    ghost use Rattle.wl_queues.specs.Nexts.{Nexts};
+    ghost use Rattle.wl_queues.specs.Nexts.{LacksTicket, NeedsPlace, Nexts};
     ghost use Rattle.wl_queues.specs.Runs.{new_queues};
-    ghost use Rattle.wl_queues.specs.States.{state_of};
+    ghost use Rattle.wl_queues.specs.States.{Calls, IsLive, IsUnchanged, all_objects, state_of};
 
-    /// Queues without objects. There is one queue, 0, which is never dropped.
+    /// Queues without objects. There is one queue, the default queue: its number is 0, and it is never dropped.
+    ///
+    /// Errors: `AllocError`, if there is no memory for it.
     pub fn new(alloc: Global) -> Result<Self, AllocError>
         ensures { IfOk result (λ queues. IsAlike new_queues (state_of queues)) }
     {
@@ -192,10 +210,13 @@ impl<E: Drop> Queues<E> {
         queue < self.queues.len() && !self.queues[queue].is_dropped
     }
 
-    /// Makes a queue. Its number is that of no other queue, also of none that was dropped. It stands for `wl_display_create_queue`.
+    /// Makes a queue. Its number is that of no other queue, also of none that was dropped: the first is 1, and each is one more than
+    /// the one before. It stands for `wl_display_create_queue`.
+    ///
+    /// Errors: `AllocError`, if there is no memory for it; no queue is made then.
     pub fn new_queue(&mut self) -> Result<usize, AllocError>
-        ensures made { IfOk result (λ queue. Does (state_of self.old) (call.NewQueue queue) (state_of self.new)) }
-        ensures refused { OnErr result (IsAlike (state_of self.old) (state_of self.new)) }
+        ensures made { IfOk result (λ queue. Calls self.old (call.NewQueue queue) self.new) }
+        ensures refused { OnErr result (IsUnchanged self.old self.new) }
     {
         let queue = self.queues.len();
         let alloc = *self.queues.allocator();
@@ -206,12 +227,14 @@ impl<E: Drop> Queues<E> {
         Ok(queue)
     }
 
-    /// Drops the queue. Its objects have the first one from now on. The events that wait in it come out of `next_of` as dropped.
+    /// Drops the queue. Its objects have the default queue from now on. The events that wait in it come out of `next_of` as dropped.
     /// It takes no memory. It stands for `wl_event_queue_destroy`.
+    ///
+    /// Errors: `NoQueue`, if it is the default queue, 0, or if no such queue was made, or it was dropped already.
     pub fn drop_queue(&mut self, queue: usize) -> Result<(), NoQueue>
-        ensures dropped { OnOk result (Does (state_of self.old) (call.DropQueue queue) (state_of self.new)) }
+        ensures dropped { OnOk result (Calls self.old (call.DropQueue queue) self.new) }
         ensures no_queue { OnErr result ((queue ≡ 0) ⊎ ¬ IsOpen (state_of self.old) queue) }
-        ensures refused { OnErr result (IsAlike (state_of self.old) (state_of self.new)) }
+        ensures refused { OnErr result (IsUnchanged self.old self.new) }
     {
         if queue == 0 || !self.is_open(queue) {
             return Err(NoQueue);
@@ -221,11 +244,13 @@ impl<E: Drop> Queues<E> {
         Ok(())
     }
 
-    /// Adds an object, whose events wait in this queue. The answer is its slot.
+    /// Adds an object, whose events wait in this queue. The answer is its slot, which had no object.
+    ///
+    /// Errors: `NoQueue`, if no such queue was made, or it was dropped; `OutOfMemory`, if there is no memory for the object.
     pub fn add(&mut self, queue: usize) -> Result<usize, AddError>
-        ensures added { IfOk result (λ object. Does (state_of self.old) (call.Add object queue) (state_of self.new)) }
+        ensures added { IfOk result (λ object. Calls self.old (call.Add object queue) self.new) }
         ensures no_queue { (result ≡ Err AddError.NoQueue) ↔ ¬ IsOpen (state_of self.old) queue }
-        ensures refused { OnErr result (IsAlike (state_of self.old) (state_of self.new)) }
+        ensures refused { OnErr result (IsUnchanged self.old self.new) }
     {
         if !self.is_open(queue) {
             return Err(AddError::NoQueue);
@@ -238,11 +263,14 @@ impl<E: Drop> Queues<E> {
 
     /// Events of the object that are still to come wait in this queue. Those that wait stay where they are. It takes no memory. It
     /// stands for `wl_proxy_set_queue`.
+    ///
+    /// Errors: `NoObject`, if the slot has no object, or one that was destroyed; else `NoQueue`, if no such queue was made, or it was
+    /// dropped.
     pub fn set_queue(&mut self, object: usize, queue: usize) -> Result<(), SetQueueError>
-        ensures set { OnOk result (Does (state_of self.old) (call.SetQueue object queue) (state_of self.new)) }
-        ensures no_object { (result ≡ Err SetQueueError.NoObject) ↔ ¬ (((state_of self.old).objects object).fate ≡ Fate.Alive) }
+        ensures set { OnOk result (Calls self.old (call.SetQueue object queue) self.new) }
+        ensures no_object { (result ≡ Err SetQueueError.NoObject) ↔ ¬ IsLive self.old object }
         ensures no_queue { result ≡ Err SetQueueError.NoQueue → ¬ IsOpen (state_of self.old) queue }
-        ensures refused { OnErr result (IsAlike (state_of self.old) (state_of self.new)) }
+        ensures refused { OnErr result (IsUnchanged self.old self.new) }
     {
         if !is_live(&self.objects, object) {
             return Err(SetQueueError::NoObject);
@@ -256,10 +284,12 @@ impl<E: Drop> Queues<E> {
 
     /// The program destroys the object. Events of it that wait are dropped by `next_of`. It takes no memory. It stands for
     /// `wl_proxy_destroy`.
+    ///
+    /// Errors: `NoObject`, if the slot has no object, or one that was destroyed already.
     pub fn destroy(&mut self, object: usize) -> Result<(), NoObject>
-        ensures destroyed { OnOk result (Does (state_of self.old) (call.Destroy object) (state_of self.new)) }
-        ensures no_object { OnErr result (¬ (((state_of self.old).objects object).fate ≡ Fate.Alive)) }
-        ensures refused { OnErr result (IsAlike (state_of self.old) (state_of self.new)) }
+        ensures destroyed { OnOk result (Calls self.old (call.Destroy object) self.new) }
+        ensures no_object { OnErr result (¬ IsLive self.old object) }
+        ensures refused { OnErr result (IsUnchanged self.old self.new) }
     {
         if !is_live(&self.objects, object) {
             return Err(NoObject);
@@ -268,13 +298,19 @@ impl<E: Drop> Queues<E> {
         Ok(())
     }
 
-    /// Puts the event into the queue that its sender has now.
+    /// Puts the event into the queue that its sender has now, behind those that wait there.
+    ///
+    /// Errors: `NoObject`, if it names a slot that has no object, or one that was destroyed, as its sender or as an argument; else
+    /// `OutOfMemory`, if there is no memory for its place in the queue, or if a count of names would pass 2^64 - 1. The event comes
+    /// back with the error.
     pub fn put(&mut self, event: Event<E>) -> Result<(), PutRefused<E>>
-        ensures put { OnOk result (Does (state_of self.old) (call.Put ((state_of self.old).objects event.sender).queue event) (state_of self.new)) }
-        ensures no_object { IfErr result (λ r. r.error ≡ PutError.NoObject → ¬ NamesLive (state_of self.old).objects event) }
-        ensures memory { IfErr result (λ r. r.error ≡ PutError.OutOfMemory → NamesLive (state_of self.old).objects event) }
+        ensures put { OnOk result (Calls self.old (put_of (state_of self.old) event) self.new) }
+        ensures no_object { IfErr result (λ r. r.error ≡ PutError.NoObject
+            → ¬ NamesLive (all_objects self.old) event) }
+        ensures memory { IfErr result (λ r. r.error ≡ PutError.OutOfMemory
+            → NamesLive (all_objects self.old) event) }
         ensures given_back { IfErr result (λ r. r.event ≡ event) }
-        ensures refused { OnErr result (IsAlike (state_of self.old) (state_of self.new)) }
+        ensures refused { OnErr result (IsUnchanged self.old self.new) }
     {
         if let Some(error) = refusal(&self.objects, &event) {
             return Err(PutRefused { error, event });
@@ -290,15 +326,31 @@ impl<E: Drop> Queues<E> {
     }
 
     /// Takes the first event out of the queue. It is handed out, or dropped: if the session failed, if the queue was dropped, or if
-    /// its sender was destroyed.
+    /// its sender was destroyed. `Next::Nothing`: none waits.
+    ///
+    /// Errors: `NoQueue`, if no such queue was made; one that was dropped still gives its events. If the first event is to be handed
+    /// out: `TicketsExhausted`, exactly if each ticket was given out, and else `OutOfMemory`, if there is no memory for its place in
+    /// hand. That an event is dropped, and that none waits, needs no memory and no ticket.
     pub fn next_of(&mut self, queue: usize) -> Result<Next<E>, NextError>
-        ensures next { IfOk result (λ next. Nexts (state_of self.old) queue next (state_of self.new)) }
+        ensures next { IfOk result (λ n. Nexts (state_of self.old) queue n (state_of self.new)) }
         ensures no_queue { (result ≡ Err NextError.NoQueue) ↔ ((state_of self.old).queues ≤ queue) }
-        ensures exhausted { result ≡ Err NextError.TicketsExhausted → (state_of self.old).tickets ≡ 0xFFFFFFFFFFFFFFFF }
-        ensures refused { OnErr result (IsAlike (state_of self.old) (state_of self.new)) }
+        ensures exhausted { (result ≡ Err NextError.TicketsExhausted)
+            ↔ LacksTicket (state_of self.old) queue }
+        ensures memory { result ≡ Err NextError.OutOfMemory → NeedsPlace (state_of self.old) queue }
+        ensures refused { OnErr result (IsUnchanged self.old self.new) }
     {
         if queue >= self.queues.len() {
             return Err(NextError::NoQueue);
+        }
+        let is_dropped = self.queues[queue].is_dropped;
+        let Some(sender) = first_sender(&self.queues[queue]) else {
+            return Ok(Next::Nothing);
+        };
+        let is_alive = is_live(&self.objects, sender);
+        if let Some(reason) = reason_against_handing(self.failed, is_dropped, is_alive) {
+            let event = take_first(&mut self.queues[queue]);
+            release(&mut self.objects, &event);
+            return Ok(Next::Dropped(reason, event));
         }
         if self.tickets == u64::MAX {
             return Err(NextError::TicketsExhausted);
@@ -306,15 +358,7 @@ impl<E: Drop> Queues<E> {
         if self.in_hand.reserve(1).is_err() {
             return Err(NextError::OutOfMemory);
         }
-        let is_dropped = self.queues[queue].is_dropped;
-        let Some(event) = take_first(&mut self.queues[queue]) else {
-            return Ok(Next::Nothing);
-        };
-        let is_alive = is_live(&self.objects, event.sender);
-        if let Some(reason) = reason_against_handing(self.failed, is_dropped, is_alive) {
-            release(&mut self.objects, &event);
-            return Ok(Next::Dropped(reason, event));
-        }
+        let event = take_first(&mut self.queues[queue]);
         let ticket = self.tickets;
         self.tickets += 1;
         self.in_hand.push_reserved(Held { ticket, event });
@@ -322,11 +366,13 @@ impl<E: Drop> Queues<E> {
     }
 
     /// Ends the event that was handed out with this ticket, and gives it back. Events are finished in any order. It takes no
-    /// memory. `None`: no event with this ticket is in hand.
+    /// memory, and time that grows with the number of events in hand.
+    ///
+    /// `None`: no event with this ticket is in hand. None was handed out with it, or it was finished already.
     pub fn finish(&mut self, ticket: u64) -> Option<Event<E>>
-        ensures finished { IfSome result (λ event. Does (state_of self.old) (call.Finish ticket event) (state_of self.new)) }
-        ensures none { IfNone result (position (has_ticket ticket) (state_of self.old).in_hand ≡ None) }
-        ensures refused { IfNone result (IsAlike (state_of self.old) (state_of self.new)) }
+        ensures finished { IfSome result (λ e. Calls self.old (call.Finish ticket e) self.new) }
+        ensures none { IfNone result (HasNoTicket (state_of self.old) ticket) }
+        ensures refused { IfNone result (IsUnchanged self.old self.new) }
     {
         let place = place_by_ticket(&self.in_hand, ticket)?;
         let held = self.in_hand.remove(place);
@@ -336,36 +382,42 @@ impl<E: Drop> Queues<E> {
 
     /// The session has failed: no event is handed out any more. It takes no memory.
     pub fn fail(&mut self)
-        ensures { Does (state_of self.old) call.Fail (state_of self.new) }
+        ensures { Calls self.old call.Fail self.new }
     {
         self.failed = true;
     }
 
-    /// An object that the program destroyed and that no event names any more. Its slot is free from now on. It takes no memory.
+    /// Tells an object that is *unused*: the program destroyed it, and no event that waits or is in hand names it any more. Its slot is
+    /// free from now on. It takes no memory.
+    ///
     /// `None`: there is no such object.
     pub fn next_unused(&mut self) -> Option<usize>
-        ensures unused { IfSome result (λ object. Does (state_of self.old) (call.Note object) (state_of self.new)) }
+        ensures unused { IfSome result (λ o. Calls self.old (call.NextUnused o) self.new) }
         ensures none { IfNone result ((o : ℕ) → ¬ IsUnused (state_of self.old) o) }
-        ensures refused { IfNone result (IsAlike (state_of self.old) (state_of self.new)) }
+        ensures refused { IfNone result (IsUnchanged self.old self.new) }
     {
         self.objects.next_unused()
     }
 
-    /// The object in the slot: in which queue its events wait that are still to come, and whether it is destroyed.
+    /// The object in the slot: in which queue its events wait that are still to come, and whether it is destroyed. Of a slot that has
+    /// no object, also of one that was never used, it answers `Fate::Free`, and the default queue.
     pub fn object(&self, object: usize) -> Object
         ensures { result ≡ (state_of self.now).objects object }
     {
         self.objects.get(object)
     }
 
-    /// Whether an event waits in the queue. `Readers::prepare` asks for it.
+    /// Whether an event waits in the queue. `Readers::prepare` asks for it. In a queue that was not made none does.
     pub fn has_events(&self, queue: usize) -> bool
         ensures { result ≡ has_events (state_of self.now) queue }
     {
         queue < self.queues.len() && !self.queues[queue].events.is_empty()
     }
 
-    /// The event that is in hand with this ticket.
+    /// The event that is in hand with this ticket. It takes time that grows with the number of events in hand; that is small, mostly
+    /// one for each thread that dispatches.
+    ///
+    /// `None`: no event with this ticket is in hand. None was handed out with it, or it was finished already.
     pub fn event(&self, ticket: u64) -> Option<&Event<E>>
         ensures { option_copied result ≡ event_of (state_of self.now) ticket }
     {
@@ -373,8 +425,11 @@ impl<E: Drop> Queues<E> {
         Some(&self.in_hand[place].event)
     }
 
-    /// The object that is an argument of the event in hand, with this place among its `arguments`. `None`, for null, if it was
-    /// destroyed; or if there is no such argument.
+    /// The object that is an argument of the event in hand with this ticket, at this place among its `arguments`, from 0 on. It takes
+    /// as much time as `event`.
+    ///
+    /// `None`: the object was destroyed, so the argument is null now; or no event with this ticket is in hand; or it has no argument at
+    /// this place.
     pub fn argument(&self, ticket: u64, place: usize) -> Option<usize>
         ensures argument { result ≡ argument_of (state_of self.now) ticket place }
     {

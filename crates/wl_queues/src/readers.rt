@@ -1,7 +1,7 @@
 //! Which of several threads reads from one connection.
 
-ghost use Rattle.std.specs.Prelude.{◌≡◌, ◌↔◌, ◌≤◌, ◌==◌, Ok, Err, IsTrue, false, if◌then◌else◌};
-ghost use Rattle.wl_queues.specs.Readers.{begun, cancelled, ended_by, greatest, is_last, no_readers, prepared_by, turn_of, turns};
+ghost use Rattle.std.specs.Prelude.{◌≡◌, ◌↔◌, Ok, Err, IsTrue, if◌then◌else◌};
+ghost use Rattle.wl_queues.specs.Readers.{LacksTurn, begun, cancel_of, cancelled, ended_by, no_readers, prepared_by, turn_of};
 
 use std::marker::Model;
 
@@ -49,15 +49,17 @@ pub struct Readers {
 
 impl Model for Readers {
     ghost use Rattle.std.specs.Prelude.{◌≤◌};
-    ghost use Rattle.wl_queues.specs.Readers.{ReadersState, greatest, turns};
+    ghost use Rattle.wl_queues.specs.Readers.{ReadersState, greatest, turns_of};
 
     ghost Value = { ReadersState };
 
-    ghost view = { λ r. record { prepared = r.prepared; is_reading = r.is_reading; ended = r.ended } };
+    ghost view = { λ r.
+        record { prepared = r.prepared; is_reading = r.is_reading; ended = r.ended } };
 
-    ghost invariant = { λ r. turns (record { prepared = r.prepared; is_reading = r.is_reading; ended = r.ended }) ≤ greatest };
+    ghost invariant = { λ r. turns_of r.prepared r.is_reading r.ended ≤ greatest };
 
-    ghost inverse = { λ r. record { prepared = r.prepared; is_reading = r.is_reading; ended = r.ended } };
+    ghost inverse = { λ r.
+        record { prepared = r.prepared; is_reading = r.is_reading; ended = r.ended } };
 }
 
 impl Readers {
@@ -85,7 +87,8 @@ impl Readers {
     /// It stands for `wl_display_prepare_read_queue`.
     pub fn prepare(&mut self, has_events: bool) -> Result<(), PrepareError>
         ensures events_wait { (result ≡ Err PrepareError.EventsWait) ↔ IsTrue has_events }
-        ensures exhausted { (result ≡ Err PrepareError.TurnsExhausted) ↔ ((has_events ≡ false) × (greatest ≤ turns self.old)) }
+        ensures exhausted { (result ≡ Err PrepareError.TurnsExhausted)
+            ↔ LacksTurn has_events self.old }
         ensures new { self.new ≡ prepared_by has_events self.old }
     {
         if has_events {
@@ -135,7 +138,7 @@ impl Readers {
     ///
     /// It stands for `wl_display_cancel_read`.
     pub fn cancel(&mut self) -> Result<bool, NotPrepared>
-        ensures answer { result ≡ (if self.old.prepared == 0 then Err _ else Ok (is_last self.old)) }
+        ensures answer { result ≡ cancel_of self.old }
         ensures new { self.new ≡ cancelled self.old }
     {
         if self.prepared == 0 {

@@ -23,7 +23,7 @@ static ROWS: [Row; 13] = [
         told: "Ok(0)\nput\nOk(1)\nOk(())\nput\nticket 0\nevent 2\nticket 1\nevent 1\nnothing\nnothing\n",
     },
     Row {
-        name: "moved to the first queue",
+        name: "moved to the default queue",
         acts: &[
             Act::NewQueue,
             Act::Add(1),

@@ -1,4 +1,4 @@
--- Each object is noted once, and no event names it then.
+-- Each object is told unused once, and no event names a slot that is free.
 use Rattle.std.proofs.Common.{◌≡◌, ℕ, suc, ◌+◌, List, [], ◌∷◌, ◌++◌, Bool, true, false, take, drop, refl, sym, ap, ◌∙◌, arith, subst}
 use Rattle.std.specs.Prelude.{if◌then◌else◌, ◌==◌, ◌≤◌, All, cond}
 use Rattle.std.proofs.lemmas.Bool.Decides.{nat_tests}
@@ -10,10 +10,10 @@ use Rattle.wl_queues.specs.declared.objects.Fate.TheVariants.{Alive, Destroyed, 
 use Rattle.wl_queues.specs.declared.objects.Object.{Object}
 use Rattle.wl_queues.specs.Events.{NamesLive, times_in, times_named}
 use Rattle.wl_queues.specs.Objects.{alive_in, destroyed, in_queue, nobody}
-use Rattle.wl_queues.specs.Queues.{Call, Add, Destroy, DropQueue, Does, Dropped, Fail, Finish, Handed, IsAlike, IsUnnamed, NewQueue, Next, Note, Outcome, Put, QueuesState, SetQueue, after, handed, place_of}
-use Rattle.wl_queues.specs.Runs.{NamesNoNoted, NotesEachObject, Runs, added_by, count_all, new_queues, noted_by, times_kept}
+use Rattle.wl_queues.specs.Queues.{Call, Add, Destroy, DropQueue, Does, Dropped, Fail, Finish, Handed, IsAlike, IsUnnamed, NewQueue, Next, NextUnused, Outcome, Put, QueuesState, SetQueue, after, handed, place_of}
+use Rattle.wl_queues.specs.Runs.{NamesNoFreeObject, Runs, TellsEachObjectUnusedOnce, added_by, count_all, new_queues, times_kept, told_by}
 
--- ---- how often it is noted
+-- ---- how often it is told unused
 
 kept-add : (o object queue : ℕ) (objects : ℕ → Object) → (objects object).fate ≡ Free → (b : Bool) → (o == object) ≡ b →
     times_kept (objects o).fate + (if b then 1 else 0) ≡ times_kept (if b then alive_in queue else objects o).fate
@@ -22,12 +22,12 @@ kept-add o object queue objects free true here =
     ap (λ n. times_kept (objects n).fate + 1) same ∙ ap (λ f. times_kept f + 1) free
 kept-add o object queue objects free false other = omega arith
 
-kept-note : (o object : ℕ) (objects : ℕ → Object) → (objects object).fate ≡ Destroyed → (b : Bool) → (o == object) ≡ b →
+kept-told : (o object : ℕ) (objects : ℕ → Object) → (objects object).fate ≡ Destroyed → (b : Bool) → (o == object) ≡ b →
     times_kept (objects o).fate ≡ (if b then 1 else 0) + times_kept (if b then nobody else objects o).fate
-kept-note o object objects gone true here =
+kept-told o object objects gone true here =
     let same : o ≡ object = grind (arith, nat_tests, here) in
     ap (λ n. times_kept (objects n).fate) same ∙ ap times_kept gone
-kept-note o object objects gone false other = omega arith
+kept-told o object objects gone false other = omega arith
 
 kept-destroy : (o object : ℕ) (objects : ℕ → Object) → (objects object).fate ≡ Alive → (b : Bool) → (o == object) ≡ b →
     times_kept (objects o).fate ≡ times_kept (if b then destroyed (objects object) else objects o).fate
@@ -83,11 +83,11 @@ module _ {E : Type 0} where
   kept-as s m o same = ap (λ f. 0 + times_kept f) same
 
   kept-step : (s m : QueuesState E) (o : ℕ) (c : Call E) → Does s c m →
-      added_by o c + times_kept (s.objects o).fate ≡ noted_by o c + times_kept (m.objects o).fate
+      added_by o c + times_kept (s.objects o).fate ≡ told_by o c + times_kept (m.objects o).fate
   kept-step s m o (Add object queue) d =
       omega (arith, kept-add o object queue s.objects d.answers.0 (o == object) refl, ap (λ x. times_kept x.fate) (d.leaves.objects o))
-  kept-step s m o (Note object) d =
-      omega (arith, kept-note o object s.objects d.answers.destroyed (o == object) refl, ap (λ x. times_kept x.fate) (d.leaves.objects o))
+  kept-step s m o (NextUnused object) d =
+      omega (arith, kept-told o object s.objects d.answers.destroyed (o == object) refl, ap (λ x. times_kept x.fate) (d.leaves.objects o))
   kept-step s m o (Destroy object) d =
       omega (arith, kept-destroy o object s.objects d.answers (o == object) refl, ap (λ x. times_kept x.fate) (d.leaves.objects o))
   kept-step s m o (SetQueue object queue) d = kept-as s m o (fate-moved o object queue s.objects (o == object) refl ∙ sym (ap (λ x. x.fate) (d.leaves.objects o)))
@@ -99,7 +99,7 @@ module _ {E : Type 0} where
   kept-step s m o Fail d = kept-as s m o (sym (ap (λ x. x.fate) (d.leaves.objects o)))
 
   kept-run : (s t : QueuesState E) (o : ℕ) (calls : List (Call E)) → Runs s calls t →
-      count_all (added_by o) calls + times_kept (s.objects o).fate ≡ count_all (noted_by o) calls + times_kept (t.objects o).fate
+      count_all (added_by o) calls + times_kept (s.objects o).fate ≡ count_all (told_by o) calls + times_kept (t.objects o).fate
   kept-run s t o [] r = kept-as s t o (sym (ap (λ x. x.fate) (r.objects o)))
   kept-run s t o (c ∷ calls) r = omega (arith, kept-step s r.0 o c r.1, kept-run r.0 t o calls r.2)
 
@@ -159,15 +159,15 @@ module _ {E : Type 0} where
     in_hand = subst (λ hs. All (λ h. times_named o h.event ≡ 0) hs) (sym in_hand) u.in_hand;
   }
 
-  noted-or-free : (s : QueuesState E) (o object : ℕ) → NamesNone s → IsUnnamed s object → (b : Bool) → (o == object) ≡ b → (if b then nobody else s.objects o).fate ≡ Free → IsUnnamed s o
-  noted-or-free s o object was unnamed true here free = let same : object ≡ o = grind (arith, nat_tests, here) in subst (λ n. IsUnnamed s n) same unnamed
-  noted-or-free s o object was unnamed false other free = was o free
+  told-or-free : (s : QueuesState E) (o object : ℕ) → NamesNone s → IsUnnamed s object → (b : Bool) → (o == object) ≡ b → (if b then nobody else s.objects o).fate ≡ Free → IsUnnamed s o
+  told-or-free s o object was unnamed true here free = let same : object ≡ o = grind (arith, nat_tests, here) in subst (λ n. IsUnnamed s n) same unnamed
+  told-or-free s o object was unnamed false other free = was o free
 
   names-step : (s m : QueuesState E) (c : Call E) → Does s c m → NamesNone s → NamesNone m
   names-step s m (Add object queue) d was = λ o free.
       unnamed-same s m o d.leaves.waiting d.leaves.in_hand (was o (free-added o object queue s.objects (o == object) (sym (ap (λ x. x.fate) (d.leaves.objects o)) ∙ free)))
-  names-step s m (Note object) d was = λ o free.
-      unnamed-same s m o d.leaves.waiting d.leaves.in_hand (noted-or-free s o object was d.answers.unnamed (o == object) refl (sym (ap (λ x. x.fate) (d.leaves.objects o)) ∙ free))
+  names-step s m (NextUnused object) d was = λ o free.
+      unnamed-same s m o d.leaves.waiting d.leaves.in_hand (told-or-free s o object was d.answers.unnamed (o == object) refl (sym (ap (λ x. x.fate) (d.leaves.objects o)) ∙ free))
   names-step s m (Destroy object) d was = λ o free.
       unnamed-same s m o d.leaves.waiting d.leaves.in_hand (was o (free-destroyed o object s.objects (o == object) (sym (ap (λ x. x.fate) (d.leaves.objects o)) ∙ free)))
   names-step s m (SetQueue object queue) d was = λ o free.
@@ -188,9 +188,9 @@ module _ {E : Type 0} where
   names-run s t [] r was = λ o free. unnamed-alike s t o r (was o (sym (ap (λ x. x.fate) (r.objects o)) ∙ free))
   names-run s t (c ∷ calls) r was = names-run r.0 t calls r.2 (names-step s r.0 c r.1 was)
 
-pub notes_each_object : (E : Type 0) → NotesEachObject E
-notes_each_object E calls s r o = let h = kept-run new_queues s o calls r in omega (arith, h)
+pub tells_each_object_unused_once : (E : Type 0) → TellsEachObjectUnusedOnce E
+tells_each_object_unused_once E calls s r o = let h = kept-run new_queues s o calls r in omega (arith, h)
 
-pub names_no_noted : (E : Type 0) → NamesNoNoted E
-names_no_noted E calls s r = names-run new_queues s calls r
+pub names_no_free_object : (E : Type 0) → NamesNoFreeObject E
+names_no_free_object E calls s r = names-run new_queues s calls r
     (λ o free. record { waiting = λ queue. All-nil (λ e. times_named o e ≡ 0); in_hand = All-nil (λ h. times_named o h.event ≡ 0) })
