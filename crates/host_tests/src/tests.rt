@@ -2,6 +2,7 @@
 
 mod acts;
 mod args;
+mod chosen;
 mod client;
 mod client_acts;
 mod drills;

@@ -2,7 +2,7 @@
 //!
 //! | Calls | File |
 //! |---|---|
-//! | `connect`, `end`, `add_interfaces`, `extend_interfaces`, `memory_refused`, the limits, `last_error` | `session` |
+//! | `connect`, `end`, `add_interfaces`, `extend_interfaces`, `memory_refused`, the limits, `pass_over_unknown_senders`, `refuse_nulls`, `last_error` | `session` |
 //! | `received`, `next_event`, `finish_event`, `send_request`, .. | `events` |
 //! | `display`, `object_data`, .. | `objects` |
 //! | `flush`, `to_send`, `sent`, `next_note`, `keep_freed`, `next_freed`, `next_dropped` | `sending` |

@@ -2,14 +2,16 @@
 //!
 //! | Calls | File |
 //! |---|---|
-//! | `new`, `end`, `add_interfaces`, `extend_interfaces`, `memory_refused`, the limits | `session` |
+//! | `new`, `end`, `add_interfaces`, `extend_interfaces`, `memory_refused`, the limits, `refuse_nulls` | `session` |
 //! | `insert_client`, `received`, .. | `clients` |
 //! | `next_action`, `finish_request`, `send_event`, .. | `actions` |
 //! | `create_object`, `object_data`, .. | `objects` |
+//! | `create_object_at`, `set_object_version`, `object_by_number`, `held_objects` | `chosen` |
 //! | `create_global`, `global_name`, .. | `globals` |
 //! | `next_writable`, `to_send`, `cleanup`, `next_gone`, .. | `sending` |
 
 mod actions;
+mod chosen;
 mod clients;
 mod globals;
 mod kept;

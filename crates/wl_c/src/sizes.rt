@@ -7,8 +7,8 @@ use crate::server::ServerPlace;
 use std::mem::size_of;
 use wl_host::{
     ArgumentRow, Counts, ExtensionFault, FlatAction, FlatArgument, FlatClientId, FlatError,
-    FlatEvent, FlatGlobalId, FlatGlobalInfo, FlatNote, FlatObjectId, FlatObjectInfo, FlatRequest,
-    Gone, InterfaceRow, MessageRow, TableFault,
+    FlatEvent, FlatGlobalId, FlatGlobalInfo, FlatHeldObject, FlatNote, FlatObjectId,
+    FlatObjectInfo, FlatRequest, Gone, InterfaceRow, MessageRow, TableFault,
 };
 
 const _: () = prove!(size_of::<ServerPlace>() == 16);
@@ -40,6 +40,8 @@ const _: () = prove!(size_of::<FlatEvent>() == 104);
 const _: () = prove!(size_of::<FlatRequest>() == 64);
 
 const _: () = prove!(size_of::<FlatObjectInfo>() == 12);
+
+const _: () = prove!(size_of::<FlatHeldObject>() == 40);
 
 const _: () = prove!(size_of::<FlatGlobalInfo>() == 16);
 

@@ -7,6 +7,7 @@ use Rattle.wl_link.proofs.Calls.Branches.{either_option}
 use Rattle.wl_link.specs.Mailbox.{MailboxSends, MailboxState}
 use Rattle.wl_link.specs.Puts.{lacks_memory}
 use Rattle.wl_server.specs.Ids.{ClientParts, same_client}
+use Rattle.wl_server.specs.Lookups.{transport_of}
 use Rattle.wl_server.specs.Plain.{FlushedAs, OtherClientsStay, client_in}
 use Rattle.wl_server.specs.Server.{Seen, seen}
 use Rattle.wl_wire.specs.declared.error.IoFault.{IoFault}
@@ -14,12 +15,25 @@ use Rattle.wl_wire.specs.declared.error.OutOfMemory.{OutOfMemory}
 use Rattle.wl_host.proofs.Draining.{link_drained}
 use Rattle.wl_host.specs.Calls.{CoreState}
 use Rattle.wl_host.specs.Descriptors.{Conserves}
+use Rattle.wl_host.specs.Flushing.{FlushesClient, said_of}
 use Rattle.wl_host.specs.Seats.{SeatsState, added, is_among, ledger_at, listed}
 use Rattle.wl_host.specs.Server.{Asks, AsksClient, AsksInTurn, FoundHasBytes, IsDrained, NextWritable, NoneAskedHasBytes, SeatHasNoBytes, ServerState, asked, has_bytes, kept_by_server, told_of}
 use Rattle.wl_host.specs.declared.flat.FlatClientId.{FlatClientId}
 use Rattle.wl_host.specs.declared.server.HostClient.{HostClient}
 use Rattle.wl_host.specs.declared.server.ledger.Ledger.{Ledger}
 use Rattle.wl_host.specs.declared.status.Status.{Status}
+
+-- a client that is stored is asked by a flush of its own
+flushes_stored : (b a : ServerState) (id : ClientParts) (m : MailboxState) (one : Result (Option ClientParts) OutOfMemory) (s : Status)
+    → transport_of b.core.server id ≡ Some m → AsksClient b.core id one a.core → s ≡ said_of one → a ≡ record b { core = a.core } → FlushesClient b id s a
+flushes_stored b a id m one s is h told same = rw is (one, h, told, same)
+
+pub flushes_client : (seen b a : ServerState) (read id : ClientParts) (m : MailboxState) (one : Result (Option ClientParts) OutOfMemory) (s : Status)
+    → seen ≡ b → read ≡ id → transport_of seen.core.server read ≡ Some m → AsksClient seen.core read one a.core → s ≡ said_of one
+    → a ≡ record seen { core = a.core } → FlushesClient b id s a
+flushes_client seen b a read id m one s same_state same_id is h told same =
+    subst (λ (t : ServerState). FlushesClient t id s a) same_state
+    (subst (λ (i : ClientParts). FlushesClient seen i s a) same_id (flushes_stored seen a read m one s is h told same))
 
 -- whoever sits at the slot is asked
 pub asks_at : (b mid : CoreState) (o : Option Ledger) (id : ClientParts) (one : Result (Option ClientParts) OutOfMemory) → Some id ≡ option_map (λ l. l.id) o → AsksClient b id one mid

@@ -27,7 +27,7 @@ filled-next items lent n x is fits = elim (nat_lt (length items) (length lent)) 
   | false ↦ λ e. let l : length lent ≤ length items = grind (arith, e) in next_missed items lent n x (omega arith) l
 ] refl
 
-filled_none : {X : Type 0} (lent : List X) → lent ≡ filled [] lent
+pub filled_none : {X : Type 0} (lent : List X) → lent ≡ filled [] lent
 filled_none lent = grind (arith, common_steps)
 
 -- one item was put into the lent memory

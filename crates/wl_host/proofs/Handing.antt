@@ -15,7 +15,7 @@ use Rattle.wl_server.specs.declared.error.EventError.TheVariants as event_error
 use Rattle.wl_server.specs.declared.reading.action.Action.{Action}
 use Rattle.wl_host.proofs.Ledgers.{conserves_ledger, slot_of_client}
 use Rattle.wl_host.proofs.Queues.{conserves_nothing, conserves_out, conserves_put_in, conserves_without}
-use Rattle.wl_host.specs.Actions.{EndsBind, HandsFrom, HandsNothing, HandsOut, HandsWhole, KeepsAction, Lent, NextAction, NextActionOf, args_of, descriptors_with, fits, is_killed_by, marked_if, without_kept}
+use Rattle.wl_host.specs.Actions.{EndsBind, HandsFrom, HandsNothing, HandsOut, HandsWhole, KeepsAction, Lent, NextAction, NextActionOf, args_of, descriptors_with, fits, is_killed_by, marked_if, with_kept}
 use Rattle.wl_host.specs.Arguments.{descriptors_given, descriptors_out, queue_after, queue_after_all, descriptor_in}
 use Rattle.wl_host.specs.Calls.{CoreState, status_by}
 use Rattle.wl_host.specs.Descriptors.{Conserves, Descriptors, kept_in}
@@ -100,13 +100,13 @@ next_from : (before after : ServerState) (id : ClientParts) (arguments : List Fl
     → (out : List ℤ) × NextAction before id arguments bytes s lent out after × Conserves kept_by_server before [] out after
 next_from before after id arguments bytes result s lent core l l' e h f g =
     let x : ServerState = record before { core = core; seats = listed (with_ledger before.seats id l') id.slot } in
-    let a = hands_out core (without_kept l) l' h.0 arguments bytes result lent h.2 in
+    let a = hands_out core (with_kept l h.1) l' h.0 arguments bytes result lent h.3 in
     let k : after ≡ marked_if (is_killed_by h.0) x = g ∙ ap (λ b. marked_if b x) a.3 in
     let m : after.seats ≡ listed (with_ledger before.seats id l') id.slot = ap (λ (t : ServerState). t.seats) g ∙ seats_marked (is_killed_in result) x in
     let c = conserves_ledger before.seats id l l' [] a.0 e (record { each = λ d. a.2.each d }) in (
       a.0,
       in_some (ledger_of id before.seats.ledgers) l (HandsNothing status.InvalidId arguments bytes s lent × (a.0 ≡ []) × (after ≡ before)) (NextActionOf before id arguments bytes s lent a.0 after) e
-          (h.0, core, l', h.1, rw f a.1, k),
+          (h.0, h.1, core, l', h.2, rw f a.1, k),
       conserves_server before after (listed (with_ledger before.seats id l') id.slot) [] a.0 m (record { each = λ d. c.each d }),
     )
 

@@ -14,6 +14,7 @@ use Rattle.wl_server.specs.declared.error.FinishRefused.{FinishRefused}
 use Rattle.wl_server.specs.declared.error.GlobalError.{GlobalError}
 use Rattle.wl_server.specs.declared.error.InsertClientError.{InsertClientError}
 use Rattle.wl_server.specs.declared.error.InvalidId.{InvalidId}
+use Rattle.wl_server.specs.declared.error.VersionError.{VersionError}
 use Rattle.wl_server.specs.declared.notes.Note.{Note}
 use Rattle.wl_server.specs.declared.reading.action.Action.{Action}
 use Rattle.wl_server.specs.declared.reading.action.OpenAction.{OpenAction}
@@ -25,6 +26,7 @@ use Rattle.wl_server.specs.declared.runs.step.Step.{Step}
 use Rattle.wl_server.specs.declared.runs.step.Step.TheVariants as step
 use Rattle.wl_server.proofs.Plain.Base.{of_each, when_false, when_true}
 use Rattle.wl_server.specs.Backend.{Calls, IsGrowth}
+use Rattle.wl_server.specs.Chosen.{CreatesNumbered, VersionSet, has_version, is_free_own}
 use Rattle.wl_server.specs.Deeds.{Deed, Handed, Noted}
 use Rattle.wl_server.specs.Felt.{Cleaned, FlushedTo, objects_leave}
 use Rattle.wl_server.specs.Finish.{FinishesBind, FinishesOpen, FinishesOpenBind, FinishesRequest, ends_request, finish_verdict, refusal}
@@ -110,6 +112,35 @@ creates_keeps table id i version u r p q h k =
                         | inl new ↦ ap (λ (t : P). t.is_killed) (sym new.1) ∙ k
                         | inr memory ↦ same_killed p q memory.2 k
                       ]
+                ]
+          ]
+    ]
+
+version_keeps : (table : List InterfaceRow) (o : IdParts) (version : ℕ) (r : Result (Unit {0}) VersionError) (p q : P) → VersionSet table p o version r q
+    → q.is_killed ≡ true → p.is_killed ≡ true
+version_keeps table o version r p q h k =
+    elim (either_option (named p.store o) h) [
+      | inl (none, (is, same)) ↦ same_killed p q same k
+      | inr (x, found, by) ↦
+          elim (either_bool (has_version table x.interface version) by) [
+            | inl (is, same) ↦ ap (λ (t : P). t.is_killed) (sym same) ∙ k
+            | inr (is, same) ↦ same_killed p q same k
+          ]
+    ]
+
+creates_at_keeps : (table : List InterfaceRow) (id : ClientParts) (i : InterfaceId) (version n u : ℕ) (r : Result IdParts CreateError) (p q : P)
+    → CreatesNumbered table id p i version n u r q → q.is_killed ≡ true → p.is_killed ≡ true
+creates_at_keeps table id i version n u r p q h k =
+    elim (either_option (slice_get table i.0) h) [
+      | inl (none, (is, same)) ↦ same_killed p q same k
+      | inr (row, found, g) ↦
+          elim (either_bool (p.last_serial == last_possible_serial) g) [
+            | inl (is, same) ↦ same_killed p q same k
+            | inr by ↦
+                elim (either_bool (is_free_own p.store n) by) [
+                  | inr (is, same) ↦ same_killed p q same k
+                  | inl (inl (is, same)) ↦ ap (λ (t : P). t.is_killed) (sym same) ∙ k
+                  | inl (inr (is, unused, same)) ↦ same_killed p q same k
                 ]
           ]
     ]
@@ -217,6 +248,21 @@ module _ (b a : CoreState) where
   creates_kills client i version u answer call =
       by_each _ _ call (λ id lacked did h k. of_client (seen id b.server) (seen id a.server) lacked did (same_client client id) _ _
       (λ p q r. creates_keeps b.server.offer.table id i version u h.0 p q r.2) h.2 k)
+
+  pub set_version_kills : (o : IdParts) (version : ℕ) (answer : Result (Unit {0}) VersionError)
+      → Calls world b (step.SetObjectVersion o version) (reply.SetObjectVersion answer) a → KillsNobody b a
+  set_version_kills o version answer call =
+      by_each _ _ call (λ id lacked did h k. of_client (seen id b.server) (seen id a.server) lacked did (same_client o.client id) _ _
+      (λ p q r. version_keeps b.server.offer.table o version h.0 p q r.2) h.2 k)
+
+  pub creates_at_kills : (client : ClientParts) (i : InterfaceId) (version n u : ℕ) (answer : Result IdParts CreateError)
+      → Calls world b (step.CreateObjectAt client i version n u) (reply.CreateObjectAt answer) a → KillsNobody b a
+  creates_at_kills client i version n u answer call =
+      by_each _ _ call (λ id lacked did h k. of_client (seen id b.server) (seen id a.server) lacked did (same_client client id) _ _
+      (λ p q r. creates_at_keeps b.server.offer.table id i version n u h.0 p q r.2) h.2 k)
+
+  pub keep_names_kills : (keep : Bool) → Calls world b (step.KeepGlobalNames keep) reply.KeepGlobalNames a → KillsNobody b a
+  keep_names_kills keep call = by_each _ _ call (λ id lacked did h k. unfelt (seen id b.server) (seen id a.server) lacked did h.1 k)
 
   pub finish_bind_kills : (client : ClientParts) (u : ℕ) (answer : Result (Unit {0}) (FinishRefused ℕ)) → Calls world b (step.FinishBind client u) (reply.FinishBind answer) a
       → KillsNobody b a

@@ -15,7 +15,7 @@ use Rattle.wl_server.specs.declared.error.ActionError.TheVariants as action_erro
 use Rattle.wl_server.specs.declared.reading.action.Action.{Action}
 use Rattle.wl_host.proofs.ClientReading.{something_read}
 use Rattle.wl_host.proofs.TellingNulls.{tells_null}
-use Rattle.wl_host.specs.Actions.{HandsOut, Lent, NextAction, ReadsAllowed, ReadsIfAllowed, ReadsNext, Refuses, args_of, fits, is_killed_by, marked_if, null_in, without_kept}
+use Rattle.wl_host.specs.Actions.{HandsOut, Lent, NextAction, ReadsAllowed, ReadsIfAllowed, ReadsNext, Refuses, args_of, fits, is_killed_by, marked_if, null_in, with_kept}
 use Rattle.wl_host.specs.Allowed.{IsAllowedAction, IsAllowedEvent, LendsAllowedAction, LendsAllowedEvent}
 use Rattle.wl_host.specs.Calls.{CoreState}
 use Rattle.wl_host.specs.Client.{ClientCore, HandsAllowed, HandsEvent, HandsNext, HostedClient, LentForEvent, ReadsUnlessKept, RefusesEvent, fits as fits_event, null_in as null_of_event}
@@ -32,27 +32,27 @@ use Rattle.wl_host.specs.declared.status.Status.TheVariants as status
 -- ---- what is read
 
 -- nothing was
-pub nothing_allowed : (refuses : Bool) (before after : CoreState) (id : ClientParts) (kept : Option Action) (e : ActionError) → ReadsNext before id kept (Err e) after
-    → ReadsAllowed refuses before id kept (Err e) after
-nothing_allowed false before after id kept e h = h
-nothing_allowed true before after id kept e h = (Err e, after, h, (refl, refl))
+pub nothing_allowed : (refuses : Bool) (before after : CoreState) (id : ClientParts) (kept left : Option Action) (e : ActionError) → left ≡ None
+    → ReadsNext before id kept (Err e) after → ReadsAllowed refuses before id kept (Err e) left after
+nothing_allowed false before after id kept left e none h = (h, none)
+nothing_allowed true before after id kept left e none h = (Err e, after, h, (refl, none, refl))
 
 module _ (before mid : CoreState) (id : ClientParts) (kept : Option Action) (action : Action) (place : ℕ) where
   -- an action that is refused
-  pub refused_read : (refuses : Bool) (after : CoreState) → ReadsNext before id kept (Ok action) mid → place ≡ null_in mid (handed action)
-      → is_refused refuses place ≡ true → Refuses mid id (handed action) after → ReadsAllowed refuses before id kept (Err (action_error.Io fault.Pipe)) after
-  refused_read false after h null is r = absurd (false≢true is)
-  refused_read true after h null is r =
+  pub refused_read : (refuses : Bool) (left : Option Action) (after : CoreState) → ReadsNext before id kept (Ok action) mid → place ≡ null_in mid (handed action)
+      → is_refused refuses place ≡ true → Refuses mid id action left after → ReadsAllowed refuses before id kept (Err (action_error.Io fault.Pipe)) left after
+  refused_read false left after h null is r = absurd (false≢true is)
+  refused_read true left after h null is r =
       let e : is_refused true (null_in mid (handed action)) ≡ true = ap (is_refused true) (sym null) ∙ is in
       (Ok action, mid, h, rw e (refl, r))
 
   -- one that is not
-  pub allowed_read : (refuses : Bool) → ReadsNext before id kept (Ok action) mid → place ≡ null_in mid (handed action)
-      → is_refused refuses place ≡ false → ReadsAllowed refuses before id kept (Ok action) mid
-  allowed_read false h null is = h
-  allowed_read true h null is =
+  pub allowed_read : (refuses : Bool) (left : Option Action) → left ≡ None → ReadsNext before id kept (Ok action) mid → place ≡ null_in mid (handed action)
+      → is_refused refuses place ≡ false → ReadsAllowed refuses before id kept (Ok action) left mid
+  allowed_read false left none h null is = (h, none)
+  allowed_read true left none h null is =
       let e : is_refused true (null_in mid (handed action)) ≡ false = ap (is_refused true) (sym null) ∙ is in
-      (Ok action, mid, h, rw e (refl, refl))
+      (Ok action, mid, h, rw e (refl, none, refl))
 
 -- a message that is not refused has no such null
 none_if_allowed : (n : ℕ) → is_refused true n ≡ false → n ≡ 0
@@ -70,20 +70,21 @@ abbrev null_read : CoreState → Result Action ActionError → ℕ
 null_read core (Ok action) = null_in core (handed action)
 null_read core (Err e) = 0
 
-if_allowed : (mid core : CoreState) (id : ClientParts) (action : Action) (read : Result Action ActionError) (b : Bool) → is_refused true (null_in mid (handed action)) ≡ b
-    → MatchBool b ((read ≡ Err (action_error.Io fault.Pipe)) × Refuses mid id (handed action) core) ((read ≡ Ok action) × (core ≡ mid))
+if_allowed : (mid core : CoreState) (id : ClientParts) (action : Action) (read : Result Action ActionError) (left : Option Action) (b : Bool)
+    → is_refused true (null_in mid (handed action)) ≡ b
+    → MatchBool b ((read ≡ Err (action_error.Io fault.Pipe)) × Refuses mid id action left core) ((read ≡ Ok action) × (left ≡ None) × (core ≡ mid))
     → null_read core read ≡ 0
-if_allowed mid core id action read true is (same, refused) = ap (null_read core) same
-if_allowed mid core id action read false is (same, now) =
+if_allowed mid core id action read left true is (same, refused) = ap (null_read core) same
+if_allowed mid core id action read left false is (same, none, now) =
     ap (null_read core) same ∙ (ap (λ (c : CoreState). null_in c (handed action)) now ∙ none_if_allowed (null_in mid (handed action)) is)
 
-reads_none : (before core : CoreState) (id : ClientParts) (kept : Option Action) (read : Result Action ActionError) → ReadsAllowed true before id kept read core
-    → null_read core read ≡ 0
-reads_none before core id kept read (found, mid, reads, allowed) = by found allowed
+reads_none : (before core : CoreState) (id : ClientParts) (kept : Option Action) (read : Result Action ActionError) (left : Option Action)
+    → ReadsAllowed true before id kept read left core → null_read core read ≡ 0
+reads_none before core id kept read left (found, mid, reads, allowed) = by found allowed
   where
-    by : (found : Result Action ActionError) → ReadsIfAllowed mid id found read core → null_read core read ≡ 0
-    by (Err e) (same, now) = ap (null_read core) same
-    by (Ok action) h = if_allowed mid core id action read (is_refused true (null_in mid (handed action))) refl h
+    by : (found : Result Action ActionError) → ReadsIfAllowed mid id found read left core → null_read core read ≡ 0
+    by (Err e) (same, none, now) = ap (null_read core) same
+    by (Ok action) h = if_allowed mid core id action read left (is_refused true (null_in mid (handed action))) refl h
 
 -- nothing was read
 is_no_action : (e : ActionError) → status.Ok ≡ of_action e → ⊥
@@ -130,10 +131,10 @@ pub action_allowed : (before after : ServerState) (id : ClientParts) (arguments 
 action_allowed before after id arguments bytes lent out on h =
     elim (either_option (ledger_of id before.seats.ledgers) h) [
       | inl (none, g) ↦ absurd (is_no_client g.0.0)
-      | inr (l, is, (read, core, l', reads, hands, now)) ↦
-          let found = reads_none before.core core id l.kept read (subst (λ r. ReadsAllowed r before.core id l.kept read core) on reads) in
+      | inr (l, is, (read, left, core, l', reads, hands, now)) ↦
+          let found = reads_none before.core core id l.kept read left (subst (λ r. ReadsAllowed r before.core id l.kept read left core) on reads) in
           let same : after.core ≡ core = ap (λ (s : ServerState). s.core) now ∙ same_core (is_killed_by read) _ in
-          subst (λ (c : CoreState). HasNone c arguments bytes lent) (sym same) (hands_none core (without_kept l) l' read arguments bytes lent out found hands)
+          subst (λ (c : CoreState). HasNone c arguments bytes lent) (sym same) (hands_none core (with_kept l left) l' read arguments bytes lent out found hands)
     ]
 
 -- ---- events

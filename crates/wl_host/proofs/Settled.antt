@@ -24,13 +24,15 @@ use Rattle.wl_wire.specs.declared.protocol.TableError.{TableError}
 use Rattle.wl_wire.specs.Table.{Extension, LongerRow, NewRows}
 use Rattle.wl_wire.specs.declared.error.OutOfMemory.{OutOfMemory}
 use Rattle.wl_host.proofs.Killing.{says_killed}
-use Rattle.wl_host.proofs.Marking.{KillsNobody, action_kills, cleanup_leaves_none, creates_kills, finish_bind_kills, finish_request_kills, flush_kills, insert_kills, growth_kills, mailbox_kills, notes_kill, refused_global_kills, set_data_kills}
+use Rattle.wl_host.proofs.Marking.{KillsNobody, action_kills, cleanup_leaves_none, creates_at_kills, creates_kills, finish_bind_kills, finish_request_kills, flush_kills, insert_kills, growth_kills, mailbox_kills, notes_kill, refused_global_kills, set_data_kills, set_version_kills}
 use Rattle.wl_host.specs.Actions.{EndsBind, EndsRequest, Lent, NextAction, ReadsAllowed, ReadsIfAllowed, ReadsNext, ended, is_killed_by, marked_if, null_in}
 use Rattle.wl_host.specs.Calls.{CoreState, CreatesGlobal, CreatesObject, InsertsClient, SetsObjectData, flattened, interface_of, world}
+use Rattle.wl_host.specs.Chosen.{CreatesObjectAt, SetsObjectVersion}
 use Rattle.wl_host.specs.Clients.{SetsRoom, inserted}
 use Rattle.wl_host.specs.Extending.{Lengthens, Parts, Takes, parts_of, told_at, told_of_new}
 use Rattle.wl_host.specs.Events.{Passed, PostsError, SendsEvent}
 use Rattle.wl_host.specs.Flat.{client_of, flat_global}
+use Rattle.wl_host.specs.Flushing.{FlushesClient}
 use Rattle.wl_host.specs.Killed.{IsSettled, KnowsEnd, StaysSettled}
 use Rattle.wl_host.specs.Notes.{NextNote, noted, noted_if, text_of}
 use Rattle.wl_host.specs.Nulls.{is_refused}
@@ -158,6 +160,23 @@ creates_settled b a client i version u result h e = stays_by b a (creates_kills 
 pub data_settled : (b a : ServerState) (o : FlatObjectId) (u : ℕ) (s : Status) → SetsObjectData b.core o u s a.core → a ≡ record b { core = a.core } → StaysSettled b a
 data_settled b a o u s h e = stays_by b a (set_data_kills b.core a.core _ u h.0 h.1) (ap (λ (s : ServerState). s.may_clean_up) e)
 
+pub creates_at_settled : (b a : ServerState) (client : FlatClientId) (i version n u : ℕ) (result : Result FlatObjectId Status)
+    → CreatesObjectAt b.core client i version n u result a.core
+    → a ≡ record b { core = a.core } → StaysSettled b a
+creates_at_settled b a client i version n u result h e =
+    stays_by b a (creates_at_kills b.core a.core _ _ version n u h.0 h.1) (ap (λ (s : ServerState). s.may_clean_up) e)
+
+pub version_settled : (b a : ServerState) (o : FlatObjectId) (version : ℕ) (s : Status) → SetsObjectVersion b.core o version s a.core → a ≡ record b { core = a.core }
+    → StaysSettled b a
+version_settled b a o version s h e = stays_by b a (set_version_kills b.core a.core _ version h.0 h.1) (ap (λ (s : ServerState). s.may_clean_up) e)
+
+pub flushes_settled : (b a : ServerState) (id : ClientParts) (s : Status) → FlushesClient b id s a → StaysSettled b a
+flushes_settled b a id s h =
+    elim (either_option (transport_of b.core.server id) h) [
+      | inl (none, same) ↦ stays_same b a same.1
+      | inr (m, at, (one, asks, says, e)) ↦ stays_by b a (flush_kills b.core a.core id asks.0 asks.1) (ap (λ (s : ServerState). s.may_clean_up) e)
+    ]
+
 pub refused_global_settled : (b a : ServerState) (i version u groups : ℕ) (hidden : List FlatClientId) (s : Status) → CreatesGlobal b.core i version u groups hidden (Err s) a.core
     → a ≡ record b { core = a.core } → StaysSettled b a
 refused_global_settled b a i version u groups hidden s h e = stays_by b a kills (ap (λ (s : ServerState). s.may_clean_up) e)
@@ -228,20 +247,20 @@ read_kills b a id None read off h = action_kills b a id read (says_same read ∙
 read_kills b a id (Some kept) read off h = kills_same b a h.1
 
 -- while nulls are refused: a reading that killed nobody found an action without them, or none
-allowed_same : (b a : CoreState) (id : ClientParts) (found read : Result Action ActionError) → is_killed_by read ≡ false → ReadsIfAllowed b id found read a
-    → (is_killed_by found ≡ false) × (a ≡ b)
-allowed_same b a id (Err e) read off (is, same) = (ap is_killed_by (sym is) ∙ off, same)
-allowed_same b a id (Ok action) read off h =
+allowed_same : (b a : CoreState) (id : ClientParts) (found read : Result Action ActionError) (left : Option Action) → is_killed_by read ≡ false
+    → ReadsIfAllowed b id found read left a → (is_killed_by found ≡ false) × (a ≡ b)
+allowed_same b a id (Err e) read left off (is, none, same) = (ap is_killed_by (sym is) ∙ off, same)
+allowed_same b a id (Ok action) read left off h =
     elim (either_bool (is_refused true (null_in b (handed action))) h) [
       | inl (is, refused) ↦ absurd (true≢false (ap is_killed_by (sym is) ∙ off))
-      | inr (is, same) ↦ (refl, same)
+      | inr (is, none, same) ↦ (refl, same)
     ]
 
-allowed_kills : (refuses : Bool) (b a : CoreState) (id : ClientParts) (kept : Option Action) (read : Result Action ActionError) → is_killed_by read ≡ false
-    → ReadsAllowed refuses b id kept read a → KillsNobody b a
-allowed_kills false b a id kept read off h = read_kills b a id kept read off h
-allowed_kills true b a id kept read off (found, core, reads, allowed) =
-    let same = allowed_same core a id found read off allowed in
+allowed_kills : (refuses : Bool) (b a : CoreState) (id : ClientParts) (kept : Option Action) (read : Result Action ActionError) (left : Option Action)
+    → is_killed_by read ≡ false → ReadsAllowed refuses b id kept read left a → KillsNobody b a
+allowed_kills false b a id kept read left off h = read_kills b a id kept read off h.0
+allowed_kills true b a id kept read left off (found, core, reads, allowed) =
+    let same = allowed_same core a id found read left off allowed in
     kills_then b core a (read_kills b core id kept found same.0 reads) (kills_same core a same.1)
 
 pub action_settled : (b a : ServerState) (id : ClientParts) (arguments : List FlatArgument) (bytes : List ℕ) (s : Status) (lent : Lent) (out : List ℤ)
@@ -249,16 +268,17 @@ pub action_settled : (b a : ServerState) (id : ClientParts) (arguments : List Fl
 action_settled b a id arguments bytes s lent out h =
     elim (either_option (ledger_of id b.seats.ledgers) h) [
       | inl (none, g) ↦ stays_same b a g.2
-      | inr (l, is, (read, core, l', reads, hands, after)) ↦ by l read core reads (is_killed_by read) refl _ after
+      | inr (l, is, (read, left, core, l', reads, hands, after)) ↦ by l read left core reads (is_killed_by read) refl _ after
     ]
   where
-    by : (l : Ledger) (read : Result Action ActionError) (core : CoreState) → ReadsAllowed b.refuses_nulls b.core id l.kept read core → (killed : Bool) → is_killed_by read ≡ killed
+    by : (l : Ledger) (read : Result Action ActionError) (left : Option Action) (core : CoreState) → ReadsAllowed b.refuses_nulls b.core id l.kept read left core
+        → (killed : Bool) → is_killed_by read ≡ killed
         → (seats : SeatsState) → a ≡ marked_if (is_killed_by read) (record b { core = core; seats = seats }) → StaysSettled b a
-    by l read core reads true on seats after =
+    by l read left core reads true on seats after =
         stays_marked b a (ap (λ (s : ServerState). s.may_clean_up) (after ∙ ap (λ k. marked_if k (record b { core = core; seats = seats })) on))
-    by l read core reads false off seats after =
+    by l read left core reads false off seats after =
         let e = after ∙ ap (λ k. marked_if k (record b { core = core; seats = seats })) off in
-        stays_core b a core (allowed_kills b.refuses_nulls b.core core id l.kept read off reads) (ap (λ (s : ServerState). s.core) e) (ap (λ (s : ServerState). s.may_clean_up) e)
+        stays_core b a core (allowed_kills b.refuses_nulls b.core core id l.kept read left off reads) (ap (λ (s : ServerState). s.core) e) (ap (λ (s : ServerState). s.may_clean_up) e)
 
 pub bind_settled : (b a : ServerState) (id : ClientParts) (u : ℕ) (result : Result Bool Status) → EndsBind b id u result a → StaysSettled b a
 bind_settled b a id u result h =

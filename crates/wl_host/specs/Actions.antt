@@ -105,9 +105,9 @@ abbrev pub marked_if : Bool → ServerState → ServerState
 marked_if true s = marked s
 marked_if false s = s
 
--- the ledger without the action that it keeps
-abbrev pub without_kept : Ledger → Ledger
-without_kept l = record l { kept = None }
+-- the ledger, with this action kept
+abbrev pub with_kept : Ledger → Option Action → Ledger
+with_kept l kept = record l { kept = kept }
 
 -- The action that was kept for the client. Or none was, and the core reads the next one.
 abbrev pub ReadsNext : CoreState → ClientParts → Option Action → Result Action ActionError → CoreState → Type 0
@@ -133,29 +133,35 @@ KillsFor before id text after =
     Calls world before (step.PostError (display_of id) 1 text) reply.PostError after
     ⊎ Calls world before (step.KillClient id reason.ConnectionClosed) reply.KillClient after
 
--- The request is refused: its client is killed, and the core is asked to finish it. If there is no memory for that, the request
--- stays open until the client is taken out.
-abbrev pub Refuses : CoreState → ClientParts → Handed → CoreState → Type 0
-Refuses before id h after =
+-- A request that the core does not finish is kept.
+abbrev pub kept_unless_finished : Result (Unit {0}) (FinishRefused (Option ℕ)) → Action → Option Action
+kept_unless_finished (Ok _) action = None
+kept_unless_finished (Err e) action = Some action
+
+-- The request is refused: its client is killed, and the core is asked to finish it. If there is no memory for that, the request is
+-- kept: it was not handed out, and the next reading refuses it again.
+abbrev pub Refuses : CoreState → ClientParts → Action → Option Action → CoreState → Type 0
+Refuses before id action left after =
     (mid : CoreState) × (answer : Result (Unit {0}) (FinishRefused (Option ℕ)))
-    × KillsFor before id (refusal_text before h) mid
+    × KillsFor before id (refusal_text before (handed action)) mid
     × Calls world mid (step.FinishRequest id None) (reply.FinishRequest answer) after
+    × (left ≡ kept_unless_finished answer action)
 
 -- What was found is read, unless it has a null that the table forbids. Then it is refused, and the reading ends as after a request
 -- that the core refuses.
-abbrev pub ReadsIfAllowed : CoreState → ClientParts → Result Action ActionError → Result Action ActionError → CoreState → Type 0
-ReadsIfAllowed before id (Ok action) read after =
+abbrev pub ReadsIfAllowed : CoreState → ClientParts → Result Action ActionError → Result Action ActionError → Option Action → CoreState → Type 0
+ReadsIfAllowed before id (Ok action) read left after =
     MatchBool (is_refused true (null_in before (handed action)))
-    ((read ≡ Err (action_error.Io fault.Pipe)) × Refuses before id (handed action) after)
-    ((read ≡ Ok action) × (after ≡ before))
-ReadsIfAllowed before id (Err e) read after = (read ≡ Err e) × (after ≡ before)
+    ((read ≡ Err (action_error.Io fault.Pipe)) × Refuses before id action left after)
+    ((read ≡ Ok action) × (left ≡ None) × (after ≡ before))
+ReadsIfAllowed before id (Err e) read left after = (read ≡ Err e) × (left ≡ None) × (after ≡ before)
 
--- The next action is read. If such nulls are refused, it is read if it has none.
-abbrev pub ReadsAllowed : Bool → CoreState → ClientParts → Option Action → Result Action ActionError → CoreState → Type 0
-ReadsAllowed false before id kept read after = ReadsNext before id kept read after
-ReadsAllowed true before id kept read after =
+-- The next action is read. If such nulls are refused, it is read if it has none. `left` is what is kept then.
+abbrev pub ReadsAllowed : Bool → CoreState → ClientParts → Option Action → Result Action ActionError → Option Action → CoreState → Type 0
+ReadsAllowed false before id kept read left after = ReadsNext before id kept read after × (left ≡ None)
+ReadsAllowed true before id kept read left after =
     (found : Result Action ActionError) × (core : CoreState)
-    × ReadsNext before id kept found core × ReadsIfAllowed core id found read after
+    × ReadsNext before id kept found core × ReadsIfAllowed core id found read left after
 
 -- the lent memory has room for the arguments and for their bytes
 abbrev pub fits : List (Argument IdParts Token) → List FlatArgument → List ℕ → Bool
@@ -219,9 +225,9 @@ is_killed_by (Err e) = kills e
 -- what is to be sent: the core may have answered a sync, or told it of globals.
 abbrev pub NextActionOf : ServerState → ClientParts → List FlatArgument → List ℕ → Status → Lent → List ℤ → ServerState → Ledger → Type 0
 NextActionOf before id arguments bytes s lent out after l =
-    (read : Result Action ActionError) × (core : CoreState) × (l' : Ledger)
-    × ReadsAllowed before.refuses_nulls before.core id l.kept read core
-    × HandsOut core (without_kept l) read arguments bytes s lent out l'
+    (read : Result Action ActionError) × (left : Option Action) × (core : CoreState) × (l' : Ledger)
+    × ReadsAllowed before.refuses_nulls before.core id l.kept read left core
+    × HandsOut core (with_kept l left) read arguments bytes s lent out l'
     × (after ≡ marked_if (is_killed_by read) (record before { core = core; seats = listed (with_ledger before.seats id l') id.slot }))
 
 -- The client may not be stored. Then nothing is changed.

@@ -28,7 +28,7 @@ abbrev pub IsAllowedEvent : ClientCore → SessionMessage → Type 0
 IsAllowedEvent core event =
     (n : ℕ) → ¬ (IsForbiddenAt flat_proxy (signature_of (event_row core.session.table event.sender.interface event.opcode)) event.args n)
 
--- what stands in the lent memory is such an event, handed out by a session that was so but for its core
+-- the lent memory has such an event, as the session hands it out once it has this core
 abbrev pub LendsAllowedEvent : HostedClient → ClientCore → LentForEvent → LentForEvent → Type 0
 LendsAllowedEvent before core lent lent' =
     (event : SessionMessage) × (lent' ≡ with_event (record before { core = core }) event lent) × IsAllowedEvent core event

@@ -3,6 +3,7 @@ pub mod Allowed
 pub mod Arguments
 pub mod Arrivals
 pub mod Calls
+pub mod Chosen
 pub mod Client
 pub mod Clients
 pub mod Descriptors
@@ -10,7 +11,9 @@ pub mod Events
 pub mod Extending
 pub mod Faults
 pub mod Flat
+pub mod Flushing
 pub mod Globals
+pub mod Held
 pub mod Inside
 pub mod Killed
 pub mod Kinds

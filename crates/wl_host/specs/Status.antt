@@ -8,6 +8,8 @@ use Rattle.wl_server.specs.declared.error.InsertClientError.{InsertClientError}
 use Rattle.wl_server.specs.declared.error.InsertClientError.TheVariants as insert
 use Rattle.wl_server.specs.declared.error.CreateError.{CreateError}
 use Rattle.wl_server.specs.declared.error.CreateError.TheVariants as create
+use Rattle.wl_server.specs.declared.error.VersionError.{VersionError}
+use Rattle.wl_server.specs.declared.error.VersionError.TheVariants as version
 use Rattle.wl_server.specs.declared.error.DestroyError.{DestroyError}
 use Rattle.wl_server.specs.declared.error.DestroyError.TheVariants as destroy
 use Rattle.wl_server.specs.declared.error.EventError.{EventError}
@@ -68,6 +70,7 @@ code_of status.WrongChild = 31
 code_of status.WrongChildVersion = 32
 code_of status.MissingChild = 33
 code_of status.NotPlaceholder = 34
+code_of status.NotFree = 35
 
 -- a session answers `InvalidInput` for a client that it does not have
 abbrev pub of_fault : IoFault → Status
@@ -96,8 +99,12 @@ of_create create.InvalidId = status.InvalidId
 of_create create.UnknownInterface = status.UnknownInterface
 of_create create.IdsExhausted = status.IdsExhausted
 of_create create.SerialsExhausted = status.SerialsExhausted
-of_create create.NotFree = status.InvalidInput
+of_create create.NotFree = status.NotFree
 of_create create.OutOfMemory = status.OutOfMemory
+
+abbrev pub of_version : VersionError → Status
+of_version version.InvalidId = status.InvalidId
+of_version version.UnknownVersion = status.VersionTooHigh
 
 abbrev pub of_destroy : DestroyError → Status
 of_destroy destroy.InvalidId = status.InvalidId

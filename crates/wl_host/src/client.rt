@@ -2,7 +2,7 @@
 //!
 //! | Calls | Code |
 //! |---|---|
-//! | `connect`, the table, the limits, `refuse_nulls`, `fail`, `last_error` | this file, `client::faults` |
+//! | `connect`, the table, the limits, `pass_over_unknown_senders`, `refuse_nulls`, `fail`, `last_error` | this file, `client::faults` |
 //! | `received`, `received_end`, `receive_failed` | `client::receiving` |
 //! | `next_event`, `finish_event` | `client::events`, `client::flattening`, `client::refusals` |
 //! | `send_request` | `client::requests` |

@@ -195,6 +195,16 @@ pub struct FlatObjectInfo {
     pub version: u32,
 }
 
+/// An object of a server's session, with the program's data of it.
+#[repr(C)]
+#[derive(Clone, Copy, Debug, PartialEq, Eq, Drop)]
+pub struct FlatHeldObject {
+    /// The object.
+    pub object: FlatObjectId,
+    /// The data; 0 if it has none.
+    pub data: u64,
+}
+
 /// What a global offers.
 #[repr(C)]
 #[derive(Clone, Copy, Debug, PartialEq, Eq, Drop)]

@@ -16,11 +16,13 @@ ghost use Rattle.wl_host.specs.Actions.{EndsBind, EndsRequest, Lent, NextAction}
 ghost use Rattle.wl_host.specs.Allowed.{LendsAllowedAction, LendsAllowedEvent};
 ghost use Rattle.wl_host.specs.Arguments.{ComesBack, IsReadInPlace, all_bytes, arguments_of, flat_arguments, moved};
 ghost use Rattle.wl_host.specs.Calls.{CoreState, CreatesGlobal, CreatesObject, InsertsClient, SetsObjectData, world};
+ghost use Rattle.wl_host.specs.Chosen.{CreatesObjectAt, SetsObjectVersion};
 ghost use Rattle.wl_host.specs.Client.{ClientCore, HandsNext, HostedClient, LentForEvent};
 ghost use Rattle.wl_host.specs.Clients.{SetsRoom, inserted};
 ghost use Rattle.wl_host.specs.Descriptors.{Descriptors};
 ghost use Rattle.wl_host.specs.Events.{Passed, PostsError, SendsEvent};
 ghost use Rattle.wl_host.specs.Extending.{HasRow, KeepsInterfaces};
+ghost use Rattle.wl_host.specs.Flushing.{FlushesClient};
 ghost use Rattle.wl_host.specs.Flat.{flat_proxy, flat_resource, proxy_of, resource_of};
 ghost use Rattle.wl_host.specs.Killed.{IsSettled, KnowsEnd, StaysSettled};
 ghost use Rattle.wl_host.specs.Notes.{NextNote};
@@ -109,6 +111,10 @@ pub fn a_cleanup_looks_for_the_killed()
     ensures post_error { (before after : ServerState) (object : FlatObjectId) (code : ℕ) (message : List ℕ) (s : Status) → PostsError before object code message s after → StaysSettled before after }
     ensures create_object { (before after : ServerState) (client : FlatClientId) (interface version user_data : ℕ) (result : Result FlatObjectId Status) → CreatesObject before.core client interface version user_data result after.core → after ≡ record before { core = after.core } → StaysSettled before after }
     ensures set_object_data { (before after : ServerState) (object : FlatObjectId) (user_data : ℕ) (s : Status) → SetsObjectData before.core object user_data s after.core → after ≡ record before { core = after.core } → StaysSettled before after }
+    ensures create_object_at { (before after : ServerState) (client : FlatClientId) (interface version number user_data : ℕ) (result : Result FlatObjectId Status) → CreatesObjectAt before.core client interface version number user_data result after.core → after ≡ record before { core = after.core } → StaysSettled before after }
+    ensures set_object_version { (before after : ServerState) (object : FlatObjectId) (version : ℕ) (s : Status) → SetsObjectVersion before.core object version s after.core → after ≡ record before { core = after.core } → StaysSettled before after }
+    ensures keep_global_names { (before after : ServerState) (keep : Bool) → Calls world before.core (step.KeepGlobalNames keep) reply.KeepGlobalNames after.core → after ≡ record before { core = after.core } → StaysSettled before after }
+    ensures flush_client { (before after : ServerState) (id : ClientParts) (s : Status) → FlushesClient before id s after → StaysSettled before after }
     ensures refused_global { (before after : ServerState) (interface version user_data groups : ℕ) (hidden : List FlatClientId) (s : Status) → CreatesGlobal before.core interface version user_data groups hidden (Err s) after.core → after ≡ record before { core = after.core } → StaysSettled before after }
     ensures next_writable { (before after : ServerState) (result : Result FlatClientId Status) → NextWritable before result after → StaysSettled before after }
     ensures sent { (before after : ServerState) (id : ClientParts) (count : ℕ) (s : Status) → Sent before id count s after → StaysSettled before after }

@@ -40,8 +40,8 @@ pub use client::Client;
 pub use extending::ExtensionFault;
 pub use flat::{
     BIND, Counts, DESTROYED, FlatAction, FlatArgument, FlatClientId, FlatError, FlatEvent,
-    FlatGlobalId, FlatGlobalInfo, FlatNote, FlatObjectId, FlatObjectInfo, FlatRequest, Gone,
-    INSERTED, IO, KILLED, PROTOCOL, REQUEST, kind,
+    FlatGlobalId, FlatGlobalInfo, FlatHeldObject, FlatNote, FlatObjectId, FlatObjectInfo,
+    FlatRequest, Gone, INSERTED, IO, KILLED, PROTOCOL, REQUEST, kind,
 };
 pub use laws::{a_forbidden_null_is_told, flat_arguments_come_back};
 pub use rows::{ArgumentRow, InterfaceRow, MessageRow, Rows, TableFault, fault};

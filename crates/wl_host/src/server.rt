@@ -6,16 +6,18 @@
 //! | clients, and what arrives of them | `server::clients`, `server::arrivals` |
 //! | `next_action`, and those that finish an action | `server::actions`, `server::refusals` |
 //! | `send_event`, `post_error` | `server::events` |
-//! | objects, globals | `server::objects`, `server::globals` |
+//! | objects, globals | `server::objects`, `server::chosen`, `server::held`, `server::globals` |
 //! | what is to be sent, and clients that are gone | `server::sending`, `server::departures` |
 //! | notes | `server::notes` |
 
 pub mod actions;
 pub mod arrivals;
+pub mod chosen;
 pub mod clients;
 pub mod departures;
 pub mod events;
 pub mod globals;
+pub mod held;
 pub mod hidden;
 pub mod ledger;
 pub mod listing;
@@ -261,6 +263,9 @@ impl Server {
     /// Sets whether a request with a null that the table forbids is refused: no such request is handed out then, and its client
     /// is killed (`next_action`). They are if `is_on` is not 0. In a new session they are not, and `forbidden_null` of an action
     /// tells of the null.
+    ///
+    /// After a call that refused a request so, `memory_refused` says only whether memory ran out as the request was finished, and
+    /// not whether it did as the client was told.
     pub fn refuse_nulls(&mut self, is_on: u32) -> Status
         ensures set { self.new ≡ record self.old { refuses_nulls = sets is_on } }
         ensures descriptors { Conserves kept_by_server self.old [] [] self.new }

@@ -83,8 +83,8 @@ fn write_arguments(letters: &[u8], arguments: &mut [ArgumentRow])
     }
 }
 
-/// Reads a signature as libwayland has it: digits for the version since which the message is there (1 without any), and a letter for
-/// each argument, behind `?` if it may be null: `i`, `u`, `f`, `s`, `o`, `n`, `a`, `h`.
+/// Reads a signature as libwayland has it: digits for the version since which the message is there (1 without any, or with 0), and
+/// a letter for each argument, behind `?` if it may be null: `i`, `u`, `f`, `s`, `o`, `n`, `a`, `h`.
 ///
 /// It writes `since` and `arguments` of the row, and the rows of the arguments, each of any interface. `InvalidInput` if the text is no
 /// signature: nothing is written then. `TooSmall` if the message has more arguments than there is room: the rows of the arguments are not

@@ -10,7 +10,7 @@ use wl_client::{
 use wl_link::MailboxError;
 use wl_server::{
     ActionError, CreateError, DestroyError, EventError, FinishError, GlobalError,
-    InsertClientError, InvalidId,
+    InsertClientError, InvalidId, VersionError,
 };
 use wl_wire::{IoFault, OutOfMemory};
 
@@ -74,7 +74,7 @@ pub enum Status {
     WrongInterface,
     /// The interface is not in the table.
     UnknownInterface,
-    /// The version is above that of the interface.
+    /// The version is above that of the interface, or 0 for an object (`VersionError::UnknownVersion`).
     VersionTooHigh,
     /// No number is left for the object.
     IdsExhausted,
@@ -90,6 +90,8 @@ pub enum Status {
     MissingChild,
     /// The new id among the arguments is not null.
     NotPlaceholder,
+    /// The number that was asked for is not free.
+    NotFree,
 }
 
 impl Status {
@@ -177,9 +179,21 @@ impl From<CreateError> for Status {
             CreateError::UnknownInterface => Status::UnknownInterface,
             CreateError::IdsExhausted => Status::IdsExhausted,
             CreateError::SerialsExhausted => Status::SerialsExhausted,
-            // No call of a host names a number.
-            CreateError::NotFree => Status::InvalidInput,
+            CreateError::NotFree => Status::NotFree,
             CreateError::OutOfMemory => Status::OutOfMemory,
+        }
+    }
+}
+
+impl From<VersionError> for Status {
+    ghost use Rattle.wl_host.specs.Status.{of_version};
+
+    ghost from_gives = { λ error status. status ≡ of_version error };
+
+    fn from(error: VersionError) -> Status {
+        match error {
+            VersionError::InvalidId => Status::InvalidId,
+            VersionError::UnknownVersion => Status::VersionTooHigh,
         }
     }
 }

@@ -1,5 +1,6 @@
 //! What a test does with a server's session, and what it tells.
 
+use crate::tests::chosen::{Choice, choose};
 use crate::tests::rows::{GATE, KNOT, NOTE, TABLE};
 use crate::tests::session::Session;
 use crate::tests::told::{
@@ -69,6 +70,8 @@ pub enum Act {
     Note,
     /// The next descriptor that belongs to nobody.
     Dropped,
+    /// What the host chooses.
+    Choose(Choice),
 }
 
 /// The first client.
@@ -314,6 +317,7 @@ impl Session for Server {
             Act::Gone => next_gone(log, self),
             Act::Note => next_note(log, self),
             Act::Dropped => told(log, self.next_dropped(), tell_descriptor),
+            Act::Choose(choice) => choose(log, self, choice),
             other => on_messages(log, self, other),
         }
     }

@@ -141,6 +141,9 @@ static REFUSAL: Run<Act> = Run {
         (Act::Create(FIRST, 5, 55), "Ok 5@4278190080"),
         (Act::Received(FIRST, LEAVE_NULL, &[42]), "Ok"),
         (Act::Next(FIRST, 2, 8), "Closed"),
+        // Whatever there was no memory for, nothing that the host may finish is open.
+        (Act::Finish(FIRST), "NotOpen"),
+        (Act::Next(FIRST, 2, 8), "Closed"),
         (Act::Dropped, "WouldBlock"),
         (Act::Cleanup, "Ok"),
         (Act::Dropped, "Ok descriptor 42"),

@@ -94,7 +94,7 @@ const MANY: [i32; 29] = [5; 29];
 const FULL: [i32; 28] = [5; 28];
 
 /// A global, and a client that binds it.
-const BOUND: &[Entry<Act>] = &[
+pub const BOUND: &[Entry<Act>] = &[
     (Act::Global(70, 1, &[]), "Ok global 1:1"),
     (Act::Insert(7, 1, &[]), "Ok client 0:1"),
     (Act::Received(FIRST, BIND, &[]), "Ok"),

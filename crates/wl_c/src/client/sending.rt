@@ -90,7 +90,7 @@ pub extern "C" fn nb_client_next_note(
     status.code()
 }
 
-/// Sets whether the ids of objects whose numbers become free are kept.
+/// Sets whether the ids of objects that leave their numbers are kept.
 #[unsafe(no_mangle)]
 pub extern "C" fn nb_client_keep_freed(alloc: Global, place: &mut ClientPlace, keeps: u32) -> u32
     ensures none { place.old.kept.held ≡ None → (result ≡ 1) × (place.new.kept.held ≡ None) }
@@ -108,7 +108,7 @@ pub extern "C" fn nb_client_keep_freed(alloc: Global, place: &mut ClientPlace, k
     status.code()
 }
 
-/// Hands out the next id of an object whose number became free.
+/// Hands out the next id of an object that left its number.
 #[unsafe(no_mangle)]
 pub extern "C" fn nb_client_next_freed(
     alloc: Global,

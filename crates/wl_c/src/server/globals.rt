@@ -1,6 +1,6 @@
 //! The globals of a server's session.
 
-ghost use Rattle.std.specs.Prelude.{IsSome, None, OnErr, OnOk, [], option_map, ◌≡◌, ◌≢◌};
+ghost use Rattle.std.specs.Prelude.{IsSome, None, OnErr, OnOk, [], not, option_map, ◌==◌, ◌≡◌, ◌≢◌};
 ghost use Rattle.wl_c.specs.Calls.{Did, Found, Gave};
 ghost use Rattle.wl_host.specs.Calls.{CreatesGlobal, TellsNextGlobal, flat_global_info, or_invalid, world};
 ghost use Rattle.wl_host.specs.Descriptors.{Conserves};
@@ -107,6 +107,28 @@ pub extern "C" fn nb_server_remove_global(
         return Status::NoSession.code();
     };
     let status = session.remove_global(global);
+    place.put(session);
+    status.code()
+}
+
+/// Keeps the names of globals, or no longer.
+#[unsafe(no_mangle)]
+pub extern "C" fn nb_server_keep_global_names(
+    alloc: Global,
+    place: &mut ServerPlace,
+    keep: u32,
+) -> u32
+    ensures none { place.old.kept.held ≡ None → (result ≡ 1) × (place.new.kept.held ≡ None) }
+    ensures stays { IsSome place.old.kept.held → IsSome place.new.kept.held }
+    ensures call { Did place.old.kept.held result place.new.kept.held (λ s status t. Calls world s.core (step.KeepGlobalNames (not (keep == 0))) reply.KeepGlobalNames t.core) }
+    ensures beside { Did place.old.kept.held result place.new.kept.held (λ s status t. t ≡ record s { core = t.core }) }
+    ensures descriptors { Did place.old.kept.held result place.new.kept.held (λ s status t. Conserves kept_by_server s [] [] t) }
+    ensures status { IsSome place.old.kept.held → result ≡ 0 }
+{
+    let Some(mut session) = place.take(alloc) else {
+        return Status::NoSession.code();
+    };
+    let status = session.keep_global_names(keep);
     place.put(session);
     status.code()
 }

@@ -4,6 +4,7 @@ ghost use Rattle.std.specs.Prelude.{IsSome, None, [], ◌≡◌, ◌≢◌};
 ghost use Rattle.wl_c.specs.Calls.{Did, Gave, Told};
 ghost use Rattle.wl_host.specs.Descriptors.{Conserves};
 ghost use Rattle.wl_host.specs.Flat.{client_of};
+ghost use Rattle.wl_host.specs.Flushing.{FlushesClient, OkHasBytes};
 ghost use Rattle.wl_host.specs.Notes.{NextNote};
 ghost use Rattle.wl_host.specs.Server.{CleansUp, FoundHasBytes, NextDropped, NextWritable, NoneAskedHasBytes, Sent, gone_with_first, handed, kept_by_server, next_gone, sent_with, to_send};
 ghost use Rattle.wl_host.specs.declared.status.Status.TheVariants as status;
@@ -34,6 +35,27 @@ pub extern "C" fn nb_server_next_writable(
     let answer = session.next_writable();
     place.put(session);
     write_answer(answer, client)
+}
+
+/// Flushes a client, and says whether something waits to be sent to it.
+#[unsafe(no_mangle)]
+pub extern "C" fn nb_server_flush_client(
+    alloc: Global,
+    place: &mut ServerPlace,
+    client: &FlatClientId,
+) -> u32
+    ensures none { place.old.kept.held ≡ None → (result ≡ 1) × (place.new.kept.held ≡ None) }
+    ensures stays { IsSome place.old.kept.held → IsSome place.new.kept.held }
+    ensures call { Did place.old.kept.held result place.new.kept.held (λ s status t. FlushesClient s (client_of client.now) status t) }
+    ensures waits { Did place.old.kept.held result place.new.kept.held (λ s status t. OkHasBytes t.core (client_of client.now) status) }
+    ensures descriptors { Did place.old.kept.held result place.new.kept.held (λ s status t. Conserves kept_by_server s [] [] t) }
+{
+    let Some(mut session) = place.take(alloc) else {
+        return Status::NoSession.code();
+    };
+    let status = session.flush_client(client);
+    place.put(session);
+    status.code()
 }
 
 /// Copies what is to be sent to a client. It stays until `nb_server_sent` says that it was sent.

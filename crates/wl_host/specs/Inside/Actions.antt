@@ -1,9 +1,9 @@
 -- What the functions share that hand out an action.
-use Rattle.std.specs.Prelude.{◌≡◌, Bool, false, Result, Ok, Err, MatchResult}
+use Rattle.std.specs.Prelude.{◌≡◌, Bool, false, Option, Result, Ok, Err, MatchResult}
 use Rattle.wl_server.specs.Ids.{ClientParts}
 use Rattle.wl_server.specs.declared.error.ActionError.{ActionError}
 use Rattle.wl_server.specs.declared.reading.action.Action.{Action}
-use Rattle.wl_host.specs.Actions.{HandsFrom, Lent, ReadsAllowed, kills, without_kept}
+use Rattle.wl_host.specs.Actions.{HandsFrom, Lent, ReadsAllowed, kills, with_kept}
 use Rattle.wl_host.specs.Calls.{CoreState}
 use Rattle.wl_host.specs.Status.{of_action}
 use Rattle.wl_host.specs.declared.server.ledger.Ledger.{Ledger}
@@ -28,5 +28,5 @@ AnswersNext core l read before result after l' =
 -- the next action of a client with this ledger
 abbrev pub NextOf : Bool → CoreState → ClientParts → Ledger → Lent → Result Status ActionError → Lent → CoreState → Ledger → Type 0
 NextOf refuses before id l lent result lent' after l' =
-    (read : Result Action ActionError) × ReadsAllowed refuses before id l.kept read after
-    × AnswersNext after (without_kept l) read lent result lent' l'
+    (read : Result Action ActionError) × (left : Option Action) × ReadsAllowed refuses before id l.kept read left after
+    × AnswersNext after (with_kept l left) read lent result lent' l'

@@ -80,9 +80,9 @@ impl Client {
     /// - `OutOfMemory` if there is no memory.
     ///
     /// If nulls are refused (`refuse_nulls`), an event with an argument that is null where the table allows no null is not handed
-    /// out, and the status is `Failed`: the session ends, and its error is a protocol error of code 0 and no object, with a text that
-    /// names the event and the place; `OutOfMemory` if there is no memory for that. The event is closed, as by `fail`, and its
-    /// descriptors come out by `next_dropped`.
+    /// out, and the status is `Failed`: the session ends. Unless it has one, its error is a protocol error of code 0 and no object,
+    /// with a text that names the event and the place; `OutOfMemory` if there is no memory for that. The event is closed, as by
+    /// `fail`, and its descriptors come out by `next_dropped`.
     ///
     /// After any but `TooSmall` and `Ok` what was lent is as it was.
     pub fn next_event(
@@ -139,8 +139,8 @@ impl Client {
     }
 
     /// Ends the event that was handed out, and gives the object that it made these data. Returns whether the object is there and
-    /// the client has not destroyed it. If it has, `object_data` answers the data until the number is free, and no note tells
-    /// of them.
+    /// the client has not destroyed it. If it has, `object_data` answers the data until the object leaves its number, and no note
+    /// tells of them.
     ///
     /// The statuses are those of `finish_event`, with `UnexpectedData` in place of `MissingData`: the event made no object.
     pub fn finish_event_with(&mut self, user_data: u64) -> Result<bool, Status>

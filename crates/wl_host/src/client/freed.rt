@@ -1,4 +1,4 @@
-//! The ids of the objects whose numbers became free, as the host is told of them.
+//! The ids of the objects that left their numbers, as the host is told of them.
 
 ghost use Rattle.std.specs.Prelude.{◌≡◌, ◌==◌, [], not};
 ghost use Rattle.wl_host.specs.Client.{ConservesClient, HandsFreedId, KeepsFreed};
@@ -9,7 +9,7 @@ use crate::flat::FlatObjectId;
 use crate::status::Status;
 
 impl Client {
-    /// Sets whether the session keeps the ids of the objects whose numbers become free as events are read, for `next_freed`. With 0
+    /// Sets whether the session keeps the ids of the objects that leave their numbers as events are read, for `next_freed`. With 0
     /// it does not, as in a new session, and those that wait are dropped.
     ///
     /// While they are kept, `next_event` asks for memory before it reads that the server deleted an id.
@@ -23,9 +23,10 @@ impl Client {
         Status::Ok
     }
 
-    /// The next id of an object whose number became free as events were read, in the order in which that came about. Each comes
-    /// once, and names nothing any more. The program had destroyed the object, and the server deleted its id, or made another object
-    /// at its number. (An object that `reclaim` takes out is not told.)
+    /// The next id of an object that left its number as events were read, in the order in which they left. Each comes once, and
+    /// names nothing any more. Its number may have a new object by now, so compare the serial. The client had destroyed the object,
+    /// or an event had; then the server deleted its id, or made an object of its own at its number. (An object that `reclaim` takes
+    /// out is not told of.)
     ///
     /// The status is `WouldBlock` if there is none. Then what was lent is as it was.
     pub fn next_freed(&mut self, id: &mut FlatObjectId) -> Status

@@ -20,8 +20,8 @@ pub struct DestroyedObject {
     pub user_data: u64,
 }
 
-/// Takes the notes from the core and puts them behind the others, with the data of each object. The core has the data as long as
-/// the object's number is not free, and a number becomes free only when events are read, or by `reclaim`.
+/// Takes the notes from the core and puts them behind the others, with the data of each object. The core has the data until the
+/// object leaves its number, which it does only when events are read, or by `reclaim`.
 pub fn take_notes(core: &mut Core, notes: &mut VecDeque<DestroyedObject>)
     requires { deque_len notes.old + length core.old.session.notes ≤ deque_capacity notes.old }
     ensures core { core.new ≡ without_notes core.old }

@@ -40,7 +40,7 @@ impl Client {
         }
     }
 
-    /// The data of the object that the id names, also if it was destroyed, until its number is free.
+    /// The data of the object that the id names, also if it was destroyed, until it leaves its number.
     ///
     /// The status is `InvalidId` if the id names no object, or one without data.
     pub fn object_data(&self, id: &FlatObjectId) -> Result<u64, Status>
@@ -52,7 +52,7 @@ impl Client {
         }
     }
 
-    /// The object that has this number, also one that was destroyed, until its number is free.
+    /// The object that has this number, also one that was destroyed, until it leaves its number.
     ///
     /// The status is `InvalidId` if no object has the number.
     pub fn object_for_protocol_id(&self, number: u32) -> Result<FlatObjectId, Status>

@@ -215,16 +215,15 @@ fn read_allowed(
     refuses_nulls: bool,
     alloc: Global,
 ) -> Result<u32, ActionError>
-    ensures read { ReadsAllowed refuses_nulls core.old id.now kept.old (result_and result (Ok action.new)) core.new }
+    ensures read { ReadsAllowed refuses_nulls core.old id.now kept.old (result_and result (Ok action.new)) kept.new core.new }
     ensures null { IfOk result (λ place. place ≡ null_in core.new (handed action.new)) }
-    ensures none { kept.new ≡ None }
 {
     if let Err(error) = read_action(core, id, kept, action) {
         return Err(error);
     }
     let place = forbidden_null_of(core, action);
     if is_refused(refuses_nulls, place) {
-        refuse(alloc, core, id, action, place);
+        refuse(alloc, core, id, kept, action, place);
         return Err(ActionError::Io(IoFault::Pipe));
     }
     Ok(place)
@@ -328,7 +327,8 @@ impl Server {
     /// out. Its client is told by `wl_display.error` of its display, with the code 1 (`invalid_method`) and a text that names the
     /// request and the place, and killed: the status is `Closed`, as after a request that the core refuses. If there is no memory
     /// for the text, the client is killed as if its connection had ended. The request is finished: if it ends its sender, `next_note`
-    /// tells of that, too. Its descriptors come out by `next_dropped`, once the client is taken out.
+    /// tells of that, too. Without memory for that note, it is refused again by the next call. Its descriptors come out by
+    /// `next_dropped`, once the client is taken out.
     ///
     /// After any but `Ok` and `TooSmall` `out` is all zeros. After any but `Ok` the rest of the lent memory is as it was.
     pub fn next_action(

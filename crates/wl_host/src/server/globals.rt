@@ -1,6 +1,6 @@
 //! The globals of a server's session.
 
-ghost use Rattle.std.specs.Prelude.{[], ◌≡◌, OnErr, OnOk, option_map};
+ghost use Rattle.std.specs.Prelude.{[], ◌≡◌, ◌==◌, OnErr, OnOk, not, option_map};
 ghost use Rattle.wl_host.specs.Descriptors.{Conserves};
 ghost use Rattle.wl_host.specs.Server.{kept_by_server};
 ghost use Rattle.wl_host.specs.Calls.{CreatesGlobal, TellsNextGlobal, flat_global_info, or_invalid, world};
@@ -93,6 +93,18 @@ impl Server {
     {
         self.core.remove_global(&global.id());
         self.tells_all();
+        Status::Ok
+    }
+
+    /// Keeps the names of globals, or no longer (`wl_server::Backend::keep_global_names`): as long as `keep` is not 0, a new global
+    /// gets only a name that was never in use.
+    pub fn keep_global_names(&mut self, keep: u32) -> Status
+        ensures call { Calls world self.old.core (step.KeepGlobalNames (not (keep == 0))) reply.KeepGlobalNames self.new.core }
+        ensures beside { self.new ≡ record self.old { core = self.new.core } }
+        ensures descriptors { Conserves kept_by_server self.old [] [] self.new }
+        ensures status { result ≡ status.Ok }
+    {
+        self.core.keep_global_names(keep != 0);
         Status::Ok
     }
 

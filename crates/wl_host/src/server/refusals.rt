@@ -2,13 +2,14 @@
 
 ghost use Rattle.std.specs.Prelude.{◌≡◌, ℕ, List, IfSome};
 ghost use Rattle.std.specs.String.{string_bytes};
-ghost use Rattle.wl_host.specs.Actions.{KillsFor, Refuses, null_in, refusal_text};
+ghost use Rattle.wl_host.specs.Actions.{KillsFor, Refuses, kept_unless_finished, null_in, refusal_text};
 ghost use Rattle.wl_server.specs.Deeds.{handed};
 
 use crate::nulls::{name_in, null_text};
-use crate::server::Core;
+use crate::server::{Core, no_action};
 use std::alloc::Global;
-use wl_server::{Action, ClientId, DisconnectReason, ObjectId};
+use std::mem;
+use wl_server::{Action, ClientId, DisconnectReason, FinishRefused, ObjectId};
 use wl_wire::{CString, DISPLAY, WL_DISPLAY_INTERFACE};
 
 /// The code `invalid_method` of `wl_display.error`.
@@ -55,15 +56,37 @@ fn kill_for(core: &mut Core, id: &ClientId, text: Option<CString>)
     }
 }
 
+/// The request, if the core did not finish it: there was no memory for the note of its sender, which it ends. It was not handed out,
+/// so the host cannot finish it: the next reading refuses it again.
+fn unless_finished(
+    alloc: Global,
+    answer: Result<(), FinishRefused<Option<u64>>>,
+    action: &mut Action,
+) -> Option<Action>
+    ensures { result ≡ kept_unless_finished answer action.old }
+{
+    match answer {
+        Ok(()) => None,
+        Err(_) => Some(mem::replace(action, no_action(alloc))),
+    }
+}
+
 /// Refuses the open request of the client, which has such a null at this place: the client is killed, and the request is finished.
 #[cold]
 #[inline(never)]
-pub fn refuse(alloc: Global, core: &mut Core, id: &ClientId, action: &Action, place: u32)
-    requires place { place ≡ null_in core.old (handed action.now) }
-    ensures { Refuses core.old id.now (handed action.now) core.new }
+pub fn refuse(
+    alloc: Global,
+    core: &mut Core,
+    id: &ClientId,
+    kept: &mut Option<Action>,
+    action: &mut Action,
+    place: u32,
+)
+    requires place { place ≡ null_in core.old (handed action.old) }
+    ensures { Refuses core.old id.now action.old kept.new core.new }
 {
     let text = refusal_text(alloc, core, action, place);
     kill_for(core, id, text);
-    // Without memory for the note of a sender that ends, the request stays open: a cleanup takes the client out all the same.
-    let _ = core.finish_request(id, None);
+    let answer = core.finish_request(id, None);
+    *kept = unless_finished(alloc, answer, action);
 }

@@ -5,6 +5,7 @@ ghost use Rattle.wl_host.specs.Descriptors.{Conserves};
 ghost use Rattle.wl_host.specs.Flat.{client_of};
 ghost use Rattle.wl_host.specs.Seats.{ledger_at};
 ghost use Rattle.wl_host.specs.Server.{Asks, AsksClient, AsksInTurn, FoundHasBytes, NextWritable, NoneAskedHasBytes, Sent, has_bytes, kept_by_server, sent_with, to_send};
+ghost use Rattle.wl_host.specs.Flushing.{FlushesClient, OkHasBytes, said_of};
 
 use crate::flat::{Counts, FlatClientId};
 use crate::outgoing::{copy_out, take_off};
@@ -38,6 +39,17 @@ fn ask(core: &mut Core, id: &ClientId) -> Result<Option<ClientId>, OutOfMemory>
     match answer {
         Err(IoFault::OutOfMemory) => Err(OutOfMemory),
         _ => Ok(None),
+    }
+}
+
+/// The status by what came of asking a client.
+fn said(asked: Result<Option<ClientId>, OutOfMemory>) -> Status
+    ensures { result ≡ said_of asked }
+{
+    match asked {
+        Ok(Some(_)) => Status::Ok,
+        Ok(None) => Status::WouldBlock,
+        Err(OutOfMemory) => Status::OutOfMemory,
     }
 }
 
@@ -89,6 +101,23 @@ impl Server {
             Ok(Some(id)) => Ok(FlatClientId::new(id)),
             Ok(None) => Err(Status::WouldBlock),
             Err(OutOfMemory) => Err(Status::OutOfMemory),
+        }
+    }
+
+    /// Puts what waits for the client in the core into its mailbox, and asks whether something is to be sent to it
+    /// (`wl_server::Backend::flush_client`). Other clients are as they were, and `next_writable` answers this one as before.
+    ///
+    /// The status is `Ok` if something is to be sent, and `WouldBlock` if nothing is; `OutOfMemory` if there was no memory to put
+    /// something into the mailbox, and nothing is there yet; `InvalidId` if the client is not stored.
+    pub fn flush_client(&mut self, client: &FlatClientId) -> Status
+        ensures call { FlushesClient self.old (client_of client.now) result self.new }
+        ensures waits { OkHasBytes self.new.core (client_of client.now) result }
+        ensures descriptors { Conserves kept_by_server self.old [] [] self.new }
+    {
+        let id = client.id();
+        match self.core.transport(&id) {
+            Ok(_) => said(ask(&mut self.core, &id)),
+            Err(error) => Status::from(error),
         }
     }
 

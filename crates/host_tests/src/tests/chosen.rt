@@ -1,0 +1,185 @@
+//! What a host chooses: numbers and versions of objects, and that names of globals are kept. With it what it looks at: objects with
+//! their data, and whether something is to be sent to one client.
+
+use crate::tests::acts::{Act, FIRST, MOVED, SECOND};
+use crate::tests::args::{arg, id};
+use crate::tests::server::BOUND;
+use crate::tests::session::{Run, run_tells};
+use crate::tests::told::{NULL, tell_numbers, tell_object, told};
+use std::test::Fail;
+use wl_host::{FlatClientId, FlatGlobalId, FlatHeldObject, FlatObjectId, Server, Status};
+
+/// One call of a server's session about these.
+pub enum Choice {
+    /// An object of the client of this interface and version, at this number, with data.
+    Create(FlatClientId, u32, u32, u32, u64),
+    /// The object gets this version.
+    Version(FlatObjectId, u32),
+    /// The names of globals are kept if this is not 0.
+    Names(u32),
+    /// The global is removed.
+    Remove(FlatGlobalId),
+    /// The object of the client with this number.
+    ByNumber(FlatClientId, u32),
+    /// The objects of the client, with room for so many, at most 4.
+    All(FlatClientId, usize),
+    /// What waits for the client.
+    Flush(FlatClientId),
+}
+
+/// An object, with its data if it has any.
+fn tell_held(log: &mut String, held: FlatHeldObject) -> Result<(), Fail> {
+    tell_object(log, held.object)?;
+    tell_numbers(log, &[("data", held.data)])
+}
+
+/// The objects of the client, with so much room.
+fn tell_all(
+    log: &mut String,
+    server: &Server,
+    client: &FlatClientId,
+    room: usize,
+) -> Result<Status, Fail> {
+    let mut objects = [FlatHeldObject {
+        object: NULL,
+        data: 0,
+    }; 4];
+    let Some(objects) = objects.get_mut(..room) else {
+        return Err(Fail::new("too much room"));
+    };
+    let mut count = 0u32;
+    let status = server.held_objects(client, objects, &mut count);
+    write!(log, " {count}")?;
+    for held in objects {
+        tell_held(log, *held)?;
+    }
+    Ok(status)
+}
+
+/// Does a call, and tells what came of it except the status, which it returns.
+pub fn choose(log: &mut String, server: &mut Server, choice: &Choice) -> Result<Status, Fail> {
+    match choice {
+        Choice::Create(id, interface, version, number, data) => {
+            let answer = server.create_object_at(id, *interface, *version, *number, 1, *data);
+            told(log, answer, tell_object)
+        }
+        Choice::Version(id, version) => Ok(server.set_object_version(id, *version)),
+        Choice::Names(keep) => Ok(server.keep_global_names(*keep)),
+        Choice::Remove(id) => Ok(server.remove_global(id)),
+        Choice::ByNumber(id, number) => told(log, server.object_by_number(id, *number), tell_held),
+        Choice::All(id, room) => tell_all(log, server, id, *room),
+        Choice::Flush(id) => Ok(server.flush_client(id)),
+    }
+}
+
+/// The object that the host makes at the number 4.
+const FOURTH: FlatObjectId = id!(FIRST, 4 @ 4, serial 3);
+
+/// The same with a serial that it does not have.
+const STALE: FlatObjectId = id!(FIRST, 4 @ 4, serial 2);
+
+/// The `pad` that the first client binds.
+const PAD: FlatObjectId = id!(FIRST, 4 @ 3, serial 2);
+
+/// The first global.
+const GLOBAL: FlatGlobalId = FlatGlobalId { serial: 1, name: 1 };
+
+/// `pad.make` by the object 4, with the new id 5.
+const MAKE: &[u32] = &[4, 0x000c0003, 5];
+
+/// The runs, each of a new session.
+static RUNS: [Run<Act>; 3] = [
+    // The client has the display, its registry and the `pad` at the numbers 1 to 3: 4 is next. The object that the host makes there
+    // gets a version that the interface has, and so does what its requests make.
+    Run {
+        name: "an object at a number",
+        first: BOUND,
+        entries: &[
+            (Act::Choose(Choice::Create(FIRST, 4, 1, 3, 44)), "NotFree"),
+            (Act::Choose(Choice::Create(FIRST, 4, 1, 5, 44)), "NotFree"),
+            (
+                Act::Choose(Choice::Create(FIRST, 4, 1, 0xff000000, 44)),
+                "NotFree",
+            ),
+            (
+                Act::Choose(Choice::Create(FIRST, 5, 1, 4, 44)),
+                "UnknownInterface",
+            ),
+            (
+                Act::Choose(Choice::Create(SECOND, 4, 1, 4, 44)),
+                "InvalidId",
+            ),
+            (Act::Choose(Choice::Create(FIRST, 4, 1, 4, 44)), "Ok 4@4"),
+            (Act::Choose(Choice::Create(FIRST, 4, 1, 4, 44)), "NotFree"),
+            (Act::Choose(Choice::ByNumber(FIRST, 4)), "Ok 4@4 data 44"),
+            (Act::Choose(Choice::ByNumber(FIRST, 2)), "Ok 2@2"),
+            (Act::Choose(Choice::ByNumber(FIRST, 5)), "InvalidId"),
+            (
+                Act::Choose(Choice::All(FIRST, 4)),
+                "Ok 4 1@1 2@2 4@3 data 33 4@4 data 44",
+            ),
+            (Act::Choose(Choice::All(FIRST, 1)), "TooSmall 4 1@1"),
+            (Act::Choose(Choice::All(SECOND, 0)), "InvalidId 0"),
+            (Act::Choose(Choice::Version(FOURTH, 0)), "VersionTooHigh"),
+            (Act::Choose(Choice::Version(FOURTH, 3)), "VersionTooHigh"),
+            (Act::Choose(Choice::Version(STALE, 2)), "InvalidId"),
+            (Act::Choose(Choice::Version(FOURTH, 2)), "Ok"),
+            (Act::Received(FIRST, MAKE, &[]), "Ok"),
+            (
+                Act::Next(FIRST, 1, 0),
+                "Ok kind 1 opcode 3 data 44 version 2 arguments 1 by 4@4 made 4@5 (5: 0 object 4@5)",
+            ),
+            (Act::FinishWith(FIRST, 55), "Ok kept true"),
+        ],
+    },
+    // As long as names are kept, a new global gets one that was never in use. Then it gets the least free one.
+    Run {
+        name: "names are kept",
+        first: &[],
+        entries: &[
+            (Act::Choose(Choice::Names(1)), "Ok"),
+            (Act::Global(70, 1, &[]), "Ok global 1:1"),
+            (Act::Choose(Choice::Remove(GLOBAL)), "Ok"),
+            (Act::NextGlobal, "Ok global 2:2"),
+            (Act::Global(70, 1, &[]), "Ok global 2:2"),
+            (Act::Choose(Choice::Names(0)), "Ok"),
+            (Act::NextGlobal, "Ok global 1:3"),
+            (Act::Global(70, 1, &[]), "Ok global 1:3"),
+        ],
+    },
+    // The registry's global waits for the first client, and nothing for the second.
+    Run {
+        name: "one client is flushed",
+        first: BOUND,
+        entries: &[
+            (Act::Insert(8, 1, &[]), "Ok client 1:2"),
+            (Act::Choose(Choice::Flush(SECOND)), "WouldBlock"),
+            (Act::Choose(Choice::Flush(FIRST)), "Ok"),
+            (
+                Act::ToSend(FIRST),
+                "Ok [ 02 00 00 00 00 00 18 00 01 00 00 00 04 00 00 00 70 61 64 00 02 00 00 00 ] [ ]",
+            ),
+            (Act::Sent(FIRST, 24), "Ok"),
+            (Act::Choose(Choice::Flush(FIRST)), "WouldBlock"),
+            (Act::Send(PAD, MOVED, &[arg!(int: -1)], &[]), "Ok"),
+            (Act::Choose(Choice::Flush(FIRST)), "Ok"),
+            (
+                Act::ToSend(FIRST),
+                "Ok [ 03 00 00 00 00 00 0c 00 ff ff ff ff ] [ ]",
+            ),
+            (
+                Act::Choose(Choice::Flush(FlatClientId { serial: 9, slot: 0 })),
+                "InvalidId",
+            ),
+        ],
+    },
+];
+
+/// Each of them tells what it has to.
+#[test]
+fn chosen(rt: HostRuntime) -> Result<(), Fail> {
+    for run in &RUNS {
+        run_tells::<Server>(&rt, run, None, false)?;
+    }
+    Ok(())
+}
