@@ -172,7 +172,8 @@ enum {
     NB_WRONG_CHILD = 31,         /* a request makes an object of another interface than the table says */
     NB_WRONG_CHILD_VERSION = 32, /* a request makes an object of another version than that of its sender */
     NB_MISSING_CHILD = 33,       /* nobody says of which interface the new object is */
-    NB_NOT_PLACEHOLDER = 34      /* a request's new id is not null: the session chooses it */
+    NB_NOT_PLACEHOLDER = 34,     /* a request's new id is not null: the session chooses it */
+    NB_NOT_FREE = 35             /* the number that the host chose for an object is not free */
 };
 
 /* The text of a status, in English, for logs. It is static memory; never NULL. */
@@ -212,7 +213,8 @@ static inline const char *nb_status_text(nb_status status)
                                          "the new object has another interface in the table",
                                          "the new object's version is not its sender's",
                                          "the interface of the new object is not named",
-                                         "the new id is not null" };
+                                         "the new id is not null",
+                                         "the number is not free" };
     return status < sizeof texts / sizeof texts[0] ? texts[status] : "unknown status";
 }
 
@@ -244,7 +246,8 @@ typedef struct {
     uint32_t interface, number;
 } nb_object_id;
 
-/* A global of a server: 16 bytes. `name` is what clients bind. A name is used again, a serial never. */
+/* A global of a server: 16 bytes. `name` is what clients bind. A name is used again (nb_server_keep_global_names), a
+ * serial never. */
 typedef struct {
     uint64_t serial;
     uint32_t name;
@@ -409,6 +412,12 @@ typedef struct {
     uint32_t number, interface, version;
 } nb_object_info;
 
+/* An object of a server's session with the host's data of it; 0 if it has none. */
+typedef struct {
+    nb_object_id object;
+    uint64_t data;
+} nb_held_object;
+
 /* What a global offers: its interface, the greatest version that clients may bind, and whether it is disabled (0 or 1).
  */
 typedef struct {
@@ -515,7 +524,9 @@ nb_status nb_server_merge_interfaces(nb_server *place, const uint8_t *text, size
 
 /* Writes 1 if malloc refused in the last call of the core, which is any call but received, sent, set_room and those
  * that only look; also where the call did its work all the same (a client that could not be told something is killed
- * then). Else 0. A call that answers NB_OUT_OF_MEMORY for its own copies leaves it. */
+ * then). Else 0. A call that answers NB_OUT_OF_MEMORY for its own copies leaves it. After nb_server_next_action refused
+ * a request for a null (nb_server_refuse_nulls), this says only whether malloc refused as the request was finished, and
+ * not whether it did as the client was told. */
 nb_status nb_server_memory_refused(nb_server *place, uint32_t *is_refused);
 
 /* Sets whether requests with a null that the table forbids are refused: they are if `is_on` is not 0. At first they are
@@ -677,6 +688,20 @@ nb_status nb_server_post_error(nb_server *place, const nb_object_id *object, uin
 nb_status nb_server_create_object(nb_server *place, const nb_client_id *client, uint32_t interface, uint32_t version,
                                   uint32_t has_data, uint64_t data, nb_object_id *object);
 
+/* Makes an object for a client at a number of the client's own, 1 to 0xFEFFFFFF, which has to be free: it is the next one,
+ * or was in use before. The client may give the number to an object of its own at the same time, and is killed then: so
+ * know that it does not. The version is not checked.
+ *
+ * Statuses: NB_MISSING_DATA (`has_data` is 0: such an object always has data); NB_INVALID_ID; NB_UNKNOWN_INTERFACE;
+ * NB_SERIALS_EXHAUSTED; NB_NOT_FREE; NB_OUT_OF_MEMORY. */
+nb_status nb_server_create_object_at(nb_server *place, const nb_client_id *client, uint32_t interface, uint32_t version,
+                                     uint32_t number, uint32_t has_data, uint64_t data, nb_object_id *object);
+
+/* Sets an object's version. From then on the requests of that version are served, and an object that a request of this
+ * one makes gets it, too. Statuses: NB_INVALID_ID; NB_VERSION_TOO_HIGH (it is above that of the object's interface in the
+ * table, or 0). */
+nb_status nb_server_set_object_version(nb_server *place, const nb_object_id *object, uint32_t version);
+
 /* Destroys an object. If its number is one of the client's own, the client is told that it is free. If it had data, the
  * next nb_server_cleanup makes a note. Statuses: NB_INVALID_ID (also of the display); NB_OUT_OF_MEMORY (it stays). */
 nb_status nb_server_destroy_object(nb_server *place, const nb_object_id *object);
@@ -699,6 +724,15 @@ nb_status nb_server_object_for_protocol_id(nb_server *place, const nb_client_id 
  * (`count` is written all the same). */
 nb_status nb_server_objects(nb_server *place, const nb_client_id *client, nb_object_id *objects, size_t room,
                             uint32_t *count);
+
+/* The client's object with this number, whatever its interface, and its data. Statuses: NB_INVALID_ID (the client is not
+ * there, or has no object with the number). */
+nb_status nb_server_object_by_number(nb_server *place, const nb_client_id *client, uint32_t number,
+                                     nb_held_object *object);
+
+/* The objects of a client with their data, by ascending number, as nb_server_objects lists them. */
+nb_status nb_server_held_objects(nb_server *place, const nb_client_id *client, nb_held_object *objects, size_t room,
+                                 uint32_t *count);
 
 /* ======== A server's session: globals */
 
@@ -727,10 +761,14 @@ nb_status nb_server_create_global(nb_server *place, uint32_t interface, uint32_t
  * done. */
 nb_status nb_server_disable_global(nb_server *place, const nb_global_id *global);
 
-/* Removes a global: its name is free for another. If it was not disabled, registries are told first. Disable it, and
- * remove it some seconds later, so that no client breaks the protocol by a bind that was on its way. An unknown global
- * is no error: nothing is done. */
+/* Removes a global: its name is free for another, unless names are kept. If it was not disabled, registries are told
+ * first. Disable it, and remove it some seconds later, so that no client breaks the protocol by a bind that was on its
+ * way. An unknown global is no error: nothing is done. */
 nb_status nb_server_remove_global(nb_server *place, const nb_global_id *global);
+
+/* Keeps the names of globals as long as `keep` is not 0: a new global gets only a name that was never in use, and a bind of
+ * a removed one never finds another. At first they are not kept, and a new global has the least name that is free. */
+nb_status nb_server_keep_global_names(nb_server *place, uint32_t keep);
 
 /* What a global offers, also of one that is disabled. Statuses: NB_INVALID_ID. */
 nb_status nb_server_global_info(nb_server *place, const nb_global_id *global, nb_global_info *info);
@@ -754,6 +792,11 @@ nb_status nb_server_global_name(nb_server *place, const nb_global_id *global, co
  * NB_OUT_OF_MEMORY (there was no memory to get ready what waits for one of them. It is looked at again, after the
  * others: call again for these now or in the next round). */
 nb_status nb_server_next_writable(nb_server *place, nb_client_id *client);
+
+/* Gets ready what waits for one client, and leaves the others: NB_OK if something is to be sent to it by
+ * nb_server_to_send, NB_WOULD_BLOCK if nothing is. nb_server_next_writable answers the client all the same. Statuses:
+ * NB_INVALID_ID; NB_OUT_OF_MEMORY (there was no memory to get anything ready: call again). */
+nb_status nb_server_flush_client(nb_server *place, const nb_client_id *client);
 
 /* Copies what is to be sent to a client next. `counts` says how much was copied. Nothing is taken away until
  * nb_server_sent. Send the descriptors with the first byte, by one sendmsg.
@@ -839,10 +882,11 @@ nb_status nb_client_set_room(nb_client *place, uint64_t room);
 
 /* Sets whether messages of unknown senders are passed over, as libwayland does: they are if `passes` is not 0. At first
  * they are not, and such a message ends the session. A sender is unknown if its number has no object: none was made
- * there, or one that you destroyed and whose number the server has freed since. Nothing is known of such a message but
- * its length: it takes no descriptor, and one that came with it goes out with the next event that has one. An event of
- * an object that you destroyed is dropped with its descriptors, with this setting or without it, if its interface has
- * it; if not, it is passed over, too. Set it before anything is received. */
+ * there, or one that you destroyed and whose id the server has deleted since. Nothing is known of such a message but its
+ * length; if that is below 8, it ends the session all the same. It takes no descriptor, and one that came with it goes
+ * out with the next event that has one. An event of an object that you destroyed is dropped with its descriptors, with
+ * this setting or without it, if its interface has it; if not, it is passed over, too. Set it before anything is
+ * received. */
 nb_status nb_client_pass_over_unknown_senders(nb_client *place, uint32_t passes);
 
 /* The display, which is object 1. */
@@ -917,15 +961,15 @@ nb_status nb_client_send_request(nb_client *place, const nb_request *request, co
 
 /* ======== A client's session: objects */
 
-/* The object with this number, also one that you destroyed, as long as its number is not free. Statuses: NB_INVALID_ID (no
- * object has the number). */
+/* The object with this number, also one that you destroyed, until it leaves its number (nb_client_next_freed).
+ * Statuses: NB_INVALID_ID (no object has the number). */
 nb_status nb_client_object_for_protocol_id(nb_client *place, uint32_t number, nb_object_id *object);
 
 /* An object's number, interface and version. Statuses: NB_INVALID_ID (also of one that the client has destroyed). */
 nb_status nb_client_object_info(nb_client *place, const nb_object_id *object, nb_object_info *info);
 
-/* An object's data, also of one that was destroyed, as long as its number is not free. Statuses: NB_INVALID_ID (also of
- * an object without data). */
+/* An object's data, also of one that was destroyed, until it leaves its number (nb_client_next_freed). Statuses:
+ * NB_INVALID_ID (also of an object without data). */
 nb_status nb_client_object_data(nb_client *place, const nb_object_id *object, uint64_t *data);
 
 /* Sets an object's data. What it had before is forgotten: no note names it; nor do notes name data that an object gets
@@ -969,16 +1013,17 @@ nb_status nb_client_last_error(nb_client *place, nb_error *error, uint8_t *text,
  * data: those that it had when it was destroyed. Each object comes once. Statuses: NB_WOULD_BLOCK (there is none). */
 nb_status nb_client_next_note(nb_client *place, nb_object_id *destroyed, uint64_t *data);
 
-/* Sets whether the session keeps the ids of the objects whose numbers become free as events are read, for
+/* Sets whether the session keeps the ids of the objects that leave their numbers as events are read, for
  * nb_client_next_freed. With 0 it does not, as in a new session, and those that wait are dropped. While they are kept,
  * nb_client_next_event asks for memory before it reads wl_display.delete_id; without memory it answers NB_OUT_OF_MEMORY,
  * and the message stays unread. */
 nb_status nb_client_keep_freed(nb_client *place, uint32_t keeps);
 
-/* The next id of an object whose number became free as events were read, in the order in which that came about. Each comes
- * once, and names nothing any more: so drop what you have by it. The program had destroyed the object (nb_client_next_note),
- * and then the server deleted its id, or made an object of its own at its number. An object that nb_client_reclaim takes out
- * is not told here. Statuses: NB_WOULD_BLOCK (there is none; `object` is as it was). */
+/* The next id of an object that left its number as events were read, in the order in which they left. Each comes once,
+ * and names nothing any more: so drop what you have by it. Its number may have a new object by now, so compare the
+ * serial, as nb_same_object does. The client had destroyed the object, or an event had (nb_client_next_note); then the
+ * server deleted its id, or made an object of its own at its number. Of an object that nb_client_reclaim takes out
+ * nothing is told here. Statuses: NB_WOULD_BLOCK (there is none; `object` is as it was). */
 nb_status nb_client_next_freed(nb_client *place, nb_object_id *object);
 
 /* The next descriptor that the session had and no call will hand out: that of an event for an object that was

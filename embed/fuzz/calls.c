@@ -451,6 +451,7 @@ static void call_of_server(void)
         if (see(nb_server_object_data(&server, &object, &number)) == NB_OK)
             saw(number);
         see(nb_server_set_object_data(&server, &object, take()));
+        see(nb_server_set_object_version(&server, &object, take() % 5));
         see(nb_server_object_for_protocol_id(&server, &object.client, object.interface, object.number, &made));
         saw_object(&made);
         break;
@@ -473,8 +474,18 @@ static void call_of_server(void)
         break;
     case 22: {
         nb_object_id list[8];
+        nb_held_object held[8];
         nb_client_id all[4];
         id = any_client();
+        see(nb_server_flush_client(&server, &id));
+        see(nb_server_keep_global_names(&server, take() % 2));
+        if (see(nb_server_create_object_at(&server, &id, NB_INTERFACE_FIRST, take() % 4, take() % 9, take() % 2, take(), &made)) == NB_OK)
+            keep(objects, made);
+        if (see(nb_server_object_by_number(&server, &id, take() % 9, held)) == NB_OK)
+            saw_object(&held[0].object);
+        if (see(nb_server_held_objects(&server, &id, held, take() % 9, &kept)) == NB_OK)
+            for (uint32_t i = 0; i < kept; i++)
+                saw(held[i].data);
         if (see(nb_server_objects(&server, &id, list, take() % 9, &kept)) == NB_OK)
             for (uint32_t i = 0; i < kept; i++)
                 saw_object(&list[i]);

@@ -335,7 +335,7 @@ static void unknown_senders(void)
     OK(nb_client_end(&session));
 }
 
-/* Whether this object, and no other, is the next whose number became free. */
+/* Whether this object, and no other, is the next that left its number. */
 static int is_freed(const nb_object_id *expected)
 {
     nb_object_id freed;
@@ -353,7 +353,7 @@ static int is_made(nb_object_id *made)
     return made->number == 0xff000000 && nb_client_finish_event_with(&session, 76, &is_kept) == NB_OK && is_kept == 1;
 }
 
-/* The ids of objects whose numbers become free are kept, if that is wanted. */
+/* The ids of objects that leave their numbers are kept, if that is wanted. */
 static void freed(void)
 {
     nb_object_id made, other, third, noted, id = { .number = 7 };

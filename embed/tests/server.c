@@ -113,6 +113,74 @@ static void events(void)
     OK(nb_server_end(&server));
 }
 
+/* Numbers and versions that the host chooses, and objects with their data. */
+static void chosen(void)
+{
+    nb_object_id object = begin(), made = nb_null();
+    nb_object_info info;
+    nb_held_object held, all[5];
+    uint32_t count = 0;
+    /* The display, the registry and the bound object have the numbers 1 to 3, so 4 is next. */
+    IS(nb_server_create_object_at(&server, &client, NB_QUAD, 2, 4, 0, 50, &made), NB_MISSING_DATA);
+    IS(nb_server_create_object_at(&server, &client, NB_QUAD, 2, 5, 1, 50, &made), NB_NOT_FREE);
+    IS(nb_server_create_object_at(&server, &client, NB_QUAD, 2, 3, 1, 50, &made), NB_NOT_FREE);
+    IS(nb_server_create_object_at(&server, &client, NB_QUAD, 2, 0, 1, 50, &made), NB_NOT_FREE);
+    IS(nb_server_create_object_at(&server, &client, NB_QUAD, 2, 0xff000000, 1, 50, &made), NB_NOT_FREE);
+    IS(nb_server_create_object_at(&server, &client, 99, 2, 4, 1, 50, &made), NB_UNKNOWN_INTERFACE);
+    HOLDS(nb_is_null(&made));
+    OK(nb_server_create_object_at(&server, &client, NB_QUAD, 2, 4, 1, 50, &made));
+    HOLDS(made.number == 4 && made.interface == NB_QUAD && nb_same_client(&made.client, &client));
+    OK(nb_server_object_by_number(&server, &client, 4, &held));
+    HOLDS(nb_same_object(&held.object, &made) && held.data == 50);
+    OK(nb_server_object_by_number(&server, &client, 1, &held));
+    HOLDS(held.object.interface == NB_INTERFACE_DISPLAY && held.data == 0);
+    IS(nb_server_object_by_number(&server, &client, 5, &held), NB_INVALID_ID);
+    OK(nb_server_held_objects(&server, &client, all, 5, &count));
+    HOLDS(count == 4 && nb_same_object(&all[2].object, &object) && all[2].data == 77 && all[3].data == 50);
+    IS(nb_server_held_objects(&server, &client, all, 1, &count), NB_TOO_SMALL);
+    HOLDS(count == 4 && all[0].object.number == 1);
+    /* `quad` has the version 3 in the table. */
+    IS(nb_server_set_object_version(&server, &made, 4), NB_VERSION_TOO_HIGH);
+    IS(nb_server_set_object_version(&server, &made, 0), NB_VERSION_TOO_HIGH);
+    OK(nb_server_set_object_version(&server, &made, 3));
+    OK(nb_server_object_info(&server, &made, &info));
+    HOLDS(info.number == 4 && info.version == 3);
+    OK(nb_server_destroy_object(&server, &made));
+    IS(nb_server_set_object_version(&server, &made, 3), NB_INVALID_ID);
+    put(1, 1, "u", 4);
+    HOLDS(sends(&client));
+    OK(nb_server_end(&server));
+}
+
+/* One client is flushed, and the others are left. Names of globals are kept. */
+static void one_flushed(void)
+{
+    nb_object_id object = begin();
+    nb_client_id other;
+    nb_global_id global;
+    nb_argument argument = nb_int(5);
+    OK(nb_serve_client(&server, 0, &other));
+    IS(nb_server_flush_client(&server, &client), NB_WOULD_BLOCK);
+    OK(nb_server_send_event(&server, &object, NB_QUAD_EVENT_MOVED, &argument, 1, NULL, 0));
+    IS(nb_server_flush_client(&server, &other), NB_WOULD_BLOCK);
+    OK(nb_server_flush_client(&server, &client));
+    put(3, NB_QUAD_EVENT_MOVED, "u", 5);
+    HOLDS(sends(&client));
+    IS(nb_server_flush_client(&server, &client), NB_WOULD_BLOCK);
+    other.serial = 99;
+    IS(nb_server_flush_client(&server, &other), NB_INVALID_ID);
+    OK(nb_server_keep_global_names(&server, 1));
+    OK(nb_offer(&server, NB_QUAD, 3, &global));
+    HOLDS(global.name == 2);
+    OK(nb_server_remove_global(&server, &global));
+    OK(nb_offer(&server, NB_QUAD, 3, &global));
+    HOLDS(global.name == 3);
+    OK(nb_server_keep_global_names(&server, 0));
+    OK(nb_offer(&server, NB_QUAD, 3, &global));
+    HOLDS(global.name == 2);
+    OK(nb_server_end(&server));
+}
+
 /* An event with a string and an array, and null in their place, from a table of its own. */
 static void texts(void)
 {
@@ -430,6 +498,8 @@ int main(void)
 {
     answers();
     events();
+    chosen();
+    one_flushed();
     texts();
     globals();
     hidden();

@@ -137,6 +137,7 @@ void dispatch(struct wl_client *client, const nb_action *action, const nb_argume
         unpack(&request.values[i], &arguments[i], text, &request.arrays[i]);
     }
     client->created = action->created;
+    client->created_version = action->version;
     if (!finish(client, action)) {
         close_descriptors(arguments, count);
         wl_client_post_no_memory(client);

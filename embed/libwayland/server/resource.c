@@ -72,10 +72,34 @@ static uint32_t spare_number(const struct wl_client *client)
 
 /* ======== Objects of the session */
 
-static bool has_resource(struct wl_client *client, const nb_object_id *object)
+/* The object of this number and interface that a request has made, if it has no resource. Without one there may be one
+ * that an earlier handler left. */
+static bool take_created(struct wl_client *client, uint32_t number, uint32_t id, nb_object_id *object, uint32_t *version)
 {
-    uint64_t data;
-    return nb_server_object_data(&client->display->core, object, &data) == NB_OK && data != 0;
+    nb_server *core = &client->display->core;
+    nb_held_object held;
+    nb_object_info info;
+    if (client->created.number == id && client->created.interface == number) {
+        *object = client->created;
+        *version = client->created_version;
+        client->created = nb_null();
+        return true;
+    }
+    if (nb_server_object_by_number(core, &client->id, id, &held) != NB_OK || held.data != 0 ||
+        held.object.interface != number || nb_server_object_info(core, &held.object, &info) != NB_OK)
+        return false;
+    *object = held.object;
+    *version = info.version;
+    return true;
+}
+
+/* A program may choose a higher version than the object has. It has the requests of its own struct: the row may have more. */
+static void raise_version(struct wl_client *client, const struct wl_interface *interface, int version, uint32_t has,
+                          const nb_object_id *object)
+{
+    const uint32_t wants = (uint32_t)(version < interface->version ? version : interface->version);
+    if (version > 0 && wants > has)
+        nb_server_set_object_version(&client->display->core, object, wants);
 }
 
 bool object_find(struct wl_client *client, const struct wl_interface *interface, int version, uint32_t id,
@@ -85,14 +109,12 @@ bool object_find(struct wl_client *client, const struct wl_interface *interface,
     uint32_t number = table_number(&client->display->table, interface);
     if (!number)
         return false;
+    uint32_t has;
     if (id == 0)
         return nb_server_create_object(core, &client->id, number, (uint32_t)version, 1, data, object) == NB_OK;
-    if (client->created.number == id && client->created.interface == number) {
-        *object = client->created;
-        client->created = nb_null();
-    } else if (nb_server_object_for_protocol_id(core, &client->id, number, id, object) != NB_OK ||
-               has_resource(client, object))
-        return false;
+    if (!take_created(client, number, id, object, &has))
+        return nb_server_create_object_at(core, &client->id, number, (uint32_t)version, id, 1, data, object) == NB_OK;
+    raise_version(client, interface, version, has, object);
     return nb_server_set_object_data(core, object, data) == NB_OK;
 }
 
@@ -261,17 +283,15 @@ static void adopt_all(struct wl_client *client)
 {
     nb_server *core = &client->display->core;
     uint32_t count = 0;
-    uint64_t data;
     if (!client->is_inside)
         return;
-    nb_server_objects(core, &client->id, NULL, 0, &count);
-    nb_object_id *objects = calloc(count + (size_t)1, sizeof *objects);
-    if (objects && nb_server_objects(core, &client->id, objects, count, &count) == NB_OK)
+    nb_server_held_objects(core, &client->id, NULL, 0, &count);
+    nb_held_object *held = calloc(count + (size_t)1, sizeof *held);
+    if (held && nb_server_held_objects(core, &client->id, held, count, &count) == NB_OK)
         for (uint32_t i = 0; i < count; i++)
-            if (objects[i].interface == NB_INTERFACE_REGISTRY &&
-                (nb_server_object_data(core, &objects[i], &data) != NB_OK || data == 0))
-                adopt(client, &objects[i]);
-    free(objects);
+            if (held[i].object.interface == NB_INTERFACE_REGISTRY && held[i].data == 0)
+                adopt(client, &held[i].object);
+    free(held);
 }
 
 EXPORT struct wl_resource *wl_client_get_object(struct wl_client *client, uint32_t id)

@@ -36,32 +36,35 @@ static void cut(struct wl_client *client)
     client->display->has_cut = true;
 }
 
-/* Sends what is ready, until nothing is or the socket takes no more. */
-void client_send(struct wl_client *client)
+/* Sends what is ready, until nothing is or the socket takes no more. Whether all that was ready is sent. */
+bool client_send(struct wl_client *client)
 {
     nb_server *core = &client->display->core;
     uint8_t *bytes = client->display->buffer;
     int32_t descriptors[NB_MOST_DESCRIPTORS];
     nb_counts counts;
     while (client->is_inside && !client->is_cut) {
-        if (nb_server_to_send(core, &client->id, bytes, NB_MOST_WAITING, descriptors, NB_MOST_DESCRIPTORS, &counts) !=
-                NB_OK ||
-            counts.bytes == 0)
-            break;
+        nb_status status = nb_server_to_send(core, &client->id, bytes, NB_MOST_WAITING, descriptors,
+                                             NB_MOST_DESCRIPTORS, &counts);
+        if (status != NB_OK || counts.bytes == 0) {
+            watch_for(client, false);
+            return status == NB_OK;
+        }
         ssize_t taken = socket_send(client->socket, bytes, counts.bytes, descriptors, counts.descriptors);
         if (taken == -EAGAIN) {
             watch_for(client, true);
-            return;
+            return false;
         }
         if (taken < 0) {
             cut(client);
-            return;
+            return false;
         }
         nb_server_sent(core, &client->id, (uint32_t)taken);
         close_all(descriptors, counts.descriptors);
         client->unsent -= counts.descriptors;
     }
     watch_for(client, false);
+    return false;
 }
 
 /* Lists the clients to which something is to be sent. */
@@ -78,15 +81,13 @@ static void list_writable(struct wl_display *display)
     }
 }
 
-/* The session tells once of each client that it may be sent to, and again when what was ready was sent. */
+/* Once all that was ready is sent, the session may have more. The other clients are left. */
 void client_flush(struct wl_client *client)
 {
-    list_writable(client->display);
-    while (!wl_list_empty(&client->writable)) {
-        unlist(client);
-        client_send(client);
-        list_writable(client->display);
-    }
+    nb_server *core = &client->display->core;
+    while (client->is_inside && !client->is_cut && nb_server_flush_client(core, &client->id) == NB_OK &&
+           client_send(client))
+        continue;
 }
 
 static void destroy_cut(struct wl_display *display)

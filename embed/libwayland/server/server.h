@@ -80,6 +80,7 @@ struct wl_client {
     struct numbered own, served;          /* of the client's range, and of the server's */
     struct wl_list displaced, lent;       /* resources; the program's own structs */
     nb_object_id created; /* the object that the last request has made, as long as it has no resource; else null */
+    uint32_t created_version;
 
     unsigned depth;    /* how many calls look at it */
     bool has_error;    /* it is told nothing more, and is destroyed when its socket can be read */
@@ -143,7 +144,7 @@ void client_release(struct wl_client *client);
 bool client_enter(struct wl_client *client);
 
 /* rounds.c */
-void client_send(struct wl_client *client);
+bool client_send(struct wl_client *client);
 void client_flush(struct wl_client *client);
 void client_read(struct wl_client *client);
 void display_settle(struct wl_display *display);
@@ -155,8 +156,9 @@ struct wl_resource *resource_without_data(struct wl_client *client, const nb_obj
 void resources_end(struct wl_client *client);
 bool number_put(struct wl_client *client, uint32_t id, struct wl_resource *resource);
 void number_take_out(struct wl_client *client, uint32_t id, const struct wl_resource *resource);
-/* The session's object that a resource with this number is to stand for: one that a request has made, or with 0 a new
- * one. False if there is none, or it has a resource. */
+/* The session's object that a resource with this number is to stand for: one that a request has made, or a new one at a
+ * number that is free, or with 0 at one of the server's. It serves the requests of the version. False if there is none, or
+ * it has a resource. */
 bool object_find(struct wl_client *client, const struct wl_interface *interface, int version, uint32_t id,
                  uint64_t data, nb_object_id *object);
 void object_forget(struct wl_client *client, const nb_object_id *object);

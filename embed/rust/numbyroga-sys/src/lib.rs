@@ -166,6 +166,8 @@ pub const NB_WRONG_CHILD_VERSION: nb_status = 32;
 pub const NB_MISSING_CHILD: nb_status = 33;
 /// A request's new id is not null: the session chooses it.
 pub const NB_NOT_PLACEHOLDER: nb_status = 34;
+/// The number that the host chose for an object is not free.
+pub const NB_NOT_FREE: nb_status = 35;
 
 /// As many descriptors wait on each side of a connection, and are in one receive or send.
 pub const NB_MOST_DESCRIPTORS: usize = 28;
@@ -438,6 +440,16 @@ plain! {
         interface: u32 = 4,
         /// Its version.
         version: u32 = 8,
+    }
+}
+
+plain! {
+    /// An object of a server's session with the host's data of it.
+    nb_held_object: 40, 8 {
+        /// The object.
+        object: nb_object_id = 0,
+        /// The data; 0 if it has none.
+        data: u64 = 32,
     }
 }
 
@@ -745,6 +757,38 @@ unsafe extern "C" {
         room: usize,
         count: &mut u32,
     ) -> nb_status;
+    /// Makes an object at a number of the client's own.
+    pub safe fn nb_server_create_object_at(
+        place: &mut nb_server,
+        client: &nb_client_id,
+        interface: u32,
+        version: u32,
+        number: u32,
+        has_data: u32,
+        data: u64,
+        object: &mut nb_object_id,
+    ) -> nb_status;
+    /// Sets an object's version.
+    pub safe fn nb_server_set_object_version(
+        place: &mut nb_server,
+        object: &nb_object_id,
+        version: u32,
+    ) -> nb_status;
+    /// The client's object with this number, and its data.
+    pub safe fn nb_server_object_by_number(
+        place: &mut nb_server,
+        client: &nb_client_id,
+        number: u32,
+        object: &mut nb_held_object,
+    ) -> nb_status;
+    /// The objects of a client with their data.
+    pub fn nb_server_held_objects(
+        place: &mut nb_server,
+        client: &nb_client_id,
+        objects: *mut nb_held_object,
+        room: usize,
+        count: &mut u32,
+    ) -> nb_status;
     /// The id that the next client will have.
     pub safe fn nb_server_next_client_id(
         place: &mut nb_server,
@@ -771,6 +815,8 @@ unsafe extern "C" {
         -> nb_status;
     /// Removes a global.
     pub safe fn nb_server_remove_global(place: &mut nb_server, global: &nb_global_id) -> nb_status;
+    /// Keeps the names of globals, or no longer.
+    pub safe fn nb_server_keep_global_names(place: &mut nb_server, keep: u32) -> nb_status;
     /// What a global offers.
     pub safe fn nb_server_global_info(
         place: &mut nb_server,
@@ -795,6 +841,8 @@ unsafe extern "C" {
         place: &mut nb_server,
         client: &mut nb_client_id,
     ) -> nb_status;
+    /// Gets ready what waits for one client.
+    pub safe fn nb_server_flush_client(place: &mut nb_server, client: &nb_client_id) -> nb_status;
     /// Copies what is to be sent to a client next.
     pub fn nb_server_to_send(
         place: &mut nb_server,
@@ -990,9 +1038,9 @@ unsafe extern "C" {
         destroyed: &mut nb_object_id,
         data: &mut u64,
     ) -> nb_status;
-    /// Sets whether the ids of objects whose numbers become free are kept.
+    /// Sets whether the ids of objects that leave their numbers are kept.
     pub safe fn nb_client_keep_freed(place: &mut nb_client, keeps: u32) -> nb_status;
-    /// The next id of an object whose number became free.
+    /// The next id of an object that left its number.
     pub safe fn nb_client_next_freed(place: &mut nb_client, object: &mut nb_object_id)
         -> nb_status;
     /// The next descriptor that no call will hand out.

@@ -285,8 +285,8 @@ impl Backend {
         self.connection.send_request(&msg, data, child_spec)
     }
 
-    /// An object's data. They are there until the server says that the object's number is free, also if the program has
-    /// destroyed the object.
+    /// An object's data. They are there until the object leaves its number, also if the program has destroyed it: until the
+    /// server deletes its id after that, or makes an object of its own at its number.
     ///
     /// The error says that the object is gone.
     pub fn get_data(&self, id: ObjectId) -> Result<Arc<dyn ObjectData>, InvalidId> {

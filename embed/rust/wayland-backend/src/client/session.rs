@@ -39,7 +39,7 @@ pub(super) struct Session {
     data: Slab<Kept>,
     /// The event that was handed out last.
     event: Event,
-    /// Objects that were destroyed, whose data are kept until the number is free.
+    /// Objects that were destroyed, whose data are kept until they leave their numbers.
     leaving: ByNumber,
     outgoing: Outgoing,
     /// What ended the connection on this side: the socket failed while it was written, or a descriptor of a request could
@@ -619,7 +619,7 @@ impl Session {
         }
     }
 
-    /// An object was destroyed. Its data are told so, if they are to be, and kept until its number is free.
+    /// An object was destroyed. Its data are told so, if they are to be, and kept until it leaves its number.
     fn end(&mut self, raw: &RawObjectId, key: u64, tells: bool, leftovers: &mut Leftovers) {
         let Some(kept) = self.data.get(key) else {
             return;
@@ -634,7 +634,7 @@ impl Session {
         }
     }
 
-    /// Takes out the data of objects whose numbers are free.
+    /// Takes out the data of objects that left their numbers.
     #[inline]
     pub(super) fn take_unused(&mut self, leftovers: &mut Leftovers) {
         while let Some(freed) = self.library.next_freed() {

@@ -305,7 +305,7 @@ impl Client {
         Some(info)
     }
 
-    /// The next object whose number became free as events were taken.
+    /// The next object that left its number as events were taken.
     #[inline]
     pub(crate) fn next_freed(&mut self) -> Option<RawObjectId> {
         let mut object = RawObjectId::default();
@@ -313,7 +313,7 @@ impl Client {
         Some(object)
     }
 
-    /// An object's data, also of one that was destroyed, as long as its number is not free.
+    /// An object's data, also of one that was destroyed, until it leaves its number.
     #[inline]
     pub(crate) fn object_data(&mut self, object: &RawObjectId) -> Option<u64> {
         let mut data = 0;

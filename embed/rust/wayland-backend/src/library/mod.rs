@@ -92,6 +92,7 @@ statuses! {
     WRONG_CHILD_VERSION = NB_WRONG_CHILD_VERSION, "the new object's version is not its sender's";
     MISSING_CHILD = NB_MISSING_CHILD, "the interface of the new object is not named";
     NOT_PLACEHOLDER = NB_NOT_PLACEHOLDER, "the new id is not null";
+    NOT_FREE = NB_NOT_FREE, "the number is not free";
 }
 
 impl std::fmt::Display for Status {
