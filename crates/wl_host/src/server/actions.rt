@@ -327,8 +327,8 @@ impl Server {
     /// out. Its client is told by `wl_display.error` of its display, with the code 1 (`invalid_method`) and a text that names the
     /// request and the place, and killed: the status is `Closed`, as after a request that the core refuses. If there is no memory
     /// for the text, the client is killed as if its connection had ended. The request is finished: if it ends its sender, `next_note`
-    /// tells of that, too. Without memory for that note, it is refused again by the next call. Its descriptors come out by
-    /// `next_dropped`, once the client is taken out.
+    /// tells of that, too. Without memory for that note, the next call refuses it again, if nulls are still refused.
+    /// Its descriptors come out by `next_dropped`, once the client is taken out.
     ///
     /// After any but `Ok` and `TooSmall` `out` is all zeros. After any but `Ok` the rest of the lent memory is as it was.
     pub fn next_action(

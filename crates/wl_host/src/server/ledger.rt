@@ -21,7 +21,8 @@ pub struct Ledger {
     pub received: DescriptorQueue,
     /// The descriptors of events, and that were not sent.
     pub sending: DescriptorQueue,
-    /// The open action, if it was not handed out yet: the memory that was lent for it was too small.
+    /// The open action, if it was not handed out yet: the memory that was lent for it was too small, or it is refused, and there was
+    /// no memory to finish it.
     pub kept: Option<Action>,
     /// Whether the open action ends the object that it was sent to.
     pub ends_sender: bool,

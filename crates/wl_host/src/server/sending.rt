@@ -107,8 +107,9 @@ impl Server {
     /// Puts what waits for the client in the core into its mailbox, and asks whether something is to be sent to it
     /// (`wl_server::Backend::flush_client`). Other clients are as they were, and `next_writable` answers this one as before.
     ///
-    /// The status is `Ok` if something is to be sent, and `WouldBlock` if nothing is; `OutOfMemory` if there was no memory to put
-    /// something into the mailbox, and nothing is there yet; `InvalidId` if the client is not stored.
+    /// The status is `Ok` if something is to be sent, and `WouldBlock` if nothing is: in the core something may wait for which the
+    /// mailbox has no room (`set_room`). It is `OutOfMemory` if there was no memory to put something into the mailbox, and nothing is
+    /// there yet; `InvalidId` if the client is not stored.
     pub fn flush_client(&mut self, client: &FlatClientId) -> Status
         ensures call { FlushesClient self.old (client_of client.now) result self.new }
         ensures waits { OkHasBytes self.new.core (client_of client.now) result }
