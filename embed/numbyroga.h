@@ -165,7 +165,7 @@ enum {
     NB_FOREIGN_OBJECT = 24,      /* an argument is an object of another client */
     NB_WRONG_INTERFACE = 25,     /* an argument is an object of another interface than the table asks for */
     NB_UNKNOWN_INTERFACE = 26,   /* no interface of the table has the number */
-    NB_VERSION_TOO_HIGH = 27,    /* the version is above that of the interface in the table */
+    NB_VERSION_TOO_HIGH = 27,    /* the version is above that of the interface in the table, or 0 for an object */
     NB_IDS_EXHAUSTED = 28,       /* no number is left for an object */
     NB_SERIALS_EXHAUSTED = 29,   /* no serial is left */
     NB_FULL = 30,                /* no slot, or no name, is left */
@@ -246,8 +246,8 @@ typedef struct {
     uint32_t interface, number;
 } nb_object_id;
 
-/* A global of a server: 16 bytes. `name` is what clients bind. A name is used again (nb_server_keep_global_names), a
- * serial never. */
+/* A global of a server: 16 bytes. `name` is what clients bind. A name is used again, unless
+ * names are kept (nb_server_keep_global_names); a serial never. */
 typedef struct {
     uint64_t serial;
     uint32_t name;
@@ -537,6 +537,8 @@ nb_status nb_server_memory_refused(nb_server *place, uint32_t *is_refused);
  *     null argument 2 in request thing.name.", in which arguments are counted from 1. It is killed, and a note says so.
  *     If there is no memory for the text, it is killed without being told.
  *   - The request is finished. If it ends its sender, a note is made of that; what it made has no data, and no note.
+ *     Without memory for that note the request stays open: the next nb_server_next_action refuses it again, and
+ *     nb_server_finish_request answers NB_NOT_OPEN.
  *   - Its descriptors come by nb_server_next_dropped once nb_server_cleanup has taken the client out. */
 nb_status nb_server_refuse_nulls(nb_server *place, uint32_t is_on);
 
@@ -688,12 +690,12 @@ nb_status nb_server_post_error(nb_server *place, const nb_object_id *object, uin
 nb_status nb_server_create_object(nb_server *place, const nb_client_id *client, uint32_t interface, uint32_t version,
                                   uint32_t has_data, uint64_t data, nb_object_id *object);
 
-/* Makes an object for a client at a number of the client's own, 1 to 0xFEFFFFFF, which has to be free: it is the next one,
- * or was in use before. The client may give the number to an object of its own at the same time, and is killed then: so
- * know that it does not. The version is not checked.
+/* Makes an object for a client at a number of the client's own, 1 to 0xFEFFFFFF, which has to be free: it holds no object,
+ * and is the next one or was in use before. The client may give the number to an object of its own at the same time, and
+ * is killed then: so know that it does not. The version is not checked.
  *
  * Statuses: NB_MISSING_DATA (`has_data` is 0: such an object always has data); NB_INVALID_ID; NB_UNKNOWN_INTERFACE;
- * NB_SERIALS_EXHAUSTED; NB_NOT_FREE; NB_OUT_OF_MEMORY. */
+ * NB_SERIALS_EXHAUSTED; NB_NOT_FREE (or the number is not one of the client's own); NB_OUT_OF_MEMORY. */
 nb_status nb_server_create_object_at(nb_server *place, const nb_client_id *client, uint32_t interface, uint32_t version,
                                      uint32_t number, uint32_t has_data, uint64_t data, nb_object_id *object);
 
@@ -767,7 +769,8 @@ nb_status nb_server_disable_global(nb_server *place, const nb_global_id *global)
 nb_status nb_server_remove_global(nb_server *place, const nb_global_id *global);
 
 /* Keeps the names of globals as long as `keep` is not 0: a new global gets only a name that was never in use, and a bind of
- * a removed one never finds another. At first they are not kept, and a new global has the least name that is free. */
+ * a removed one never finds another. At first they are not kept, and a new global has the least name that is free. Each name
+ * that was in use takes some memory as long as the server is there. */
 nb_status nb_server_keep_global_names(nb_server *place, uint32_t keep);
 
 /* What a global offers, also of one that is disabled. Statuses: NB_INVALID_ID. */

@@ -59,7 +59,7 @@ static uint32_t take_word(void)
 
 static nb_status see(nb_status status)
 {
-    must(status != NB_NO_SESSION && status != NB_IN_USE && status <= NB_NOT_PLACEHOLDER, "a status that may come");
+    must(status != NB_NO_SESSION && status != NB_IN_USE && status <= NB_NOT_FREE, "a status that may come");
     saw(status);
     return status;
 }

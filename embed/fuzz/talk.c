@@ -150,7 +150,7 @@ static nb_status last_status;
 static int lacks_memory(nb_status status)
 {
     uint32_t was_refused;
-    must(status != NB_NO_SESSION && status <= NB_NOT_PLACEHOLDER, "a session is there");
+    must(status != NB_NO_SESSION && status <= NB_NOT_FREE, "a session is there");
     if (may_refuse && nb_server_memory_refused(&server, &was_refused) == NB_OK && was_refused)
         for (int i = 0; i < CLIENTS; i++)
             connections[i].may_be_killed = 1;

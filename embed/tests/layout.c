@@ -78,6 +78,8 @@ AT(nb_request, unused, 60);
 SIZE(nb_object_info, 12);
 AT(nb_object_info, interface, 4);
 AT(nb_object_info, version, 8);
+SIZE(nb_held_object, 40);
+AT(nb_held_object, data, 32);
 SIZE(nb_global_info, 16);
 AT(nb_global_info, version, 4);
 AT(nb_global_info, is_disabled, 8);

@@ -60,7 +60,7 @@ EXPORT uint32_t wl_client_add_resource(struct wl_client *client, struct wl_resou
     struct lent *lent = calloc(1, sizeof *lent);
     uint32_t id = resource->object.id;
     if (!lent || !client_enter(client) ||
-        !object_find(client, resource->object.interface, 1, id, (uint64_t)(uintptr_t)resource, &lent->core)) {
+        !object_find(client, resource->object.interface, 0, id, (uint64_t)(uintptr_t)resource, &lent->core)) {
         free(lent);
         client_post_error(client, WL_DISPLAY_ERROR_INVALID_OBJECT, "invalid new id %d", (int)id);
         return 0;

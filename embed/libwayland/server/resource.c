@@ -93,12 +93,17 @@ static bool take_created(struct wl_client *client, uint32_t number, uint32_t id,
     return true;
 }
 
-/* A program may choose a higher version than the object has. It has the requests of its own struct: the row may have more. */
-static void raise_version(struct wl_client *client, const struct wl_interface *interface, int version, uint32_t has,
-                          const nb_object_id *object)
+/* The version of the requests that a resource serves: none above that of its struct, of which the table may have more. One
+ * without a version serves all. */
+static uint32_t served_version(const struct wl_interface *interface, int version)
 {
-    const uint32_t wants = (uint32_t)(version < interface->version ? version : interface->version);
-    if (version > 0 && wants > has)
+    return (uint32_t)(version > 0 && version < interface->version ? version : interface->version);
+}
+
+/* A program may choose a higher version than the object has. */
+static void raise_version(struct wl_client *client, uint32_t wants, uint32_t has, const nb_object_id *object)
+{
+    if (wants > has)
         nb_server_set_object_version(&client->display->core, object, wants);
 }
 
@@ -109,12 +114,13 @@ bool object_find(struct wl_client *client, const struct wl_interface *interface,
     uint32_t number = table_number(&client->display->table, interface);
     if (!number)
         return false;
+    const uint32_t wants = served_version(interface, version);
     uint32_t has;
     if (id == 0)
-        return nb_server_create_object(core, &client->id, number, (uint32_t)version, 1, data, object) == NB_OK;
+        return nb_server_create_object(core, &client->id, number, wants, 1, data, object) == NB_OK;
     if (!take_created(client, number, id, object, &has))
-        return nb_server_create_object_at(core, &client->id, number, (uint32_t)version, id, 1, data, object) == NB_OK;
-    raise_version(client, interface, version, has, object);
+        return nb_server_create_object_at(core, &client->id, number, wants, id, 1, data, object) == NB_OK;
+    raise_version(client, wants, has, object);
     return nb_server_set_object_data(core, object, data) == NB_OK;
 }
 

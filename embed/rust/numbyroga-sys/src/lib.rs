@@ -150,7 +150,7 @@ pub const NB_FOREIGN_OBJECT: nb_status = 24;
 pub const NB_WRONG_INTERFACE: nb_status = 25;
 /// No interface of the table has the number.
 pub const NB_UNKNOWN_INTERFACE: nb_status = 26;
-/// The version is above that of the interface in the table.
+/// The version is above that of the interface in the table, or 0 for an object.
 pub const NB_VERSION_TOO_HIGH: nb_status = 27;
 /// No number is left for an object.
 pub const NB_IDS_EXHAUSTED: nb_status = 28;
