@@ -12,6 +12,13 @@ enum { THREADS = 8 };
 static int rounds;
 static atomic_int answers;
 
+/* The answer to a sync, and the end of its number, in one message: a client that has read the first may be gone at once. */
+static void answer(uint32_t callback)
+{
+    const uint32_t words[] = { callback, 12u << 16, 9, 1, 12u << 16 | 1, callback };
+    send_bytes(words, sizeof words, NULL, 0);
+}
+
 static void *serve(void *unused)
 {
     uint32_t head[2], rest[1024];
@@ -22,8 +29,7 @@ static void *serve(void *unused)
             break;
         if (head[0] != 1 || (head[1] & 0xffff) != 0)
             continue;
-        TELL(rest[0], 0, 9);
-        TELL(1, 1, rest[0]);
+        answer(rest[0]);
     }
     return NULL;
 }
@@ -149,7 +155,8 @@ int main(int count, char **arguments)
         pthread_create(&threads[i], NULL, work[i], registry);
     for (int i = 0; i < THREADS; i++)
         pthread_join(threads[i], NULL);
-    if (wl_display_get_error(display) != 0)
+    /* What was asked last, and nobody waited for, is answered then. */
+    if (wl_display_roundtrip(display) < 0 || wl_display_get_error(display) != 0)
         return 1;
     wl_registry_destroy(registry);
     wl_display_disconnect(display);
