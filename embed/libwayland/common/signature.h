@@ -28,15 +28,6 @@ static inline const char *signature_next(const char *signature, char *letter, bo
 
 uint32_t signature_count(const char *signature);
 
-/* The version since which the message is there; 1 if none is written. */
-static inline uint32_t signature_since(const char *signature)
-{
-    uint32_t since = 0;
-    for (; *signature >= '0' && *signature <= '9'; signature++)
-        since = 10 * since + (uint32_t)(*signature - '0');
-    return since > 0 ? since : 1;
-}
-
 /* Whether the argument at this index may be null. */
 bool signature_is_nullable(const char *signature, uint32_t index);
 

@@ -16,8 +16,8 @@ struct request {
     uintptr_t words[MOST_WORDS]; /* the client, the resource, and the arguments */
 };
 
-/* Looks at what the session does not: the version that the program gave the resource, which may be below that of the
- * session's object, and whether there is a resource at all. False if it is refused, and its client told. */
+/* Looks at what the session does not: whether there is a resource, and whether its own struct has the request, of which the
+ * table may have more. False if it is refused, and its client told. */
 static bool is_allowed(const struct request *request, const nb_action *action)
 {
     const struct wl_resource *resource = request->resource;
@@ -27,17 +27,9 @@ static bool is_allowed(const struct request *request, const nb_action *action)
         return false;
     }
     const struct wl_interface *interface = resource->object.interface;
-    const int version = lent_core(resource) ? 0 : resource->version;
     if (request->opcode >= (uint32_t)interface->method_count) {
         client_post_error(request->client, WL_DISPLAY_ERROR_INVALID_METHOD, "invalid method %u, object %s@%u",
                           request->opcode, interface->name, resource->object.id);
-        return false;
-    }
-    const uint32_t since = signature_since(interface->methods[request->opcode].signature);
-    if (version > 0 && (uint32_t)version < since) {
-        client_post_error(request->client, WL_DISPLAY_ERROR_INVALID_METHOD,
-                          "invalid method %u (since %d < %u), object %s@%u", request->opcode, version, since,
-                          interface->name, resource->object.id);
         return false;
     }
     return true;

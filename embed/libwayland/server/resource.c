@@ -16,10 +16,10 @@ static struct numbered *numbered_of(struct wl_client *client, uint32_t id, uint3
     return is_of_server(id) ? &client->served : &client->own;
 }
 
-/* The numbers of the session's objects are dense: a client may not leave any out. */
+/* The numbers of the session's objects are dense: a client may not leave any out. So this grows no further than they do. */
 static bool make_room(struct numbered *numbered, uint32_t index)
 {
-    uint32_t room = numbered->room > 0 ? numbered->room : 16;
+    size_t room = numbered->room > 0 ? numbered->room : 16;
     while (room <= index)
         room *= 2;
     if (room == numbered->room)
@@ -70,10 +70,17 @@ static uint32_t spare_number(const struct wl_client *client)
     return FIRST_OF_SERVER + index;
 }
 
+/* Whether a resource that the session does not know may have this number: one that is far above all others may not. */
+static bool is_near(struct wl_client *client, uint32_t id)
+{
+    uint32_t index;
+    return numbered_of(client, id, &index)->room >= index;
+}
+
 /* ======== Objects of the session */
 
-/* The object of this number and interface that a request has made, if it has no resource. Without one there may be one
- * that an earlier handler left. */
+/* The object of this number and interface that a request has made, if it has no resource. If the last request made none
+ * of this number, an earlier handler may have left it. */
 static bool take_created(struct wl_client *client, uint32_t number, uint32_t id, nb_object_id *object, uint32_t *version)
 {
     nb_server *core = &client->display->core;
@@ -100,10 +107,10 @@ static uint32_t served_version(const struct wl_interface *interface, int version
     return (uint32_t)(version > 0 && version < interface->version ? version : interface->version);
 }
 
-/* A program may choose a higher version than the object has. */
-static void raise_version(struct wl_client *client, uint32_t wants, uint32_t has, const nb_object_id *object)
+/* A program may choose another version than the object has. */
+static void choose_version(struct wl_client *client, uint32_t wants, uint32_t has, const nb_object_id *object)
 {
-    if (wants > has)
+    if (wants != has)
         nb_server_set_object_version(&client->display->core, object, wants);
 }
 
@@ -120,7 +127,7 @@ bool object_find(struct wl_client *client, const struct wl_interface *interface,
         return nb_server_create_object(core, &client->id, number, wants, 1, data, object) == NB_OK;
     if (!take_created(client, number, id, object, &has))
         return nb_server_create_object_at(core, &client->id, number, wants, id, 1, data, object) == NB_OK;
-    raise_version(client, wants, has, object);
+    choose_version(client, wants, has, object);
     return nb_server_set_object_data(core, object, data) == NB_OK;
 }
 
@@ -185,6 +192,8 @@ static bool join(struct wl_resource *resource, uint32_t id)
         id = resource->core.number;
     } else if (id == 0)
         id = spare_number(client);
+    else if (!is_near(client, id))
+        return false;
     resource->object.id = id;
     if (number_put(client, id, resource))
         return true;
@@ -238,7 +247,7 @@ EXPORT void wl_resource_destroy(struct wl_resource *resource)
 static bool end_one_range(const struct numbered *numbered)
 {
     bool is_any = false;
-    for (uint32_t i = 0; i < numbered->room; i++)
+    for (size_t i = 0; i < numbered->room; i++)
         if (numbered->at[i]) {
             is_any = true;
             wl_resource_destroy(numbered->at[i]);
@@ -313,7 +322,7 @@ EXPORT struct wl_resource *wl_client_get_object(struct wl_client *client, uint32
 
 static bool visit(const struct numbered *numbered, wl_client_for_each_resource_iterator_func_t iterator, void *data)
 {
-    for (uint32_t i = 0; i < numbered->room; i++)
+    for (size_t i = 0; i < numbered->room; i++)
         if (numbered->at[i] && iterator(numbered->at[i], data) != WL_ITERATOR_CONTINUE)
             return false;
     return true;

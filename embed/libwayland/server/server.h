@@ -56,7 +56,7 @@ struct wl_resource {
 /* Resources by number: those of one range. */
 struct numbered {
     struct wl_resource **at;
-    uint32_t room;
+    size_t room;
 };
 
 struct wl_client {

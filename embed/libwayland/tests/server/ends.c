@@ -191,6 +191,27 @@ static void made_after_an_error(int which)
     dispatch_all();
 }
 
+/* A number far above all others, as the client ends. */
+static uint32_t far_number;
+
+static void make_at_the_end(struct wl_listener *listener, void *data)
+{
+    (void)listener;
+    printf("  %x: %s\n", far_number, wl_resource_create(data, &part_interface, 1, far_number) ? "made" : "refused");
+}
+
+static void far_number_at_the_end(int which)
+{
+    static const uint32_t numbers[] = { 0x400, 0x80000004u, 0xfeffffffu, 0xff000400u, 0xffffffffu };
+    static struct wl_listener maker = { .notify = make_at_the_end };
+    far_number = numbers[which];
+    begin_with_thing();
+    wl_client_add_destroy_listener(client, &maker);
+    close(peer);
+    dispatch_all();
+    printf("  %d clients\n", wl_list_length(wl_display_get_client_list(display)));
+}
+
 /* wl_callback: the usual life of a frame. */
 static void frame(int which)
 {
@@ -224,6 +245,9 @@ const struct test end_tests[] = {
     { "end-of-another", end_of_another, 0 },       { "end-of-the-sender", end_of_the_sender, 0 },
     { "made-after-an-error", made_after_an_error, 0 }, { "made-after-an-error", made_after_an_error, 1 },
     { "made-after-an-error", made_after_an_error, 2 }, { "made-after-an-error", made_after_an_error, 3 },
+    { "far-number-at-the-end", far_number_at_the_end, 0 }, { "far-number-at-the-end", far_number_at_the_end, 1 },
+    { "far-number-at-the-end", far_number_at_the_end, 2 }, { "far-number-at-the-end", far_number_at_the_end, 3 },
+    { "far-number-at-the-end", far_number_at_the_end, 4 },
     { "frame", frame, 0 },                         { "numbers-again", numbers_again, 3 },
     { 0 }
 };
