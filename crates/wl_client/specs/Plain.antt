@@ -51,6 +51,14 @@ module _ {T U : Type 0} where
   abbrev pub object_of : SessionState T U → IdParts → Option (Object (Kept U))
   object_of s id = named s.store id
 
+  -- ids of objects that leave their numbers are kept as before, and so are those that wait
+  abbrev pub FreedStay : SessionState T U → SessionState T U → Type 0
+  FreedStay before after = (after.keeps_freed ≡ before.keeps_freed) × (after.freed ≡ before.freed)
+
+  -- so is whether messages of unknown senders are passed over
+  abbrev pub SettingsStay : SessionState T U → SessionState T U → Type 0
+  SettingsStay before after = (after.passes_over ≡ before.passes_over) × FreedStay before after
+
   -- ---- the end of an event
 
   -- The event is open no more. The object that it made has the data. Its sender, if the event ends it, is destroyed, and noted
@@ -67,6 +75,7 @@ module _ {T U : Type 0} where
     pub error : after.error ≡ before.error
     pub table : after.table ≡ before.table
     pub link : after.link ≡ before.link
+    pub settings : SettingsStay before after
 
   -- why an event was not ended
   abbrev pub NotEnded : SessionState T U → Option U → FinishError → Type 0
@@ -108,6 +117,7 @@ module _ {T U : Type 0} where
         → object_of after other ≡ object_of before other
     pub open_event : after.open_event ≡ before.open_event
     pub table : after.table ≡ before.table
+    pub settings : SettingsStay before after
     pub error : (after.error ≡ before.error) ⊎ ((f : IoFault) × (after.error ≡ Some (Io f)))
 
   -- The request was sent. Or it was not, and nothing has changed; after a want of memory what waits in the link may have.
@@ -173,9 +183,14 @@ module _ {U : Type 0} where
     pub serials : before.last_serial ≤ after.last_serial
     pub ids : (id : IdParts) → IsOld before id → StaysAs (named before.store id) (named after.store id)
 
-  -- the table and the notes are as before, and each older id names what it named, or none if the client had destroyed that
-  abbrev pub KeepsRest : Core U → Core U → Type 0
-  KeepsRest before after = (after.table ≡ before.table) × (after.notes ≡ before.notes) × IdsStay (objects_in before) (objects_in after)
+  -- the table, the notes and the settings are as before, and each older id names what it named, or none if the client had
+  -- destroyed that
+  pub record KeepsRest (before after : Core U) : Type 0 where
+    pub table : after.table ≡ before.table
+    pub notes : after.notes ≡ before.notes
+    pub passes_over : after.passes_over ≡ before.passes_over
+    pub keeps_freed : after.keeps_freed ≡ before.keeps_freed
+    pub ids : IdsStay (objects_in before) (objects_in after)
 
 module _ {T U : Type 0} where
   -- An event is handed out, and open. Or there is none: the session had an error before or has one now, an event was open

@@ -102,12 +102,20 @@ module _ {T U : Type 0} (s : SessionState T U) (event : OpenEvent) (u : Option U
   ended_rest : (ended.open_event ≡ None) × (ended.error ≡ s.error) × (ended.table ≡ s.table)
   ended_rest = grind (arith, with_dead, named)
 
+  ended_settings : (ended.passes_over ≡ s.passes_over) × (ended.keeps_freed ≡ s.keeps_freed) × (ended.freed ≡ s.freed)
+  ended_settings = grind (arith, with_dead, named)
+
 -- the object that the event made gets the data; all else is as it was
 module _ {U : Type 0} (c : Core U) where
   given_rest : (created : Option IdParts) (u : Option U)
       → ((with_data_for c created u).open_event ≡ c.open_event) × ((with_data_for c created u).error ≡ c.error) × ((with_data_for c created u).notes ≡ c.notes)
       × ((with_data_for c created u).table ≡ c.table)
   given_rest created u = grind (arith)
+
+  given_settings : (created : Option IdParts) (u : Option U)
+      → ((with_data_for c created u).passes_over ≡ c.passes_over) × ((with_data_for c created u).keeps_freed ≡ c.keeps_freed)
+      × ((with_data_for c created u).freed ≡ c.freed)
+  given_settings created u = grind (arith)
 
   given_elsewhere : (created : Option IdParts) (u : Option U) (id : IdParts) → is_made created id ≡ false → named (with_data_for c created u).store id ≡ named c.store id
   given_elsewhere created u id h1 = grind (arith, given_others)
@@ -132,6 +140,8 @@ module _ {T U : Type 0} (s : SessionState T U) (u : Option U) where
   is_ended event some fits =
       let c : Core U = ended s event u in
       let rest = given_rest c event.created u in
+      let given = given_settings c event.created u in
+      let kept = ended_settings s event u in
       record {
         was_open = some;
         closed = rest.0 ∙ (ended_rest s event u).0;
@@ -143,6 +153,7 @@ module _ {T U : Type 0} (s : SessionState T U) (u : Option U) where
         error = rest.1 ∙ (ended_rest s event u).1;
         table = rest.3 ∙ (ended_rest s event u).2;
         link = refl;
+        settings = (given.0 ∙ kept.0, (given.1 ∙ kept.1, given.2 ∙ kept.2));
       }
 
   refused_so : (e other : FinishError) (d : Option U) (after : SessionState T U) → Refuses s u other (Err (record { error = e; user_data = d })) after → NotEnded s u other

@@ -63,11 +63,21 @@ module _ {U : Type 0} where
   pub opened_off : (c : Core U) (event : OpenEvent) → c.open_event ≡ Some event → reads_on c ≡ false
   opened_off c event is = grind (arith, is_none)
 
+  -- only the error and what is open differ
+  kept_so : (c d : Core U) → d ≡ record c { error = d.error; open_event = d.open_event } → KeepsRest c d
+  kept_so c d is = record {
+    table = ap (λ (e : Core U). e.table) is;
+    notes = ap (λ (e : Core U). e.notes) is;
+    passes_over = ap (λ (e : Core U). e.passes_over) is;
+    keeps_freed = ap (λ (e : Core U). e.keeps_freed) is;
+    ids = subst (λ (e : Core U). IdsStay (objects_in c) (objects_in e)) (sym is) (ids_same (objects_in c));
+  }
+
   -- a receive that failed
   faulted_so : (c : Core U) → CanRead c → (f : IoFault) → CameTo c (Some f) [] (faulted c f) × KeepsRest c (faulted c f)
-  faulted_so c live fault.WouldBlock = ((refl, live), (refl, refl, ids_same (objects_in c)))
-  faulted_so c live fault.OutOfMemory = ((refl, live), (refl, refl, ids_same (objects_in c)))
-  faulted_so c live _ = ((refl, (refl, live.1)), (refl, refl, ids_same (objects_in c)))
+  faulted_so c live fault.WouldBlock = ((refl, live), kept_so c c refl)
+  faulted_so c live fault.OutOfMemory = ((refl, live), kept_so c c refl)
+  faulted_so c live f = ((refl, (refl, live.1)), kept_so c (faulted c f) refl)
 
 module _ {T U : Type 0} (sends : T → Queue → Result ℕ IoFault → T → Type 0) (receives : T → ℕ → Result Queue IoFault → T → Type 0) where
   -- a reader that no longer reads on stops here
@@ -91,6 +101,16 @@ module _ {T U : Type 0} (sends : T → Queue → Result ℕ IoFault → T → Ty
     stayed : (d : Core U) → IdsStay (objects_in c) (objects_in d) → mid.core ≡ d → IdsStay (objects_in c) (objects_in mid.core)
     stayed d ids is = subst (λ (e : Core U). IdsStay (objects_in c) (objects_in e)) (sym is) ids
 
+    kept_as : (d : Core U) → mid.core ≡ d → d.table ≡ c.table → d.notes ≡ c.notes → d.passes_over ≡ c.passes_over → d.keeps_freed ≡ c.keeps_freed
+        → IdsStay (objects_in c) (objects_in d) → KeepsRest c mid.core
+    kept_as d is table notes passes keeps ids = record {
+      table = ap (λ (e : Core U). e.table) is ∙ table;
+      notes = ap (λ (e : Core U). e.notes) is ∙ notes;
+      passes_over = ap (λ (e : Core U). e.passes_over) is ∙ passes;
+      keeps_freed = ap (λ (e : Core U). e.keeps_freed) is ∙ keeps;
+      ids = stayed d ids is;
+    }
+
     -- the message did nothing more, and the reading goes on
     goes_on : (o : Objects (Kept U)) → Stay c.store o.store → IdsStay (objects_in c) o → first ≡ [] → mid.core ≡ core_after (freeing c id) (Swallows o) → Ended c out after.core
     goes_on o stay ids none is = grind (arith, given_first, ids_then, objects_in, stayed, came_before)
@@ -104,14 +124,14 @@ module _ {T U : Type 0} (sends : T → Queue → Result ℕ IoFault → T → Ty
         → mid.core ≡ record (freeing c id) { store = o.store; last_serial = o.last_serial; error = Some w } → Ended c out after.core
     fails o w ids none is =
         let failed : IsSome mid.core.error = ap (λ (d : Core U). is_some d.error) is in
-        ends_at [] none (failed_off mid.core failed) (ap (λ (d : Core U). d.table) is, ap (λ (d : Core U). d.notes) is, stayed _ ids is)
+        ends_at [] none (failed_off mid.core failed) (kept_as _ is refl refl refl refl ids)
         (inr (refl, (failed, ap (λ (d : Core U). d.open_event) is ∙ live.1)))
 
     hands : (m : SessionMessage) (event : OpenEvent) (o : Objects (Kept U)) → Opens c.table c.store m event o → IdsStay (objects_in c) o → first ≡ HandedOut m ∷ []
         → mid.core ≡ record (freeing c id) { store = o.store; last_serial = o.last_serial; open_event = Some event } → Ended c out after.core
     hands m event o so ids is same =
         ends_at (HandedOut m ∷ []) is (opened_off mid.core event (ap (λ (d : Core U). d.open_event) same))
-        (ap (λ (d : Core U). d.table) same, ap (λ (d : Core U). d.notes) same, stayed _ ids same)
+        (kept_as _ same refl refl refl refl ids)
         (inl (
           m,
           refl,
@@ -146,10 +166,10 @@ module _ {T U : Type 0} (sends : T → Queue → Result ℕ IoFault → T → Ty
       subst (λ (q : ReaderState T (Core U)). Ended p.core out q.core) (sym same) (halts (when_true _ (reads_on p.core) (live_on p.core live) ends))
     where
       blocks : (n : ℕ) → out ≡ stops (Some fault.WouldBlock) false n → Ended p.core out p.core
-      blocks n is = subst (λ (g : Gives SessionMessage). Ended p.core g p.core) (sym is) (record { kept = (refl, refl, ids_same (objects_in p.core)); came = (refl, live) })
+      blocks n is = subst (λ (g : Gives SessionMessage). Ended p.core g p.core) (sym is) (record { kept = kept_so p.core p.core refl; came = (refl, live) })
 
       starves : (n : ℕ) → out ≡ stops (Some fault.OutOfMemory) true n → Ended p.core out p.core
-      starves n is = subst (λ (g : Gives SessionMessage). Ended p.core g p.core) (sym is) (record { kept = (refl, refl, ids_same (objects_in p.core)); came = (refl, live) })
+      starves n is = subst (λ (g : Gives SessionMessage). Ended p.core g p.core) (sym is) (record { kept = kept_so p.core p.core refl; came = (refl, live) })
 
       halts : Halts sends client left p out → Ended p.core out p.core
       halts h1 = grind (arith, blocks, starves)

@@ -23,7 +23,7 @@ use Rattle.wl_client.specs.declared.objects.Kept.{Kept}
 use Rattle.wl_client.specs.declared.request.Granted.{Granted}
 use Rattle.wl_client.specs.ObjectId.{IdParts}
 use Rattle.wl_client.specs.Objects.{info_in, info_of}
-use Rattle.wl_client.specs.Plain.{MadeAs, RequestIsSent, SendsRequest, same_object}
+use Rattle.wl_client.specs.Plain.{MadeAs, RequestIsSent, SendsRequest, SettingsStay, same_object}
 use Rattle.wl_client.specs.Requests.{Numbered, Requested, Sent, SentAs, SessionMessage, Spec, Written, checked_row, checked_sender, child_of, ended_by, error_after, grant, id_of_new, new_child, number_of_new, request_check, unless, wire_message, with_born, with_ended}
 use Rattle.wl_client.specs.Session.{SessionState, alive, core_of, flagged, id_at, id_of, last_possible_serial, named, noted, serial_of}
 use Rattle.wl_client.proofs.Plain.Naming.{Names, both_none, named_here, names_so, nothing_has, other_named, rewritten_named, rewritten_others}
@@ -76,6 +76,10 @@ module _ {T U : Type 0} (s : SessionState T U) where
   born_rest None = (refl, refl, refl, refl)
   born_rest (Some new) = (refl, refl, refl, refl)
 
+  born_settings : (new : Option (Numbered U)) → SettingsStay s (with_born s new)
+  born_settings None = (refl, (refl, refl))
+  born_settings (Some new) = (refl, (refl, refl))
+
 -- ---- the sender's end
 
 module _ {T U : Type 0} (t : SessionState T U) (id : IdParts) (x : Object (Kept U)) where
@@ -98,6 +102,10 @@ module _ {T U : Type 0} (t : SessionState T U) (id : IdParts) (x : Object (Kept 
       × ((with_ended t (ended_at b)).table ≡ t.table)
   ended_rest true = (refl, refl, refl)
   ended_rest false = (refl, refl, refl)
+
+  ended_settings : (b : Bool) → SettingsStay t (with_ended t (ended_at b))
+  ended_settings true = (refl, (refl, refl))
+  ended_settings false = (refl, (refl, refl))
 
 stored_error : (error : Option WaylandError) (w : Result (Unit {0}) IoFault) → (error_after error w ≡ error) ⊎ ((f : IoFault) × (error_after error w ≡ Some (Io f)))
 stored_error error (Ok done) = inl refl
@@ -137,7 +145,7 @@ module _ {T U : Type 0} (sends : T → Queue → Result ℕ IoFault → T → Ty
       still = sender_still now new fresh m.sender x sender_named
 
       is_sent : MadeAs s child u (id_of_new new) end → RequestIsSent s m u spec (id_of_new new) end
-      is_sent made = grind (arith, born_rest, ended_rest, alive_is, named, ended_gone, still, ended_notes, noted, id_at, ended_elsewhere, born_elsewhere, stored_error)
+      is_sent made = grind (arith, born_rest, ended_rest, born_settings, ended_settings, alive_is, named, ended_gone, still, ended_notes, noted, id_at, ended_elsewhere, born_elsewhere, stored_error)
 
     written : (new : Option (Numbered U)) → IsFresh s new
         → ((link : LinkState T) (w : Result (Unit {0}) IoFault) (fresh : IsFresh s new) → MadeAs s child u (id_of_new new) (end link w new fresh))

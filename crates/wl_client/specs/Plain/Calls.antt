@@ -22,7 +22,7 @@ use Rattle.wl_client.specs.declared.objects.Kept.{Kept}
 use Rattle.wl_client.specs.declared.objects.Note.{Note}
 use Rattle.wl_client.specs.ObjectId.{IdParts}
 use Rattle.wl_client.specs.Objects.{destroyable, user_data_of}
-use Rattle.wl_client.specs.Plain.{object_of, same_object}
+use Rattle.wl_client.specs.Plain.{FreedStay, SettingsStay, object_of, same_object}
 use Rattle.wl_client.specs.Session.{SessionState, flagged, id_at, noted, with_user_data}
 
 -- the session gets this fault as its error; after `WouldBlock` and `OutOfMemory` more may be sent later
@@ -45,14 +45,6 @@ module _ {T U : Type 0} where
   -- the event that is open, the error, the table and the last serial that was given out are as before
   abbrev pub RestStays : SessionState T U → SessionState T U → Type 0
   RestStays before after = (after.open_event ≡ before.open_event) × (after.error ≡ before.error) × (after.table ≡ before.table) × (after.last_serial ≡ before.last_serial)
-
-  -- ids of objects that leave their numbers are kept as before, and so are those that wait
-  abbrev pub FreedStay : SessionState T U → SessionState T U → Type 0
-  FreedStay before after = (after.keeps_freed ≡ before.keeps_freed) × (after.freed ≡ before.freed)
-
-  -- so is whether messages of unknown senders are passed over
-  abbrev pub SettingsStay : SessionState T U → SessionState T U → Type 0
-  SettingsStay before after = (after.passes_over ≡ before.passes_over) × FreedStay before after
 
   -- ---- the calls on objects
 
