@@ -11,9 +11,9 @@ use crate::globals::handler::GlobalHandler;
 use wl_link::Transport;
 
 impl<T: Transport + Drop, U: Drop, G: GlobalHandler<C> + Drop, C: Drop> Backend<T, U, G, C> {
-    /// Keeps the names of globals, or no longer. As long as they are kept, each new global gets the least name that was never
-    /// in use. So a client whose bind of a removed global is on its way never binds another global in its place. Once they are
-    /// no longer kept, new globals get the least name that no other has, as in a new server: names of removed globals again.
+    /// Sets whether the names of globals are kept. As long as they are, each new global gets the least name that was never in use. So
+    /// a client whose bind of a removed global is on its way never binds another global in its place. Once they are no longer
+    /// kept, new globals get the least name that no other has, as in a new server: names of removed globals again.
     ///
     /// libwayland keeps them always. Each name that was in use takes some memory as long as the server is there.
     pub fn keep_global_names(&mut self, keep: bool)

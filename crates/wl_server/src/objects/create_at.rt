@@ -76,9 +76,9 @@ impl<T: Transport + Drop, U: Drop, G: GlobalHandler<C> + Drop, C: Drop> Backend<
     /// Creates an object at a number of the client's range, 1 to 0xFEFFFFFF, and returns its id.
     ///
     /// It stands for `wl_resource_create` of libwayland with a number. The number has to be *free*: it holds no object of the
-    /// client, and was in use before or is the next one. The client may give such a number to its next object, so the program
-    /// has to know that it does not: a request of it that has the number as a new id then kills it. The object gets the next
-    /// serial. Its version is not checked.
+    /// client, and was in use before or is the next one. The client may give such a number to its next object. The program
+    /// makes sure that it does not: a request whose new id is this number then kills the client. The object gets the next serial.
+    /// Its version is not checked.
     ///
     /// # Errors
     ///

@@ -53,8 +53,8 @@ impl<T: Transport + Drop, U: Drop, G: GlobalHandler<C> + Drop, C: Drop> Backend<
     /// Sets the version of the object that the id names. From then on the requests of that version are served, and an object
     /// that a request of this one makes gets it, too. It allocates no memory.
     ///
-    /// Of libwayland it is the version that `wl_resource_create` is given. An object that a request makes has the version of
-    /// the request's object, and one that a bind makes the version of the bind: the program may choose another one.
+    /// It is the version that a program gives `wl_resource_create` of libwayland. An object that a request makes has the version
+    /// of the request's object, and one that a bind makes the version of the bind: the program may choose another one.
     ///
     /// # Errors
     ///
