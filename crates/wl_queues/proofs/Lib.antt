@@ -5,5 +5,6 @@ pub mod Reading
 pub mod Refusing
 pub mod Slots
 pub mod States
+pub mod Tickets
 pub mod Times
 pub mod Unused

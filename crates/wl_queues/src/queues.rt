@@ -4,7 +4,7 @@ ghost use Rattle.std.specs.Prelude.{◌≡◌, ◌↔◌, ◌⊎◌, ℕ, ◌+�
 ghost use Rattle.std.specs.Option.{option_map};
 ghost use Rattle.std.specs.List.{position};
 ghost use Rattle.wl_queues.specs.Events.{IsAppended, IsFirstSender, NamesLive, times_named};
-ghost use Rattle.wl_queues.specs.Inside.Counts.{IsCounted, dropped_at, named_waiting, waiting_at};
+ghost use Rattle.wl_queues.specs.Inside.Counts.{AreGivenOut, IsCounted, dropped_at, named_waiting, waiting_at};
 ghost use Rattle.wl_queues.specs.Inside.Objects.{AddsNames, ArgumentsHaveRoom, HasRoom, KeepsObjects, KeepsReferences, object_of, references_of};
 ghost use Rattle.wl_queues.specs.Inside.Refusals.{refusal_of};
 
@@ -174,6 +174,7 @@ pub struct Queues<E> {
     tickets: u64,
     failed: bool,
     ghost counted: { IsCounted objects.slots.items queues.items in_hand.items },
+    ghost given_out: { AreGivenOut in_hand.items tickets },
 }
 
 impl<E: Drop> Queues<E> {
@@ -326,7 +327,7 @@ impl<E: Drop> Queues<E> {
     }
 
     /// Takes the first event out of the queue. It is handed out, or dropped: if the session failed, if the queue was dropped, or if
-    /// its sender was destroyed. `Next::Nothing`: none waits.
+    /// its sender was destroyed. `Next::Nothing`: none waits. The ticket of an event that is handed out names it (`event`).
     ///
     /// Errors: `NoQueue`, if no such queue was made; one that was dropped still gives its events. If the first event is to be handed
     /// out: `TicketsExhausted`, exactly if each ticket was given out, and else `OutOfMemory`, if there is no memory for its place in

@@ -1,7 +1,7 @@
 //! Which of several threads reads from one connection.
 
-ghost use Rattle.std.specs.Prelude.{◌≡◌, ◌↔◌, Ok, Err, IsTrue, if◌then◌else◌};
-ghost use Rattle.wl_queues.specs.Readers.{LacksTurn, begun, cancel_of, cancelled, ended_by, no_readers, prepared_by, turn_of};
+ghost use Rattle.std.specs.Prelude.{◌≡◌, ◌↔◌, ◌<◌, Ok, Err, IfNone, IfSome, IsTrue, if◌then◌else◌};
+ghost use Rattle.wl_queues.specs.Readers.{LacksTurn, begun, cancel_of, cancelled, ended_by, greatest, no_readers, prepared_by, turn_of, turns_of};
 
 use std::marker::Model;
 
@@ -72,6 +72,39 @@ impl Readers {
             is_reading: false,
             ended: 0,
         }
+    }
+
+    /// Readers that are at this point: so many threads have prepared, one reads or none, and so many turns have ended. So readers
+    /// can be kept as what `prepared`, `is_reading` and `ended` tell, and be had back.
+    ///
+    /// `None`: no readers come to this point. More than 2^64 - 1 turns would have ended, once each of these threads has ended its own.
+    pub fn from_parts(prepared: u64, is_reading: bool, ended: u64) -> Option<Self>
+        ensures some { IfSome result (λ r.
+            r ≡ record { prepared = prepared; is_reading = is_reading; ended = ended }) }
+        ensures none { IfNone result (greatest < turns_of prepared is_reading ended) }
+    {
+        ended
+            .checked_add(prepared)?
+            .checked_add(u64::from(is_reading))?;
+        Some(Readers {
+            prepared,
+            is_reading,
+            ended,
+        })
+    }
+
+    /// How many threads have prepared, and neither began nor cancelled.
+    pub fn prepared(&self) -> u64
+        ensures { result ≡ self.now.prepared }
+    {
+        self.prepared
+    }
+
+    /// Whether a thread reads.
+    pub fn is_reading(&self) -> bool
+        ensures { result ≡ self.now.is_reading }
+    {
+        self.is_reading
     }
 
     /// How many turns have ended. A thread that waits goes on once this is another number than the one that it waits with.

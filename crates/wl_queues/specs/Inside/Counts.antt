@@ -1,5 +1,5 @@
 -- How often each object is named, by the events that wait and by those in hand.
-use Rattle.std.specs.Prelude.{◌≡◌, ℕ, ◌+◌, ◌<◌, Bool, false, List, [], length, get_or, map}
+use Rattle.std.specs.Prelude.{◌≡◌, ℕ, ◌+◌, ◌<◌, Bool, false, List, [], All, length, get_or, map}
 use Rattle.std.specs.List.{sum_by}
 use Rattle.wl_queues.specs.declared.events.Event.{Event}
 use Rattle.wl_queues.specs.declared.events.Held.{Held}
@@ -38,3 +38,7 @@ module _ {E : Type 0} where
   pub record IsCounted (slots : List Slot) (queues : List (Queue E)) (in_hand : List (Held E)) : Type 0 where
     pub each : (o : ℕ) → (slot_at slots o).references ≡ named_waiting o queues + named_in_hand o in_hand
     pub placed : (o : ℕ) → (slot_at slots o).object.queue < length queues
+
+  -- Each event in hand has a ticket that was given out.
+  abbrev pub AreGivenOut : List (Held E) → ℕ → Type 0
+  AreGivenOut in_hand tickets = All (λ h. h.ticket < tickets) in_hand

@@ -6,6 +6,7 @@ use Rattle.wl_queues.specs.Queues.{with_waiting}
 use Rattle.wl_queues.specs.States.{state_of}
 use Rattle.wl_queues.proofs.Lists.{dropped-kept, dropped-there, same-sender, waiting-set, waiting-there}
 use Rattle.wl_queues.proofs.States.{hands-found, outcome-found}
+use Rattle.wl_queues.proofs.Tickets.{newest-named}
 use Rattle.wl_queues.proofs.queues.Queues.next_of.Goals as goal
 
 pub returns-then-self-clause-exhausted : goal.returns-then-self-clause-exhausted
@@ -74,7 +75,8 @@ returns-clause-next g c =
     let first = waiting-there qs queue q lt is ∙ c.take_first-event-2.ensures.event in
     let found = waiting-there qs queue c.index-2.result.now lt c.index-2.ensures in
     let same = same-sender c.index-2.result.now.events.items c.in-Some.sender e later c.in-Some.ensures.sender (sym found ∙ first) in
-    let dropped = dropped-there qs queue c.index.result.now lt c.index.ensures in (
+    let dropped = dropped-there qs queue c.index.result.now lt c.index.ensures in
+    let in_hand = c.push_reserved.ensures.items ∙ ap (λ hs. hs ++ record { ticket = before.tickets; event = e } ∷ []) c.reserve.ensures.items in (
       e,
       record {
         answers = (
@@ -87,9 +89,10 @@ returns-clause-next g c =
           queues = grind (arith, common_steps);
           is_dropped = λ n. dropped-kept qs queue q c.take_first-event-2.new.queue n lt is c.take_first-event-2.ensures.kept;
           waiting = λ n. waiting-set qs queue c.take_first-event-2.new.queue n lt ∙ ap (λ ws. with_waiting queue ws (waiting_at qs) n) (sym (ap (λ ws. drop 1 ws) first));
-          in_hand = c.push_reserved.ensures.items ∙ ap (λ hs. hs ++ record { ticket = before.tickets; event = e } ∷ []) c.reserve.ensures.items;
+          in_hand = in_hand;
           tickets = refl;
           failed = refl;
         };
       },
+      newest-named before.in_hand.items _ before.tickets e before.given_out in_hand,
     )
