@@ -48,3 +48,28 @@ killed = 2
 
 abbrev pub destroyed : ℕ
 destroyed = 3
+
+-- ---- what becomes of an event that leaves its queue
+
+abbrev pub handed : ℕ
+handed = 0
+
+abbrev pub session_failed : ℕ
+session_failed = 1
+
+abbrev pub queue_dropped : ℕ
+queue_dropped = 2
+
+abbrev pub sender_destroyed : ℕ
+sender_destroyed = 3
+
+-- ---- what a slot says of its object
+
+abbrev pub slot_free : ℕ
+slot_free = 0
+
+abbrev pub slot_alive : ℕ
+slot_alive = 1
+
+abbrev pub slot_destroyed : ℕ
+slot_destroyed = 2

@@ -7,6 +7,7 @@ pub mod Chosen
 pub mod Client
 pub mod Clients
 pub mod Descriptors
+pub mod EventQueues
 pub mod Events
 pub mod Extending
 pub mod Faults
@@ -21,6 +22,7 @@ pub mod Lent
 pub mod Lists
 pub mod Notes
 pub mod Nulls
+pub mod Readers
 pub mod Rows
 pub mod Seats
 pub mod Sending

@@ -71,6 +71,10 @@ code_of status.WrongChildVersion = 32
 code_of status.MissingChild = 33
 code_of status.NotPlaceholder = 34
 code_of status.NotFree = 35
+code_of status.EventsWait = 36
+code_of status.NotPrepared = 37
+code_of status.NotReading = 38
+code_of status.NoQueue = 39
 
 -- a session answers `InvalidInput` for a client that it does not have
 abbrev pub of_fault : IoFault → Status

@@ -4,13 +4,15 @@
 //! [`Server`] is a server's session. It is `wl_server::Backend` over mailboxes (`wl_link::Mailbox`), with what a host has to
 //! know beside it: who has something to be sent, who is gone, and which file descriptor is whose.
 //!
-//! [`Client`] is a client's session, `wl_client::Backend` over a mailbox, in the same way.
+//! [`Client`] is a client's session, `wl_client::Backend` over a mailbox, in the same way. Beside it a host with several queues of
+//! events, or several threads, has [`EventQueues`] and [`FlatReaders`] (`wl_queues`).
 //!
 //! | Subject | Code | Definitions, in `specs/` |
 //! |---|---|---|
 //! | a server's session | `server` and its modules | `Server`, `Calls` |
 //! | a client's session | `client` and its modules | `Client`, `Faults` |
 //! | flat structs and ids | `flat` | `Flat` |
+//! | queues of events, and who reads | `event_queues`, `readers` | `EventQueues`, `Readers` |
 //! | what a call came to | `status` | `Status` |
 //! | the table of interfaces as rows | `rows` | `Rows`, `Tables` |
 //! | signatures as libwayland's tables have them | `signatures` | `Signatures` |
@@ -25,18 +27,24 @@
 mod arguments;
 mod client;
 mod descriptors;
+mod event_queues;
 mod extending;
 mod flat;
 mod incoming;
 mod laws;
 mod nulls;
 mod outgoing;
+mod readers;
 mod rows;
 mod server;
 mod signatures;
 mod status;
 
 pub use client::Client;
+pub use event_queues::{
+    EventQueues, FlatQueuedEvent, FlatQueuedObject, HANDED, QUEUE_DROPPED, SENDER_DESTROYED,
+    SESSION_FAILED, SLOT_ALIVE, SLOT_DESTROYED, SLOT_FREE,
+};
 pub use extending::ExtensionFault;
 pub use flat::{
     BIND, Counts, DESTROYED, FlatAction, FlatArgument, FlatClientId, FlatError, FlatEvent,
@@ -44,6 +52,7 @@ pub use flat::{
     FlatRequest, Gone, INSERTED, IO, KILLED, PROTOCOL, REQUEST, kind,
 };
 pub use laws::{a_forbidden_null_is_told, flat_arguments_come_back};
+pub use readers::{FlatReaders, FlatTurn};
 pub use rows::{ArgumentRow, InterfaceRow, MessageRow, Rows, TableFault, fault};
 pub use server::{HostClient, HostGlobal, Server};
 pub use signatures::read_signature;

@@ -92,6 +92,14 @@ pub enum Status {
     NotPlaceholder,
     /// The number that was asked for is not free.
     NotFree,
+    /// Events wait in the thread's queue: it handles these first (`wl_queues::PrepareError::EventsWait`).
+    EventsWait,
+    /// No thread has prepared to read.
+    NotPrepared,
+    /// No thread reads.
+    NotReading,
+    /// No such queue was made, or it was dropped; or it is the default queue, which is never dropped.
+    NoQueue,
 }
 
 impl Status {

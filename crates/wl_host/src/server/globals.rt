@@ -96,8 +96,8 @@ impl Server {
         Status::Ok
     }
 
-    /// Keeps the names of globals, or no longer (`wl_server::Backend::keep_global_names`): as long as `keep` is not 0, a new global
-    /// gets only a name that was never in use.
+    /// Sets whether the names of globals are kept (`wl_server::Backend::keep_global_names`): as long as `keep` is not 0, a new
+    /// global gets only a name that was never in use.
     pub fn keep_global_names(&mut self, keep: u32) -> Status
         ensures call { Calls world self.old.core (step.KeepGlobalNames (not (keep == 0))) reply.KeepGlobalNames self.new.core }
         ensures beside { self.new ≡ record self.old { core = self.new.core } }

@@ -105,7 +105,7 @@ impl Server {
     }
 
     /// Puts what waits for the client in the core into its mailbox, and asks whether something is to be sent to it
-    /// (`wl_server::Backend::flush_client`). Other clients are as they were, and `next_writable` answers this one as before.
+    /// (`wl_server::Backend::flush_client`). Other clients are as they were. If `next_writable` was to ask this one, it still does.
     ///
     /// The status is `Ok` if something is to be sent, and `WouldBlock` if nothing is: in the core something may wait for which the
     /// mailbox has no room (`set_room`). It is `OutOfMemory` if there was no memory to put something into the mailbox, and nothing is
