@@ -98,7 +98,7 @@ extern "C" {
 
 /* The version of this header. */
 #define NB_VERSION_MAJOR 0
-#define NB_VERSION_MINOR 5
+#define NB_VERSION_MINOR 6
 #define NB_VERSION_PATCH 0
 
 /* The same as one number, which grows with each version: `#if NB_VERSION >= 0x000200`. */
@@ -173,7 +173,11 @@ enum {
     NB_WRONG_CHILD_VERSION = 32, /* a request makes an object of another version than that of its sender */
     NB_MISSING_CHILD = 33,       /* nobody says of which interface the new object is */
     NB_NOT_PLACEHOLDER = 34,     /* a request's new id is not null: the session chooses it */
-    NB_NOT_FREE = 35             /* the number that the host chose for an object is not free */
+    NB_NOT_FREE = 35,            /* the number that the host chose for an object is not free */
+    NB_EVENTS_WAIT = 36,         /* events wait in the thread's queue: it handles these first */
+    NB_NOT_PREPARED = 37,        /* no thread has prepared to read */
+    NB_NOT_READING = 38,         /* no thread reads */
+    NB_NO_QUEUE = 39             /* no queue has the number; or it was dropped, or is the default queue */
 };
 
 /* The text of a status, in English, for logs. It is static memory; never NULL. */
@@ -214,7 +218,11 @@ static inline const char *nb_status_text(nb_status status)
                                          "the new object's version is not its sender's",
                                          "the interface of the new object is not named",
                                          "the new id is not null",
-                                         "the number is not free" };
+                                         "the number is not free",
+                                         "events wait in the queue",
+                                         "no thread has prepared to read",
+                                         "no thread reads",
+                                         "there is no such queue" };
     return status < sizeof texts / sizeof texts[0] ? texts[status] : "unknown status";
 }
 
@@ -522,11 +530,12 @@ nb_status nb_server_merge_interfaces(nb_server *place, const uint8_t *text, size
                                      const nb_argument_row *arguments, size_t argument_count,
                                      nb_extension_fault *fault);
 
-/* Writes 1 if malloc refused in the last call of the core, which is any call but received, sent, set_room and those
- * that only look; also where the call did its work all the same (a client that could not be told something is killed
- * then). Else 0. A call that answers NB_OUT_OF_MEMORY for its own copies leaves it. After nb_server_next_action refused
- * a request for a null (nb_server_refuse_nulls), this says only whether malloc refused as the request was finished, and
- * not whether it did as the client was told. */
+/* Writes 1 if malloc refused in the last call that asked the core, also where the call did its work all the same (a
+ * client that could not be told something is killed then). Else 0. A call that does not ask the core leaves it: the calls
+ * that only look, received and received_end, receive_failed, sent, set_room, refuse_nulls, next_gone, next_dropped; and
+ * any other that answers from what the host keeps, or answers NB_OUT_OF_MEMORY for its own copies. After
+ * nb_server_next_action refused a request for a null (nb_server_refuse_nulls), this says only whether malloc refused as
+ * the request was finished, and not whether it did as the client was told. */
 nb_status nb_server_memory_refused(nb_server *place, uint32_t *is_refused);
 
 /* Sets whether requests with a null that the table forbids are refused: they are if `is_on` is not 0. At first they are
@@ -535,10 +544,10 @@ nb_status nb_server_memory_refused(nb_server *place, uint32_t *is_refused);
  *
  *   - Its client is told by wl_display.error of its wl_display, with the code 1 (invalid_method) and a text as "Invalid
  *     null argument 2 in request thing.name.", in which arguments are counted from 1. It is killed, and a note says so.
- *     If there is no memory for the text, it is killed without being told.
+ *     If there is no memory for the text or the message, or no room in its buffer, it is killed without being told.
  *   - The request is finished. If it ends its sender, a note is made of that; what it made has no data, and no note.
- *     Without memory for that note the request stays open: the next nb_server_next_action refuses it again, and
- *     nb_server_finish_request answers NB_NOT_OPEN.
+ *     Without memory for that note the request stays open: the next nb_server_next_action refuses it again, or
+ *     hands it out if nulls are refused no longer. Before that nb_server_finish_request answers NB_NOT_OPEN.
  *   - Its descriptors come by nb_server_next_dropped once nb_server_cleanup has taken the client out. */
 nb_status nb_server_refuse_nulls(nb_server *place, uint32_t is_on);
 
@@ -865,7 +874,8 @@ nb_status nb_client_merge_interfaces(nb_client *place, const uint8_t *text, size
                                      const nb_argument_row *arguments, size_t argument_count,
                                      nb_extension_fault *fault);
 
-/* Writes 1 if malloc refused in the last call of the core, as nb_server_memory_refused, and else 0. */
+/* Writes 1 if malloc refused in the last call that asked the core, as nb_server_memory_refused, and else 0. It says nothing
+ * of the text for a null that nb_client_next_event refused (nb_client_refuse_nulls). */
 nb_status nb_client_memory_refused(nb_client *place, uint32_t *is_refused);
 
 /* Sets how far the buffers may grow, as nb_server_set_max_buffer_size. If `has_limit` is 0 there is no limit, as at
@@ -1033,6 +1043,191 @@ nb_status nb_client_next_freed(nb_client *place, nb_object_id *object);
  * destroyed, once nb_client_next_event has read the event; or, once the session has failed and no event is kept, any
  * that is left. Close it. Statuses: NB_WOULD_BLOCK (there is none). */
 nb_status nb_client_next_dropped(nb_client *place, int32_t *descriptor);
+
+/* ======== Who reads
+ *
+ * For a client's host whose threads share a connection. In libwayland-client these are wl_display_prepare_read_queue,
+ * wl_display_read_events and wl_display_cancel_read. Nothing here knows a session or a socket.
+ *
+ * A thread that wants to wait for events
+ *
+ *   1. calls nb_readers_prepare, and tells whether events wait in its queue (nb_queues_has_events). If some do, it is
+ *      refused, and handles these first;
+ *   2. looks at what else there is to do, flushes, and polls;
+ *   3. calls nb_readers_begin, and reads if `reads` of its turn is 1; after that it calls nb_readers_end. Else it waits
+ *      until nb_readers_ended answers another number than the `ended` of its turn. In place of nb_readers_begin it may
+ *      call nb_readers_cancel.
+ *
+ * All calls are made under one lock of yours, and so is the looking of a thread that waits. When a turn ends, by
+ * nb_readers_end or by a cancel whose `ends` is 1, wake all threads that wait. Then, whatever the threads do in
+ * whatever order, at most one reads at a time; and a thread that waits, waits for a turn that has ended, or that
+ * another thread which prepared or reads has still to end. No call takes memory. */
+
+/* Who reads: 24 bytes of yours, with zeros in them at first. Its fields are the library's. Numbers that no calls come
+ * to are refused by each call (NB_INVALID_INPUT). It is no place: it may be copied, and has no end. */
+typedef struct {
+    uint64_t prepared;   /* how many threads have prepared, and neither began nor cancelled */
+    uint64_t ended;      /* how many turns have ended */
+    uint32_t is_reading; /* whether a thread reads: any number but 0 is a yes */
+} nb_readers;
+
+/* What a thread that begins has to do: 16 bytes. */
+typedef struct {
+    uint64_t ended; /* if it waits: it goes on once another number of turns has ended. Else 0 */
+    uint32_t reads; /* 1: it reads. 0: it waits */
+} nb_turn;
+
+/* A thread is about to read. `has_events` is not 0 if events wait in its own queue; those in other queues do not
+ * matter. It has to call nb_readers_begin or nb_readers_cancel after NB_OK. Statuses: NB_INVALID_INPUT; NB_EVENTS_WAIT;
+ * NB_SERIALS_EXHAUSTED (no number is left for a turn, after some 2^64 turns). */
+nb_status nb_readers_prepare(nb_readers *readers, uint32_t has_events);
+
+/* A thread that prepared goes on: it reads if no other has prepared or reads, and else it waits. Statuses:
+ * NB_INVALID_INPUT; NB_NOT_PREPARED. */
+nb_status nb_readers_begin(nb_readers *readers, nb_turn *turn);
+
+/* The thread that reads has read what was there, or could not. The turn ends: wake all that wait. Statuses:
+ * NB_INVALID_INPUT; NB_NOT_READING. */
+nb_status nb_readers_end(nb_readers *readers);
+
+/* A thread that prepared does not read. `ends` is 1 if the turn ends by that, since no other has prepared or reads:
+ * wake all that wait. Else it is 0. Statuses: NB_INVALID_INPUT; NB_NOT_PREPARED. */
+nb_status nb_readers_cancel(nb_readers *readers, uint32_t *ends);
+
+/* How many turns have ended. Statuses: NB_INVALID_INPUT. */
+nb_status nb_readers_ended(const nb_readers *readers, uint64_t *ended);
+
+/* ======== Queues of events
+ *
+ * For a client's host that hands events out later than it reads them, in several queues, or to several threads: in
+ * which queue each event waits, what is handed out, and when what you keep of an object can be freed. In
+ * libwayland-client these are wl_event_queue and the references of proxies. The queues stand beside the session: they
+ * know no messages, and make no call of it.
+ *
+ *   1. Add each object of the program by nb_queues_add. It has a *slot*, by which you find what you keep of it.
+ *   2. Put each event that the session handed out by nb_queues_put, once you have made of it what you need. Its content
+ *      is a number of yours, often a pointer to that. It waits in the queue that its sender has then.
+ *   3. To dispatch a queue, call nb_queues_next_of until it answers NB_WOULD_BLOCK. An event whose outcome is NB_HANDED
+ *      is *in hand* until nb_queues_finish ends it: call its listener in between. An object among its arguments that
+ *      nb_queues_argument does not answer is null by now. Listeners may dispatch in turn, and several threads may: so
+ *      several events may be in hand, and are finished in any order.
+ *   4. An event with another outcome is dropped: it is yours at once, and no listener is called. Close its descriptors,
+ *      and destroy the object that it made.
+ *   5. After nb_queues_finish, nb_queues_destroy and a dropped event, call nb_queues_next_unused until it answers
+ *      NB_WOULD_BLOCK, and free what you keep of each object that it tells. No event that waits or is in hand names it,
+ *      and none ever will: let this be the one place where you free any.
+ *
+ * A queue's number and a ticket are never used again. A slot is, once nb_queues_next_unused has told it: it is no id.
+ * Queue 0, the default queue, is there from the start and is never dropped.
+ *
+ * The place of queues is as that of a session: NB_EMPTY at first, used by one thread at a time under a lock of yours,
+ * and never copied while it is in use. A refusal changes nothing. But for nb_queues_start, nb_queues_new_queue,
+ * nb_queues_add, nb_queues_put and nb_queues_next_of no call takes memory; the last takes some only for an event that
+ * it hands out. */
+
+/* The place of queues. Its fields are the library's. */
+typedef struct {
+    uint64_t state;
+    void *queues;
+} nb_queues;
+
+/* What becomes of an event that leaves its queue. If several reasons to drop it hold, it is the first of them. */
+enum {
+    NB_HANDED = 0,          /* it is handed out */
+    NB_SESSION_FAILED = 1,  /* dropped: nb_queues_fail was called */
+    NB_QUEUE_DROPPED = 2,   /* dropped: so was the queue in which it waited */
+    NB_SENDER_DESTROYED = 3 /* dropped: the object that it is for was destroyed */
+};
+
+/* An event that left its queue: 40 bytes. */
+typedef struct {
+    uint64_t ticket;  /* by which it is finished, if it is handed out; else 0. The first ticket is 0, too */
+    uint64_t content; /* yours, as it was put */
+    size_t sender;    /* the slot of the object that it is for */
+    size_t arguments; /* how many objects are among its arguments */
+    uint32_t outcome; /* NB_HANDED, or why it is dropped */
+} nb_queued_event;
+
+/* What has become of the object in a slot. */
+enum {
+    NB_SLOT_FREE = 0,     /* the slot has none */
+    NB_SLOT_ALIVE = 1,    /* it is not destroyed */
+    NB_SLOT_DESTROYED = 2 /* it was destroyed, and nb_queues_next_unused has not told it yet */
+};
+
+/* What a slot says of its object: 16 bytes. */
+typedef struct {
+    size_t queue;  /* in which its events wait that are still to come; 0 if the slot has no object */
+    uint32_t fate; /* NB_SLOT_FREE, NB_SLOT_ALIVE or NB_SLOT_DESTROYED */
+} nb_queued_object;
+
+/* Makes queues in the place: the default queue alone, and no object. Statuses: NB_IN_USE; NB_OUT_OF_MEMORY. */
+nb_status nb_queues_start(nb_queues *place);
+
+/* Ends the queues, and frees all that they have. The contents of events that wait or are in hand are forgotten, and so
+ * are objects that were not told: so before the end call nb_queues_fail, empty each queue by nb_queues_next_of, and
+ * free what you keep. The place is empty then. */
+nb_status nb_queues_end(nb_queues *place);
+
+/* Makes a queue. The first has the number 1, and each one more than the one before. Statuses: NB_OUT_OF_MEMORY. */
+nb_status nb_queues_new_queue(nb_queues *place, size_t *queue);
+
+/* Drops a queue. Its objects have the default queue from now on. Its events come out of nb_queues_next_of as dropped,
+ * so empty it. Statuses: NB_NO_QUEUE (no such queue was made, or it was dropped before; or it is the default queue). */
+nb_status nb_queues_drop_queue(nb_queues *place, size_t queue);
+
+/* Whether an event waits in the queue: 1 or 0. In one that was not made none does. */
+nb_status nb_queues_has_events(nb_queues *place, size_t queue, uint32_t *has_events);
+
+/* The session has failed: nb_client_next_event answered NB_FAILED, or you ended it. No event is handed out any more. */
+nb_status nb_queues_fail(nb_queues *place);
+
+/* Adds an object, whose events wait in this queue, and answers its slot. A slot that is free is used before a new one
+ * is made, and slots count from 0: so an array by slots needs as many places as there were objects at once. Statuses:
+ * NB_NO_QUEUE (no such queue was made, or it was dropped); NB_OUT_OF_MEMORY. */
+nb_status nb_queues_add(nb_queues *place, size_t queue, size_t *object);
+
+/* Events of the object that are still to come wait in this queue; those that wait stay where they are. Statuses:
+ * NB_INVALID_ID (the slot has no object, or one that was destroyed); NB_NO_QUEUE (as for nb_queues_add). */
+nb_status nb_queues_set_queue(nb_queues *place, size_t object, size_t queue);
+
+/* The program destroys the object: events for it are dropped from now on, and it is null among arguments. Statuses:
+ * NB_INVALID_ID (the slot has no object, or one that was destroyed before). */
+nb_status nb_queues_destroy(nb_queues *place, size_t object);
+
+/* What the slot says of its object, of any number of a slot. */
+nb_status nb_queues_object(nb_queues *place, size_t slot, nb_queued_object *object);
+
+/* An object that is unused: it was destroyed, and no event that waits or is in hand names it. Each is told once, and
+ * its slot is free from now on: free what you keep of it. Statuses: NB_WOULD_BLOCK (there is none). */
+nb_status nb_queues_next_unused(nb_queues *place, size_t *object);
+
+/* Puts an event for this object into the queue that the object has now, behind those that wait there. `arguments` are
+ * the slots of the objects among its arguments, in their order, also of one that it makes; leave out those that are
+ * null, or were destroyed. The list is copied. Statuses: NB_OUT_OF_MEMORY (also if one object were named more than 2^64
+ * - 1 times); NB_INVALID_ID (the sender or an argument is a slot without an object, or with one that was destroyed). */
+nb_status nb_queues_put(nb_queues *place, size_t sender, const size_t *arguments, size_t argument_count,
+                        uint64_t content);
+
+/* Takes the first event out of the queue, also of one that was dropped. It is handed out or dropped, as `outcome` says.
+ *
+ * Statuses: NB_NO_QUEUE (no such queue was made); NB_WOULD_BLOCK (no event waits in it); and of an event that is to be
+ * handed out, which waits then as before: NB_SERIALS_EXHAUSTED (each of the 2^64 - 1 tickets was given out);
+ * NB_OUT_OF_MEMORY. */
+nb_status nb_queues_next_of(nb_queues *place, size_t queue, nb_queued_event *event);
+
+/* The event that is in hand with this ticket, as nb_queues_next_of answered it. It takes time that grows with the
+ * number of events in hand, as do the next two calls. Statuses: NB_INVALID_ID (none is). */
+nb_status nb_queues_event(nb_queues *place, uint64_t ticket, nb_queued_event *event);
+
+/* The slot of an object among the arguments of the event that is in hand with this ticket, by its place among those
+ * that were put, from 0 on. Statuses: NB_INVALID_ID (it was destroyed, so that the argument is null now; or no event is
+ * in hand with the ticket, or it has no argument at the place). */
+nb_status nb_queues_argument(nb_queues *place, uint64_t ticket, size_t index, size_t *object);
+
+/* Ends the event that is in hand with this ticket, and gives its content back: its objects may become unused by that.
+ * Statuses: NB_INVALID_ID (no event is in hand with the ticket). */
+nb_status nb_queues_finish(nb_queues *place, uint64_t ticket, uint64_t *content);
 
 /* ======== Shorter to write */
 

@@ -113,11 +113,43 @@ static void client_calls(void)
     HOLDS(number == 7 && data == 7 && session.state == 0);
 }
 
+static void queue_calls(void)
+{
+    nb_queues queues = NB_EMPTY;
+    nb_queued_event event = { 7, 7, 7, 7, 7 };
+    nb_queued_object object = { 7, 7 };
+    size_t slot = 7;
+    uint64_t content = 7;
+    uint32_t flag = 7;
+    for (int round = 0; round < 2; round++) {
+        NONE(nb_queues_end(&queues));
+        NONE(nb_queues_new_queue(&queues, &slot));
+        NONE(nb_queues_drop_queue(&queues, 1));
+        NONE(nb_queues_has_events(&queues, 0, &flag));
+        NONE(nb_queues_fail(&queues));
+        NONE(nb_queues_add(&queues, 0, &slot));
+        NONE(nb_queues_set_queue(&queues, 0, 0));
+        NONE(nb_queues_destroy(&queues, 0));
+        NONE(nb_queues_object(&queues, 0, &object));
+        NONE(nb_queues_next_unused(&queues, &slot));
+        NONE(nb_queues_put(&queues, 0, &slot, 1, 9));
+        NONE(nb_queues_next_of(&queues, 0, &event));
+        NONE(nb_queues_event(&queues, 0, &event));
+        NONE(nb_queues_argument(&queues, 0, 0, &slot));
+        NONE(nb_queues_finish(&queues, 0, &content));
+        HOLDS(slot == 7 && content == 7 && flag == 7 && event.outcome == 7 && object.queue == 7 && queues.state == 0);
+        OK(nb_queues_start(&queues));
+        IS(nb_queues_start(&queues), NB_IN_USE);
+        OK(nb_queues_end(&queues));
+    }
+}
+
 int main(void)
 {
     const nb_interface_row wrong = { 0, 99, 1, 0, 0 };
     server_calls();
     client_calls();
+    queue_calls();
     IS(nb_server_new(&server, bytes, 4, &wrong, 1, NULL, 0, NULL, 0, &fault), NB_BAD_TABLE);
     IS(nb_client_connect(&session, bytes, 4, &wrong, 1, NULL, 0, NULL, 0, &fault), NB_BAD_TABLE);
     server_calls();

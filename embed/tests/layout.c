@@ -105,6 +105,21 @@ AT(nb_error, object_number, 16);
 AT(nb_error, message_length, 20);
 AT(nb_error, interface_length, 24);
 
+SIZE(nb_queues, 16);
+AT(nb_queues, queues, 8);
+SIZE(nb_queued_event, 40);
+AT(nb_queued_event, content, 8);
+AT(nb_queued_event, sender, 16);
+AT(nb_queued_event, arguments, 24);
+AT(nb_queued_event, outcome, 32);
+SIZE(nb_queued_object, 16);
+AT(nb_queued_object, fate, 8);
+SIZE(nb_readers, 24);
+AT(nb_readers, ended, 8);
+AT(nb_readers, is_reading, 16);
+SIZE(nb_turn, 16);
+AT(nb_turn, reads, 8);
+
 /* An action whose fields have different numbers: if one stood elsewhere in the library, another number would be here.
  */
 int main(void)

@@ -1,33 +1,8 @@
 /* Each allocation of a run is refused in turn: the run goes to its end, no memory is lost (the address sanitizer
  * tells), and a session that is told so afterwards still ends. Linked with -Wl,--wrap=malloc,--wrap=realloc. */
+#include "refusing.h"
 #include "rows.h"
 #include "tests.h"
-
-static long left, asked;
-static int is_refused;
-
-void *__real_malloc(size_t);
-void *__real_realloc(void *, size_t);
-void *__wrap_malloc(size_t size);
-void *__wrap_realloc(void *at, size_t size);
-
-static int refuses(void)
-{
-    asked++;
-    if (left == 0 || --left > 0)
-        return 0;
-    is_refused = 1;
-    return 1;
-}
-
-void *__wrap_malloc(size_t size)
-{
-    return refuses() ? NULL : __real_malloc(size);
-}
-void *__wrap_realloc(void *at, size_t size)
-{
-    return refuses() ? NULL : __real_realloc(at, size);
-}
 
 static nb_client session;
 static long statuses[64];

@@ -1,4 +1,5 @@
-//! The sessions as a host drives them: a test is rows of acts, and of what each act tells. One function owns the session.
+//! The sessions, and queues of events, as a host drives them: a test is rows of acts, and of what each act tells. One function owns
+//! the session.
 
 mod acts;
 mod args;
@@ -6,6 +7,7 @@ mod chosen;
 mod client;
 mod client_acts;
 mod drills;
+mod queues;
 mod rows;
 mod server;
 mod session;

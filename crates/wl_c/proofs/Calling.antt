@@ -10,7 +10,7 @@ use Rattle.wl_host.specs.declared.rows.TableFault.{TableFault}
 use Rattle.wl_host.specs.declared.status.Status.{Status}
 
 -- what holds of `x` and `y` holds of what is in the place
-moved : {S : Type 0} (P : S → S → Type 0) {before after : Option S} {w x y s t : S} →
+pub moved : {S : Type 0} (P : S → S → Type 0) {before after : Option S} {w x y s t : S} →
     before ≡ Some w → x ≡ w → after ≡ Some y → before ≡ Some s → after ≡ Some t → P x y → P s t
 moved P {x = x} {y = y} {s = s} {t = t} took lent put is_s is_t holds =
     let at_s : x ≡ s = cc in let at_t : y ≡ t = cc in

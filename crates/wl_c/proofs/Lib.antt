@@ -1,3 +1,4 @@
+pub mod Answering
 pub mod Calling
 pub mod Crossing
 pub mod Machine

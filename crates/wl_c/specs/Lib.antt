@@ -1,3 +1,4 @@
 pub mod Calls
 pub mod Flags
 pub mod Held
+pub mod Queues

@@ -2,6 +2,7 @@
 
 ghost use Rattle.std.specs.Prelude.{◌≡◌, ◌≢◌};
 ghost use Rattle.wl_c.specs.Calls.{Written, WrittenExtension, WrittenFault, fault_code, flagged};
+ghost use Rattle.wl_c.specs.Queues.{number_of};
 
 use wl_host::{ExtensionFault, Status, TableFault, fault};
 
@@ -72,5 +73,15 @@ pub fn write_extended(answer: Result<(), ExtensionFault>, out: &mut ExtensionFau
                 Status::BadTable.code()
             }
         }
+    }
+}
+
+/// The number of what a call answers that writes nothing.
+pub fn number_of(answer: Result<(), Status>) -> u32
+    ensures { result ≡ number_of answer }
+{
+    match answer {
+        Ok(()) => Status::Ok.code(),
+        Err(status) => status.code(),
     }
 }

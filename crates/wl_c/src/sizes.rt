@@ -3,12 +3,14 @@
 //! C asserts the same numbers: `embed/check-header` compares each struct's size and each field's place.
 
 use crate::client::ClientPlace;
+use crate::queues::QueuesPlace;
 use crate::server::ServerPlace;
 use std::mem::size_of;
 use wl_host::{
     ArgumentRow, Counts, ExtensionFault, FlatAction, FlatArgument, FlatClientId, FlatError,
     FlatEvent, FlatGlobalId, FlatGlobalInfo, FlatHeldObject, FlatNote, FlatObjectId,
-    FlatObjectInfo, FlatRequest, Gone, InterfaceRow, MessageRow, TableFault,
+    FlatObjectInfo, FlatQueuedEvent, FlatQueuedObject, FlatReaders, FlatRequest, FlatTurn, Gone,
+    InterfaceRow, MessageRow, TableFault,
 };
 
 const _: () = prove!(size_of::<ServerPlace>() == 16);
@@ -52,3 +54,13 @@ const _: () = prove!(size_of::<FlatError>() == 28);
 const _: () = prove!(size_of::<Counts>() == 8);
 
 const _: () = prove!(size_of::<Gone>() == 32);
+
+const _: () = prove!(size_of::<QueuesPlace>() == 16);
+
+const _: () = prove!(size_of::<FlatQueuedEvent>() == 40);
+
+const _: () = prove!(size_of::<FlatQueuedObject>() == 16);
+
+const _: () = prove!(size_of::<FlatReaders>() == 24);
+
+const _: () = prove!(size_of::<FlatTurn>() == 16);

@@ -4,6 +4,7 @@
 //! thread, or by an atomic. The functions here are called by nobody. That they are proved is what this file is for.
 
 use crate::client::ClientPlace;
+use crate::queues::QueuesPlace;
 use crate::server::ServerPlace;
 use std::marker::Send;
 
@@ -18,5 +19,10 @@ pub fn move_server(place: ServerPlace) -> ServerPlace {
 
 /// A client's session goes to another thread.
 pub fn move_client(place: ClientPlace) -> ClientPlace {
+    to_another_thread(place)
+}
+
+/// Queues of events go to another thread.
+pub fn move_queues(place: QueuesPlace) -> QueuesPlace {
     to_another_thread(place)
 }

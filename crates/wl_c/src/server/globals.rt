@@ -111,7 +111,7 @@ pub extern "C" fn nb_server_remove_global(
     status.code()
 }
 
-/// Keeps the names of globals, or no longer.
+/// Sets whether the names of globals are kept.
 #[unsafe(no_mangle)]
 pub extern "C" fn nb_server_keep_global_names(
     alloc: Global,

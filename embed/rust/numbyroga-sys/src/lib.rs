@@ -1,4 +1,5 @@
-//! The declarations of `numbyroga.h`: a server's and a client's session of the Wayland protocol, proved, as plain calls.
+//! The declarations of `numbyroga.h`: a server's and a client's session of the Wayland protocol, and queues of events beside it, proved,
+//! as plain calls.
 //!
 //! Names are those of the header, which says what each call does. A call whose pointers all name one value takes
 //! references, and is safe to call: a reference keeps the header's rules about memory, and `&mut` to a place keeps two
@@ -19,9 +20,9 @@ use core::ffi::c_void;
 use core::mem::{align_of, offset_of, size_of};
 use core::ptr;
 
-/// Declares the place of a session.
+/// Declares a place, with the name of its pointer.
 macro_rules! place {
-    ($(#[$doc:meta])* $name:ident) => {
+    ($(#[$doc:meta])* $name:ident: $pointer:ident) => {
         $(#[$doc])*
         ///
         /// It is empty at first, and may be moved. It is never copied, and dropping it frees nothing.
@@ -29,12 +30,12 @@ macro_rules! place {
         #[derive(Debug)]
         pub struct $name {
             state: u64,
-            session: *mut c_void,
+            $pointer: *mut c_void,
         }
 
         impl $name {
-            /// A place without a session, `NB_EMPTY`.
-            pub const EMPTY: Self = Self { state: 0, session: ptr::null_mut() };
+            /// An empty place, `NB_EMPTY`.
+            pub const EMPTY: Self = Self { state: 0, $pointer: ptr::null_mut() };
         }
 
         impl Default for $name {
@@ -50,7 +51,7 @@ macro_rules! place {
         // SAFETY: nothing can be done with a shared reference to a place.
         unsafe impl Sync for $name {}
 
-        layout!($name: 16, 8 { state: 0, session: 8 });
+        layout!($name: 16, 8 { state: 0, $pointer: 8 });
     };
 }
 
@@ -85,12 +86,17 @@ macro_rules! plain {
 
 place! {
     /// The place of a server's session.
-    nb_server
+    nb_server: session
 }
 
 place! {
     /// The place of a client's session.
-    nb_client
+    nb_client: session
+}
+
+place! {
+    /// The place of queues of events.
+    nb_queues: queues
 }
 
 /// What a call answers: one of the values below.
@@ -168,6 +174,14 @@ pub const NB_MISSING_CHILD: nb_status = 33;
 pub const NB_NOT_PLACEHOLDER: nb_status = 34;
 /// The number that the host chose for an object is not free.
 pub const NB_NOT_FREE: nb_status = 35;
+/// Events wait in the thread's queue: it handles these first.
+pub const NB_EVENTS_WAIT: nb_status = 36;
+/// No thread has prepared to read.
+pub const NB_NOT_PREPARED: nb_status = 37;
+/// No thread reads.
+pub const NB_NOT_READING: nb_status = 38;
+/// No queue has the number; or it was dropped, or is the default queue.
+pub const NB_NO_QUEUE: nb_status = 39;
 
 /// As many descriptors wait on each side of a connection, and are in one receive or send.
 pub const NB_MOST_DESCRIPTORS: usize = 28;
@@ -544,6 +558,70 @@ plain! {
         message_length: u32 = 20,
         /// How many bytes the name of the object's interface has. It stands behind the message.
         interface_length: u32 = 24,
+    }
+}
+
+/// An event of a queue is handed out.
+pub const NB_HANDED: u32 = 0;
+/// It is dropped, since the session failed.
+pub const NB_SESSION_FAILED: u32 = 1;
+/// It is dropped, since its queue was.
+pub const NB_QUEUE_DROPPED: u32 = 2;
+/// It is dropped, since the object that it is for was destroyed.
+pub const NB_SENDER_DESTROYED: u32 = 3;
+
+/// A slot has no object.
+pub const NB_SLOT_FREE: u32 = 0;
+/// Its object is not destroyed.
+pub const NB_SLOT_ALIVE: u32 = 1;
+/// Its object was destroyed, and was not told unused yet.
+pub const NB_SLOT_DESTROYED: u32 = 2;
+
+plain! {
+    /// Which of several threads reads; zeros at first. Its fields are the library's.
+    nb_readers: 24, 8 {
+        /// How many threads have prepared, and neither began nor cancelled.
+        prepared: u64 = 0,
+        /// How many turns have ended.
+        ended: u64 = 8,
+        /// Not 0 if a thread reads.
+        is_reading: u32 = 16,
+    }
+}
+
+plain! {
+    /// What a thread that begins has to do.
+    nb_turn: 16, 8 {
+        /// If it waits: it goes on once another number of turns has ended. Else 0.
+        ended: u64 = 0,
+        /// 1 if it reads, and 0 if it waits.
+        reads: u32 = 8,
+    }
+}
+
+plain! {
+    /// An event that left its queue.
+    nb_queued_event: 40, 8 {
+        /// By which it is finished, if it is handed out; else 0.
+        ticket: u64 = 0,
+        /// The host's, as it was put.
+        content: u64 = 8,
+        /// The slot of the object that it is for.
+        sender: usize = 16,
+        /// How many objects are among its arguments.
+        arguments: usize = 24,
+        /// [`NB_HANDED`], or why it is dropped.
+        outcome: u32 = 32,
+    }
+}
+
+plain! {
+    /// What a slot says of its object.
+    nb_queued_object: 16, 8 {
+        /// In which its events wait that are still to come.
+        queue: usize = 0,
+        /// [`NB_SLOT_FREE`], [`NB_SLOT_ALIVE`] or [`NB_SLOT_DESTROYED`].
+        fate: u32 = 8,
     }
 }
 
@@ -1045,4 +1123,84 @@ unsafe extern "C" {
         -> nb_status;
     /// The next descriptor that no call will hand out.
     pub safe fn nb_client_next_dropped(place: &mut nb_client, descriptor: &mut i32) -> nb_status;
+
+    /// A thread is about to read.
+    pub safe fn nb_readers_prepare(readers: &mut nb_readers, has_events: u32) -> nb_status;
+    /// A thread that prepared goes on.
+    pub safe fn nb_readers_begin(readers: &mut nb_readers, turn: &mut nb_turn) -> nb_status;
+    /// The thread that reads has read.
+    pub safe fn nb_readers_end(readers: &mut nb_readers) -> nb_status;
+    /// A thread that prepared does not read.
+    pub safe fn nb_readers_cancel(readers: &mut nb_readers, ends: &mut u32) -> nb_status;
+    /// How many turns have ended.
+    pub safe fn nb_readers_ended(readers: &nb_readers, ended: &mut u64) -> nb_status;
+
+    /// Makes queues of events.
+    pub safe fn nb_queues_start(place: &mut nb_queues) -> nb_status;
+    /// Ends the queues.
+    pub safe fn nb_queues_end(place: &mut nb_queues) -> nb_status;
+    /// Makes a queue.
+    pub safe fn nb_queues_new_queue(place: &mut nb_queues, queue: &mut usize) -> nb_status;
+    /// Drops a queue.
+    pub safe fn nb_queues_drop_queue(place: &mut nb_queues, queue: usize) -> nb_status;
+    /// Whether an event waits in the queue.
+    pub safe fn nb_queues_has_events(
+        place: &mut nb_queues,
+        queue: usize,
+        has_events: &mut u32,
+    ) -> nb_status;
+    /// The session has failed: no event is handed out any more.
+    pub safe fn nb_queues_fail(place: &mut nb_queues) -> nb_status;
+    /// Adds an object, whose events wait in this queue.
+    pub safe fn nb_queues_add(place: &mut nb_queues, queue: usize, object: &mut usize)
+        -> nb_status;
+    /// Gives an object another queue, for its later events.
+    pub safe fn nb_queues_set_queue(
+        place: &mut nb_queues,
+        object: usize,
+        queue: usize,
+    ) -> nb_status;
+    /// Says that the object is destroyed.
+    pub safe fn nb_queues_destroy(place: &mut nb_queues, object: usize) -> nb_status;
+    /// What a slot says of its object.
+    pub safe fn nb_queues_object(
+        place: &mut nb_queues,
+        slot: usize,
+        object: &mut nb_queued_object,
+    ) -> nb_status;
+    /// An object that no event names any more.
+    pub safe fn nb_queues_next_unused(place: &mut nb_queues, object: &mut usize) -> nb_status;
+    /// Puts an event into the queue of its sender.
+    pub fn nb_queues_put(
+        place: &mut nb_queues,
+        sender: usize,
+        arguments: *const usize,
+        argument_count: usize,
+        content: u64,
+    ) -> nb_status;
+    /// Takes the first event out of a queue.
+    pub safe fn nb_queues_next_of(
+        place: &mut nb_queues,
+        queue: usize,
+        event: &mut nb_queued_event,
+    ) -> nb_status;
+    /// The event that is in hand with this ticket.
+    pub safe fn nb_queues_event(
+        place: &mut nb_queues,
+        ticket: u64,
+        event: &mut nb_queued_event,
+    ) -> nb_status;
+    /// An object among the arguments of the event in hand.
+    pub safe fn nb_queues_argument(
+        place: &mut nb_queues,
+        ticket: u64,
+        index: usize,
+        object: &mut usize,
+    ) -> nb_status;
+    /// Ends the event in hand.
+    pub safe fn nb_queues_finish(
+        place: &mut nb_queues,
+        ticket: u64,
+        content: &mut u64,
+    ) -> nb_status;
 }

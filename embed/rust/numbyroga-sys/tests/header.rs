@@ -59,11 +59,14 @@ fn layouts() -> Vec<Layout> {
     let mut layouts: Vec<Layout> = Vec::new();
     let mut is_in_struct = false;
     for line in RUST.lines().map(str::trim) {
-        if line == "nb_server" || line == "nb_client" {
+        let place = line.split_once(": ").filter(|(name, pointer)| {
+            name.starts_with("nb_") && pointer.bytes().all(|it| it.is_ascii_lowercase())
+        });
+        if let Some((name, pointer)) = place {
             layouts.push(Layout {
-                name: line,
+                name,
                 size: "16",
-                fields: vec![("state", "0"), ("session", "8")],
+                fields: vec![("state", "0"), (pointer, "8")],
             });
         } else if let Some((name, rest)) = line
             .strip_suffix('{')
