@@ -1,23 +1,22 @@
-/* What the files of libwayland-client.so.0 share. Below it is a client's session of numbyroga.h.
+/* What the files of libwayland-client.so.0 share. Below it are a client's session of numbyroga.h, and the queues and
+ * readers there.
  *
- * One lock of a display lies over its session, its queues, its numbers and the fields of its proxies, but for those
- * that a program sets and reads by itself (user data, tag). Functions whose name ends in `_locked` are called with it,
- * those that call listeners never hold it.
+ * One lock of a display lies over its session, its queues, its readers, its numbers and the fields of its proxies, but
+ * for those that a program sets and reads by itself (user data, tag). Functions whose name ends in `_locked` are called
+ * with it, those that call listeners never hold it.
  *
  * Who may free what:
  *
- *   - a proxy, wrappers too: free_unused_locked in proxy.c, once queues.h says that it is unused;
- *   - an event: event_end_locked in event.c, after it was in hand; and put_event_locked, if it never came into a queue;
- *   - a queue: release_queue in queue.c, once it is dropped and nobody dispatches it;
- *   - a display: wl_display_disconnect in connection.c. What outlives it belongs to `nowhere` from then on. */
+ *   - a proxy, wrappers too: free_unused_locked in proxy.c, once nb_queues_next_unused tells that it is unused;
+ *   - an event: event_end_locked in event.c, once it has left its queue; and put_locked, if it never came into one;
+ *   - a queue: wl_event_queue_destroy in queue.c. Who dispatches it has its number alone, which is never used again;
+ *   - a display: unlock in connection.c, once it is closed and the program has no proxy or queue of it any more. */
 #ifndef CLIENT_H
 #define CLIENT_H
 
 #include "../common/common.h"
 #include "../common/table.h"
 #include "numbers.h"
-#include "queues.h"
-#include "readers.h"
 #include <numbyroga.h>
 #include <pthread.h>
 #include <time.h>
@@ -29,8 +28,8 @@
 struct wl_proxy {
     struct wl_object object; /* its id is 0 as long as no request has made it */
     uint32_t version;
-    struct queued_object queued;
     struct wl_display *display;
+    size_t slot;     /* in the display's queues */
     uint64_t serial; /* of the session's id */
     uint32_t row;    /* of its interface in the session's table */
     bool is_wrapper;
@@ -40,16 +39,15 @@ struct wl_proxy {
 };
 
 struct wl_event_queue {
-    struct queue queue;
+    struct wl_list link; /* among those that the program has made of its display */
     struct wl_display *display;
-    char *name;           /* or NULL */
-    uint32_t dispatchers; /* threads, and listeners below each other, that dispatch it */
-    bool is_dropped;
+    size_t number; /* in the display's queues */
+    char *name;    /* or NULL */
 };
 
-static inline struct wl_proxy *proxy_of(struct queued_object *object)
+static inline struct wl_proxy *proxy_of(struct wl_object *object)
 {
-    return CONTAINER(object, struct wl_proxy, queued);
+    return CONTAINER(object, struct wl_proxy, object);
 }
 
 static inline nb_object_id session_id(const struct wl_proxy *proxy)
@@ -70,18 +68,15 @@ static inline void set_session_id(struct wl_proxy *proxy, const nb_object_id *id
 
 /* ======== Events */
 
-enum event_kind {
-    EVENT_OF_OBJECT,
-    EVENT_OF_ERROR /* wl_display.error */
-};
-
-/* An event that was read. It is one block of memory with all that its arguments name. */
+/* An event that was read: an error of the display if it has no message. It is one block of memory with all that its
+ * arguments name but the proxies. In the queues it is the content, and names its sender and those proxies. */
 struct event {
-    struct queued_event queued; /* its objects: the sender, and those among the arguments in their order */
-    enum event_kind kind;
-    bool is_told; /* the program has its descriptors and its new object */
-    uint32_t opcode, count;
+    uint64_t ticket; /* if it is in hand */
+    bool is_dropped; /* it is not: no listener may see it */
+    bool is_told;    /* the program has its descriptors and its new object */
+    struct wl_proxy *sender;
     const struct wl_message *message;
+    uint32_t opcode, count;
     struct event_error {
         uint32_t code, number;
         const char *text;
@@ -90,36 +85,31 @@ struct event {
     union wl_argument arguments[];
 };
 
-static inline struct wl_proxy *sender_of(const struct event *event)
-{
-    return proxy_of(event->queued.objects[0]);
-}
-
 /* ======== Displays */
 
-/* Bytes that came and are no whole message yet, and descriptors that no message has taken yet. `lent` are those that
- * the session has, and will give back with their events: if it cannot, for want of memory, they are closed with the
- * display. */
+/* Bytes that came and are no whole message yet, and descriptors that no message has taken yet. Those that the session
+ * has come back with their events, or once it has ended. */
 struct input {
     uint8_t *bytes;
     size_t count;
     int32_t *descriptors;
     size_t descriptor_count, descriptor_room;
-    int32_t lent[NB_MOST_DESCRIPTORS];
-    uint32_t lent_count;
 };
 
 struct wl_display {
     struct wl_proxy proxy; /* object 1 */
     nb_client session;
+    nb_queues queues;
+    nb_readers readers;
     pthread_mutex_t lock;
     pthread_cond_t was_read;
-    struct readers readers;
-    struct queues queues;
     struct wl_event_queue default_queue;
-    struct wl_event_queue own_queue; /* of the errors of the display itself: they are handed out first */
-    int deleted;                     /* how often the server has freed a number since events were dispatched */
-    struct numbers numbers;
+    struct wl_list made_queues; /* the others that the program has */
+    size_t own_queue;           /* of the errors of the display itself: they are handed out first */
+    size_t errors;              /* the slot that they are for */
+    struct proxies slots;       /* the program's proxies, by their slots */
+    struct proxies numbers[2];  /* those of the client's numbers, and of the server's */
+    int deleted;                /* how often the server has freed a number since events were dispatched */
     struct table table;
     struct input input;
     uint8_t *text; /* of an event: its strings and arrays */
@@ -131,14 +121,12 @@ struct wl_display {
     int socket;
     int last_error;  /* what the program is told */
     bool has_failed; /* the session has an error */
+    bool is_closed;  /* wl_display_disconnect: only what is left of the program's proxies and queues is there */
     struct {
         uint32_t code, id;
         const struct wl_interface *interface;
     } protocol_error;
 };
-
-/* The display of proxies and queues whose own display is gone. It has failed, and no session. */
-extern struct wl_display nowhere;
 
 /* Whether WAYLAND_DEBUG asks for a log. */
 extern bool is_logging;

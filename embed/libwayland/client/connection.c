@@ -6,7 +6,6 @@
 #include "../common/print.h"
 #include "event.h"
 #include "proxy.h"
-#include "queue.h"
 #include "reading.h"
 #include <errno.h>
 #include <fcntl.h>
@@ -110,19 +109,14 @@ EXPORT void wl_display_set_max_buffer_size(struct wl_display *display, size_t ma
 
 /* ======== Errors */
 
-void end_reading_locked(struct wl_display *display)
-{
-    readers_end(&display->readers);
-    pthread_cond_broadcast(&display->was_read);
-}
-
 void fail_locked(struct wl_display *display, int error)
 {
     if (display->last_error != 0)
         return;
     display->last_error = error != 0 ? error : EFAULT;
     end_session_locked(display);
-    end_reading_locked(display);
+    nb_queues_fail(&display->queues);
+    pthread_cond_broadcast(&display->was_read);
 }
 
 static int errno_of_code(uint32_t code)
@@ -136,23 +130,23 @@ static int errno_of_code(uint32_t code)
     }
 }
 
-void take_error_locked(struct wl_display *display, uint32_t code, uint32_t number, const char *text)
+void take_error_locked(struct wl_display *display, const struct event_error *error)
 {
-    struct wl_proxy *proxy = numbers_proxy(&display->numbers, number);
+    struct wl_proxy *proxy = numbers_proxy(display->numbers, error->number);
     if (is_logging) {
-        const union wl_argument arguments[] = { { .o = proxy ? &proxy->object : NULL }, { .u = code }, { .s = text } };
+        const union wl_argument arguments[] = { { .o = proxy ? &proxy->object : NULL },
+                                                { .u = error->code },
+                                                { .s = error->text } };
         print_message("", &display->proxy.object, &wl_display_interface.events[0], arguments, true);
     }
     if (proxy)
-        log_line("%s@%u: error %u: %s\n", proxy->object.interface->name, number, code, text);
+        log_line("%s@%u: error %u: %s\n", proxy->object.interface->name, error->number, error->code, error->text);
     else
-        log_line("[destroyed object]: error %u: %s\n", code, text);
-    if (display->last_error != 0)
-        return;
-    display->protocol_error.code = code;
-    display->protocol_error.id = proxy ? number : 0;
+        log_line("[destroyed object]: error %u: %s\n", error->code, error->text);
+    display->protocol_error.code = error->code;
+    display->protocol_error.id = proxy ? error->number : 0;
     display->protocol_error.interface = proxy ? proxy->object.interface : NULL;
-    fail_locked(display, proxy == &display->proxy ? errno_of_code(code) : EPROTO);
+    fail_locked(display, proxy == &display->proxy ? errno_of_code(error->code) : EPROTO);
 }
 
 EXPORT int wl_display_get_error(struct wl_display *display)
@@ -253,16 +247,17 @@ static nb_status merge(void *session, const nb_table *rows, nb_extension_fault *
 /* Its events are handled here. A program that looks sees a listener, and cannot add another one. */
 static const struct wl_display_listener own_listener;
 
-/* Its own proxy is freed with the display, and never alone: so it is named once more than by events. */
-static void begin_queues(struct wl_display *display)
+/* Neither its own proxy nor the object of its errors is among `slots`: they go with the display. */
+static bool begin_queues(struct wl_display *display)
 {
-    queues_begin(&display->queues, &display->default_queue.queue);
-    queues_add(&display->queues, &display->own_queue.queue);
-    queues_add_object(&display->default_queue.queue, &display->proxy.queued);
-    display->proxy.queued.named = 1;
     display->proxy.object.implementation = &own_listener;
     display->proxy.user_data = display;
-    display->proxy.display = display->default_queue.display = display->own_queue.display = display;
+    display->proxy.display = display->default_queue.display = display;
+    wl_list_init(&display->made_queues);
+    return nb_queues_start(&display->queues) == NB_OK &&
+           nb_queues_add(&display->queues, display->default_queue.number, &display->proxy.slot) == NB_OK &&
+           nb_queues_new_queue(&display->queues, &display->own_queue) == NB_OK &&
+           nb_queues_add(&display->queues, display->own_queue, &display->errors) == NB_OK;
 }
 
 /* Object 1 is there from the start. */
@@ -278,7 +273,7 @@ static bool begin_session(struct wl_display *display)
     nb_client_display(&display->session, &id);
     set_session_id(&display->proxy, &id);
     display->proxy.object.interface = &wl_display_interface;
-    return numbers_put(&display->numbers, &display->proxy);
+    return numbers_put(display->numbers, &display->proxy);
 }
 
 EXPORT struct wl_display *wl_display_connect_to_fd(int fd)
@@ -297,8 +292,7 @@ EXPORT struct wl_display *wl_display_connect_to_fd(int fd)
     pthread_cond_init(&display->was_read, NULL);
     table_begin(&display->table, merge, &display->session);
     display->table.is_of_client = true;
-    begin_queues(display);
-    if (begin_session(display))
+    if (begin_queues(display) && begin_session(display))
         return display;
     wl_display_disconnect(display);
     errno = ENOMEM;
@@ -322,25 +316,49 @@ static void drop_unsent(struct wl_display *display)
     }
 }
 
+/* Programs destroy proxies and queues after they have disconnected: so the display stays as long as there are any. */
+static bool has_any(const struct wl_display *display)
+{
+    for (size_t i = 0; i < display->slots.count; i++)
+        if (display->slots.at[i])
+            return true;
+    return !wl_list_empty(&display->made_queues);
+}
+
+void unlock(struct wl_display *display)
+{
+    const bool stays = !display->is_closed || has_any(display);
+    pthread_mutex_unlock(&display->lock);
+    if (stays)
+        return;
+    nb_queues_end(&display->queues);
+    proxies_end(&display->slots);
+    pthread_mutex_destroy(&display->lock);
+    pthread_cond_destroy(&display->was_read);
+    free(display);
+}
+
 EXPORT void wl_display_disconnect(struct wl_display *display)
 {
+    struct wl_event_queue *queue;
     pthread_mutex_lock(&display->lock);
     drop_unsent(display);
+    fail_locked(display, EPIPE);
     end_session_locked(display);
-    leave_to_nowhere_locked(display);
-    pthread_mutex_unlock(&display->lock);
+    wl_list_for_each(queue, &display->made_queues, link) empty_locked(display, queue->number);
+    empty_locked(display, display->default_queue.number);
+    empty_locked(display, display->own_queue);
     nb_client_end(&display->session);
     table_end(&display->table);
-    numbers_end(&display->numbers);
-    close_all(display->input.lent, display->input.lent_count);
+    proxies_end(&display->numbers[0]);
+    proxies_end(&display->numbers[1]);
     close_all(display->input.descriptors, display->input.descriptor_count);
     free(display->input.descriptors);
     free(display->input.bytes);
     free(display->text);
-    pthread_mutex_destroy(&display->lock);
-    pthread_cond_destroy(&display->was_read);
     close(display->socket);
-    free(display);
+    display->is_closed = true;
+    unlock(display);
 }
 
 EXPORT int wl_display_get_fd(struct wl_display *display)

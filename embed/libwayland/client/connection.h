@@ -16,9 +16,12 @@ int make_room_locked(struct wl_display *display, size_t bytes, uint32_t descript
 void fail_locked(struct wl_display *display, int error);
 
 /* The session has the error that the server sent: the program is told. */
-void take_error_locked(struct wl_display *display, uint32_t code, uint32_t number, const char *text);
+void take_error_locked(struct wl_display *display, const struct event_error *error);
 
-/* The turn of who reads has ended: wakes those who wait. */
-void end_reading_locked(struct wl_display *display);
+/* Ends all events that wait in a queue that is dropped, or after the display has failed. */
+void empty_locked(struct wl_display *display, size_t queue);
+
+/* Gives up the lock. A display that is closed goes with the last proxy and queue that the program has of it. */
+void unlock(struct wl_display *display);
 
 #endif

@@ -1,11 +1,12 @@
-/* Events between their reading and the listener. It touches the memory of events, the queues, and the descriptors of
- * events that the program is not told of. */
+/* Events between their reading and the listener. It touches the memory of events, puts them into the queues and takes
+ * them out, and closes the descriptors of those that the program is not told of. */
 #include "event.h"
 #include "../common/arguments.h"
 #include "../common/call.h"
 #include "../common/log.h"
 #include "../common/print.h"
 #include "../common/signature.h"
+#include "connection.h"
 #include "proxy.h"
 #include <errno.h>
 #include <stdlib.h>
@@ -14,41 +15,74 @@
 
 /* ======== Making */
 
-/* An event without arguments, and with room for so many, for their objects, and for their text, which is where `*text`
- * says. */
-static struct event *event_new(enum event_kind kind, struct wl_proxy *sender, uint32_t count, uint32_t objects,
-                               size_t length, uint8_t **text)
+/* An event without arguments, and with room for so many and for their text, which is where `*text` says. */
+static struct event *event_new(struct wl_proxy *sender, const struct wl_message *message, uint32_t count, size_t length,
+                               uint8_t **text)
 {
-    size_t at_objects = sizeof(struct event) + count * sizeof(union wl_argument);
-    size_t at_text = at_objects + (objects + 1) * sizeof(struct queued_object *);
+    const size_t at_text = sizeof(struct event) + count * sizeof(union wl_argument);
     struct event *event = malloc(at_text + length);
     if (!event) {
         errno = ENOMEM;
         return NULL;
     }
-    event->queued.objects = (struct queued_object **)(void *)((char *)event + at_objects);
-    event->queued.objects[0] = &sender->queued;
-    event->queued.count = 1;
-    event->kind = kind;
-    event->is_told = false;
+    event->is_dropped = event->is_told = false;
+    event->sender = sender;
+    event->message = message;
     event->opcode = event->count = 0;
-    event->message = NULL;
     *text = (uint8_t *)event + at_text;
     return event;
+}
+
+static bool is_object(const struct event *event, uint32_t i)
+{
+    return (event->kinds[i] == NB_OBJECT || event->kinds[i] == NB_NEW_ID) && event->arguments[i].o;
+}
+
+/* The program never heard of what the event has: its descriptors are closed, and the object that it made is destroyed.
+ */
+static void give_back_locked(struct event *event)
+{
+    for (uint32_t i = 0; i < event->count; i++) {
+        if (event->kinds[i] == NB_DESCRIPTOR)
+            close(event->arguments[i].h);
+        if (event->kinds[i] == NB_NEW_ID && is_object(event, i))
+            proxy_destroy_locked(proxy_of(event->arguments[i].o));
+    }
+}
+
+/* The event does not come into a queue, for this error: false, with errno. */
+static bool give_up_locked(struct event *event, int error)
+{
+    struct wl_display *display = event->sender->display;
+    give_back_locked(event);
+    free(event);
+    free_unused_locked(display);
+    errno = error;
+    return false;
+}
+
+/* The event waits in the queue of the object in this slot. False, with errno, if there is no memory. */
+static bool put_locked(struct wl_display *display, size_t slot, struct event *event)
+{
+    size_t objects[MOST_ARGUMENTS], count = 0;
+    for (uint32_t i = 0; i < event->count; i++)
+        if (is_object(event, i))
+            objects[count++] = proxy_of(event->arguments[i].o)->slot;
+    return nb_queues_put(&display->queues, slot, objects, count, (uintptr_t)event) == NB_OK ||
+           give_up_locked(event, ENOMEM);
 }
 
 /* The message of the error is in the display's text. */
 bool put_error_locked(struct wl_display *display, const nb_error *error)
 {
     uint8_t *text;
-    struct event *event = event_new(EVENT_OF_ERROR, &display->proxy, 0, 0, (size_t)error->message_length + 1, &text);
+    struct event *event = event_new(&display->proxy, NULL, 0, (size_t)error->message_length + 1, &text);
     if (!event)
         return false;
     memcpy(text, display->text, error->message_length);
     text[error->message_length] = 0;
     event->error = (struct event_error){ error->code, error->object_number, (const char *)text };
-    queues_put_into(&display->own_queue.queue, &event->queued);
-    return true;
+    return put_locked(display, display->errors, event);
 }
 
 /* ======== Arguments */
@@ -65,17 +99,10 @@ static bool is_of_type(const struct wl_proxy *proxy, const struct wl_interface *
     return !type || proxy->object.interface == type || strcmp(proxy->object.interface->name, type->name) == 0;
 }
 
-/* The event names the object, too, which may be NULL: each object argument has its place among the objects. */
-static void name_object(struct event *event, uint32_t i, struct wl_proxy *proxy)
-{
-    event->arguments[i].o = proxy ? &proxy->object : NULL;
-    event->queued.objects[event->queued.count++] = proxy ? &proxy->queued : NULL;
-}
-
 /* One that the program has destroyed is NULL, whatever the message says of null. */
 static bool fill_object(struct event *event, uint32_t i, const nb_argument *from, const struct wl_interface *type)
 {
-    struct wl_proxy *proxy = numbers_proxy(&sender_of(event)->display->numbers, from->object.number);
+    struct wl_proxy *proxy = numbers_proxy(event->sender->display->numbers, from->object.number);
     if (from->object.number == 0 && !signature_is_nullable(event->message->signature, i))
         return refuse("NULL object received on non-nullable type", event->message);
     if (proxy && !is_of_type(proxy, type)) {
@@ -84,31 +111,31 @@ static bool fill_object(struct event *event, uint32_t i, const nb_argument *from
         errno = EINVAL;
         return false;
     }
-    name_object(event, i, proxy);
+    event->arguments[i].o = proxy ? &proxy->object : NULL;
     return true;
 }
 
 static bool fill_new(struct event *event, uint32_t i, const nb_argument *from, const struct wl_interface *type)
 {
-    struct wl_proxy *sender = sender_of(event);
+    struct wl_proxy *sender = event->sender;
     if (!type)
         return refuse("new object without an interface", event->message);
     struct wl_proxy *proxy = proxy_new_locked(sender, type, sender->version);
     if (!proxy)
         return false;
     set_session_id(proxy, &from->object);
-    if (!numbers_put(&sender->display->numbers, proxy)) {
+    if (!numbers_put(sender->display->numbers, proxy)) {
         proxy->object.id = 0;
         proxy_destroy_locked(proxy);
         errno = ENOMEM;
         return false;
     }
-    name_object(event, i, proxy);
+    event->arguments[i].o = &proxy->object;
     return true;
 }
 
-/* `count` of the event is how many of its arguments are there, so that those can be given back. The text is as the session
- * wrote it, and `arrays` has a struct for each array. */
+/* `count` of the event is how many of its arguments are there, so that those can be given back. The text is as the
+ * session wrote it, and `arrays` has a struct for each array. */
 static bool fill(struct event *event, const nb_argument *arguments, uint32_t count, uint8_t *text,
                  struct wl_array *arrays)
 {
@@ -135,51 +162,19 @@ static bool fill(struct event *event, const nb_argument *arguments, uint32_t cou
     return true;
 }
 
-static bool is_object(const struct event *event, uint32_t i)
-{
-    return event->kinds[i] == NB_OBJECT || event->kinds[i] == NB_NEW_ID;
-}
-
 static bool is_pointer(uint8_t kind)
 {
     return kind == NB_STRING || kind == NB_NULL_STRING || kind == NB_ARRAY || kind == NB_OBJECT || kind == NB_NEW_ID;
 }
 
-/* The program never heard of what the event has: its descriptors are closed, and the object that it made is destroyed.
- */
-static void give_back_locked(struct event *event)
-{
-    uint32_t place = 1;
-    for (uint32_t i = 0; i < event->count; i++) {
-        struct queued_object *object = is_object(event, i) ? event->queued.objects[place++] : NULL;
-        if (event->kinds[i] == NB_DESCRIPTOR)
-            close(event->arguments[i].h);
-        if (event->kinds[i] == NB_NEW_ID && object && !object->is_destroyed)
-            proxy_destroy_locked(proxy_of(object));
-    }
-}
-
-static bool is_of_letter(uint32_t kind, char letter)
-{
-    switch (letter) {
-    case 'i': return kind == NB_INT;
-    case 'u': return kind == NB_UINT;
-    case 'f': return kind == NB_FIXED;
-    case 's': return kind == NB_STRING || kind == NB_NULL_STRING;
-    case 'o': return kind == NB_OBJECT;
-    case 'n': return kind == NB_NEW_ID;
-    case 'a': return kind == NB_ARRAY;
-    default: return kind == NB_DESCRIPTOR;
-    }
-}
-
 static bool has_form(const char *signature, const nb_argument *arguments, uint32_t count)
 {
+    static const char letters[] = "iufsonahs"; /* of the kinds, the last of a null string */
     char letter;
     bool is_nullable;
     uint32_t i = 0;
     while ((signature = signature_next(signature, &letter, &is_nullable)))
-        if (i == count || !is_of_letter(arguments[i++].kind, letter))
+        if (i == count || letters[arguments[i++].kind] != letter)
             return false;
     return i == count;
 }
@@ -203,66 +198,58 @@ bool put_event_locked(struct wl_proxy *sender, const nb_event *from, const nb_ar
     const struct wl_message *message = message_of(sender, from, arguments);
     struct event *event = NULL;
     uint8_t *text;
-    uint32_t objects = 0;
     size_t arrays = 0;
-    for (uint32_t i = 0; i < from->arguments; i++) {
-        objects += arguments[i].kind == NB_OBJECT || arguments[i].kind == NB_NEW_ID;
+    for (uint32_t i = 0; i < from->arguments; i++)
         arrays += arguments[i].kind == NB_ARRAY;
-    }
     if (message)
-        event = event_new(EVENT_OF_OBJECT, sender, from->arguments, objects,
-                          from->bytes + arrays * sizeof(struct wl_array), &text);
+        event = event_new(sender, message, from->arguments, from->bytes + arrays * sizeof(struct wl_array), &text);
     if (!event) {
         close_descriptors(arguments, from->arguments);
         return false;
     }
-    event->message = message;
     event->opcode = from->opcode;
     if (from->bytes > 0)
         memcpy(text, sender->display->text, from->bytes);
-    if (fill(event, arguments, from->arguments, text, (struct wl_array *)(void *)(text + from->bytes))) {
-        queues_put(&event->queued);
-        return true;
-    }
+    if (fill(event, arguments, from->arguments, text, (struct wl_array *)(void *)(text + from->bytes)))
+        return put_locked(sender->display, sender->slot, event);
     int error = errno;
     close_descriptors(arguments + event->count, from->arguments - event->count);
-    give_back_locked(event);
-    free(event);
-    free_unused_locked(sender->display);
-    errno = error;
-    return false;
+    return give_up_locked(event, error);
 }
 
 /* ======== Handing out and ending */
 
-struct event *event_take_locked(struct wl_display *display, struct queue *queue, bool *is_dropped)
+struct event *event_take_locked(struct wl_display *display, size_t queue)
 {
-    struct queued_event *queued;
-    enum queue_answer answer = queues_next(&display->queues, queue, &queued);
-    if (answer == QUEUE_EMPTY)
+    nb_queued_event next;
+    const nb_status status = nb_queues_next_of(&display->queues, queue, &next);
+    if (status == NB_OUT_OF_MEMORY)
+        fail_locked(display, ENOMEM);
+    if (status != NB_OK)
         return NULL;
-    struct event *event = CONTAINER(queued, struct event, queued);
-    *is_dropped = answer == QUEUE_SENDER_DESTROYED;
-    for (uint32_t i = 0, place = 1; place < queued->count; i++)
-        if (is_object(event, i)) {
-            struct queued_object *object = queued->objects[place++];
-            event->arguments[i].o = object ? &proxy_of(object)->object : NULL;
-        }
+    struct event *event = (struct event *)(uintptr_t)next.content;
+    event->ticket = next.ticket;
+    event->is_dropped = next.outcome != NB_HANDED;
+    for (uint32_t i = 0; i < event->count; i++)
+        if (is_object(event, i) && !proxy_is_alive_locked(proxy_of(event->arguments[i].o)))
+            event->arguments[i].o = NULL;
     return event;
 }
 
 void event_end_locked(struct wl_display *display, struct event *event)
 {
+    uint64_t content;
     if (!event->is_told)
         give_back_locked(event);
-    queues_finish(&display->queues, &event->queued);
+    if (!event->is_dropped)
+        nb_queues_finish(&display->queues, event->ticket, &content);
     free(event);
     free_unused_locked(display);
 }
 
 void hand_out(struct event *event, wl_dispatcher_func_t dispatcher, const void *implementation)
 {
-    struct wl_proxy *proxy = sender_of(event);
+    struct wl_proxy *proxy = event->sender;
     event->is_told = true;
     if (dispatcher) {
         dispatcher(implementation, proxy, event->opcode, event->message, event->arguments);
@@ -281,5 +268,5 @@ void hand_out(struct event *event, wl_dispatcher_func_t dispatcher, const void *
 
 void print_event(const char *before, const struct event *event)
 {
-    print_message(before, &sender_of(event)->object, event->message, event->arguments, true);
+    print_message(before, &event->sender->object, event->message, event->arguments, true);
 }

@@ -11,11 +11,11 @@ bool put_event_locked(struct wl_proxy *sender, const nb_event *from, const nb_ar
 /* An error of the display itself, in its queue. False, with errno, if there is no memory. */
 bool put_error_locked(struct wl_display *display, const nb_error *error);
 
-/* Takes the first event out of the queue: it is in hand then. NULL if none waits. `*is_dropped`: its sender was
- * destroyed, so that the program must not see it. */
-struct event *event_take_locked(struct wl_display *display, struct queue *queue, bool *is_dropped);
+/* Takes the first event out of the queue: it is in hand then, or dropped. Its objects that were destroyed are NULL, but
+ * for the sender. NULL if none waits, or if there is no memory, with which the display fails. */
+struct event *event_take_locked(struct wl_display *display, size_t queue);
 
-/* Ends an event that is in hand. What the program was not told of is closed and destroyed. */
+/* Ends an event that was taken. What the program was not told of is closed and destroyed. */
 void event_end_locked(struct wl_display *display, struct event *event);
 
 /* Calls the listener or dispatcher, if there is one. */

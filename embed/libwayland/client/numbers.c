@@ -1,5 +1,4 @@
-/* A connection's proxies by their numbers, and when a number is free again. It touches the numbers of a display, and
- * asks its session who is there.
+/* A connection's proxies by their numbers. It touches the numbers of a display, and asks its session who is there.
  *
  * A number of the client's may be used again when two things have happened: the program has destroyed the object, and
  * the server has said that it knows of that, by wl_display.delete_id. Programs see events later than they are read, and
@@ -9,48 +8,53 @@
 #include "client.h"
 #include <stdlib.h>
 
-enum { FIRST_SLOTS = 16 };
+enum { FIRST_PLACES = 16 };
 
-bool numbers_put(struct numbers *numbers, struct wl_proxy *proxy)
+bool proxies_put(struct proxies *proxies, size_t number, struct wl_proxy *proxy)
 {
-    bool of_server = is_of_server(proxy->object.id);
-    size_t at = numbers_index(proxy->object.id), count = numbers->counts[of_server];
-    if (at >= count) {
-        size_t wanted = count > 0 ? count : FIRST_SLOTS;
-        while (wanted <= at)
+    if (number >= proxies->count) {
+        size_t wanted = proxies->count > 0 ? proxies->count : FIRST_PLACES;
+        while (wanted <= number)
             wanted *= 2;
-        struct wl_proxy **proxies = realloc(numbers->proxies[of_server], wanted * sizeof(struct wl_proxy *));
-        if (!proxies)
+        struct wl_proxy **grown = realloc(proxies->at, wanted * sizeof(struct wl_proxy *));
+        if (!grown)
             return false;
-        for (size_t i = count; i < wanted; i++)
-            proxies[i] = NULL;
-        numbers->proxies[of_server] = proxies;
-        numbers->counts[of_server] = wanted;
+        for (size_t i = proxies->count; i < wanted; i++)
+            grown[i] = NULL;
+        *proxies = (struct proxies){ grown, wanted };
     }
-    numbers->proxies[of_server][at] = proxy;
+    proxies->at[number] = proxy;
     return true;
 }
 
-void numbers_end(struct numbers *numbers)
+void proxies_end(struct proxies *proxies)
 {
-    free(numbers->proxies[0]);
-    free(numbers->proxies[1]);
+    free(proxies->at);
+    *proxies = (struct proxies){ NULL, 0 };
+}
+
+bool numbers_put(struct proxies numbers[2], struct wl_proxy *proxy)
+{
+    const uint32_t number = proxy->object.id;
+    return is_of_server(number) ? proxies_put(&numbers[1], number - FIRST_OF_SERVER, proxy)
+                                : proxies_put(&numbers[0], number, proxy);
 }
 
 void number_destroyed_locked(struct wl_proxy *proxy)
 {
     struct wl_display *display = proxy->display;
-    const uint32_t number = proxy->object.id;
     const nb_object_id id = session_id(proxy);
     nb_client_destroy_object(&display->session, &id);
     nb_client_reclaim(&display->session, &id);
-    if (numbers_proxy(&display->numbers, number) == proxy) /* else the number has been used again */
-        display->numbers.proxies[is_of_server(number)][numbers_index(number)] = NULL;
+    if (numbers_proxy(display->numbers, id.number) == proxy) { /* else the number has been used again */
+        const bool of_server = is_of_server(id.number);
+        display->numbers[of_server].at[of_server ? id.number - FIRST_OF_SERVER : id.number] = NULL;
+    }
 }
 
 uint32_t number_interface_locked(struct wl_display *display, uint32_t number)
 {
-    const struct wl_proxy *proxy = numbers_proxy(&display->numbers, number);
+    const struct wl_proxy *proxy = numbers_proxy(display->numbers, number);
     nb_object_id id;
     if (proxy)
         return proxy->row;

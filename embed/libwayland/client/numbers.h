@@ -7,29 +7,30 @@
 struct wl_display;
 struct wl_proxy;
 
-/* The proxies of the client's numbers, and of the server's; NULL where the program has none. */
-struct numbers {
-    struct wl_proxy **proxies[2];
-    size_t counts[2];
+/* Proxies by a number, from 0 on; NULL where there is none. */
+struct proxies {
+    struct wl_proxy **at;
+    size_t count;
 };
 
-static inline size_t numbers_index(uint32_t number)
+static inline struct wl_proxy *proxies_get(const struct proxies *proxies, size_t number)
 {
-    return is_of_server(number) ? number - (size_t)FIRST_OF_SERVER : number;
+    return number < proxies->count ? proxies->at[number] : NULL;
 }
 
-/* The proxy of a number, or NULL. */
-static inline struct wl_proxy *numbers_proxy(const struct numbers *numbers, uint32_t number)
+/* The proxy has this number from now on. False if there is no memory. */
+bool proxies_put(struct proxies *proxies, size_t number, struct wl_proxy *proxy);
+
+void proxies_end(struct proxies *proxies);
+
+/* The proxy of a number of the protocol, or NULL. */
+static inline struct wl_proxy *numbers_proxy(const struct proxies numbers[2], uint32_t number)
 {
-    const bool of_server = is_of_server(number);
-    const size_t at = numbers_index(number);
-    return at < numbers->counts[of_server] ? numbers->proxies[of_server][at] : NULL;
+    return is_of_server(number) ? proxies_get(&numbers[1], number - FIRST_OF_SERVER) : proxies_get(&numbers[0], number);
 }
 
-/* The proxy has its number from now on. False if there is no memory. */
-bool numbers_put(struct numbers *numbers, struct wl_proxy *proxy);
-
-void numbers_end(struct numbers *numbers);
+/* The proxy has its number of the protocol from now on. False if there is no memory. */
+bool numbers_put(struct proxies numbers[2], struct wl_proxy *proxy);
 
 /* The program destroys the object: so does the session. */
 void number_destroyed_locked(struct wl_proxy *proxy);

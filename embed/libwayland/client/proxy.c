@@ -2,15 +2,43 @@
  * objects are destroyed, and is the one file that frees a proxy. */
 #include "proxy.h"
 #include "../common/log.h"
+#include "connection.h"
 #include <errno.h>
 #include <stdlib.h>
 
 /* ======== Making and destroying */
 
-/* A listener may use its object once more after it has destroyed it. */
-static struct queue *queue_of(const struct wl_proxy *proxy)
+static nb_queued_object object_of_locked(const struct wl_proxy *proxy)
 {
-    return proxy->queued.queue ? proxy->queued.queue : proxy->display->queues.first;
+    nb_queued_object object = { 0, NB_SLOT_FREE };
+    nb_queues_object(&proxy->display->queues, proxy->slot, &object);
+    return object;
+}
+
+bool proxy_is_alive_locked(const struct wl_proxy *proxy)
+{
+    return object_of_locked(proxy).fate == NB_SLOT_ALIVE;
+}
+
+/* A proxy with zeros in it, in the queue of this one. A listener may use its object once more after it has destroyed
+ * it. NULL, with errno, if there is no memory. */
+static struct wl_proxy *proxy_beside_locked(const struct wl_proxy *other)
+{
+    struct wl_display *display = other->display;
+    struct wl_proxy *proxy = NULL;
+    size_t slot;
+    if (nb_queues_add(&display->queues, object_of_locked(other).queue, &slot) == NB_OK) {
+        if (proxies_put(&display->slots, slot, NULL) && (proxy = calloc(1, sizeof *proxy))) {
+            display->slots.at[slot] = proxy;
+            proxy->display = display;
+            proxy->slot = slot;
+            return proxy;
+        }
+        nb_queues_destroy(&display->queues, slot);
+        free_unused_locked(display);
+    }
+    errno = ENOMEM;
+    return NULL;
 }
 
 struct wl_proxy *proxy_new_locked(struct wl_proxy *factory, const struct wl_interface *interface, uint32_t version)
@@ -18,16 +46,14 @@ struct wl_proxy *proxy_new_locked(struct wl_proxy *factory, const struct wl_inte
     struct wl_display *display = factory->display;
     int before = errno;
     errno = EINVAL; /* of an interface that has no place; what finds no memory sets another one */
-    uint32_t row = table_number(&display->table, interface);
-    struct wl_proxy *proxy = row != 0 ? calloc(1, sizeof *proxy) : NULL;
+    uint32_t row = display->is_closed ? 0 : table_number(&display->table, interface);
+    struct wl_proxy *proxy = row != 0 ? proxy_beside_locked(factory) : NULL;
     if (!proxy)
         return NULL;
     errno = before;
     proxy->object.interface = interface;
-    proxy->display = display;
     proxy->version = version;
     proxy->row = row;
-    queues_add_object(queue_of(factory), &proxy->queued);
     return proxy;
 }
 
@@ -42,18 +68,23 @@ void drop_notes_locked(struct wl_display *display)
 void proxy_destroy_locked(struct wl_proxy *proxy)
 {
     struct wl_display *display = proxy->display;
-    if (proxy->object.id != 0) {
+    if (proxy->object.id != 0 && !proxy->is_wrapper) {
         number_destroyed_locked(proxy);
         drop_notes_locked(display);
     }
-    queues_destroy(&display->queues, &proxy->queued);
+    nb_queues_destroy(&display->queues, proxy->slot);
 }
 
+/* The slots of the display's own objects have no proxy here. */
 void free_unused_locked(struct wl_display *display)
 {
-    struct queued_object *unused;
-    while ((unused = queues_next_unused(&display->queues)))
-        free(proxy_of(unused));
+    size_t slot;
+    while (nb_queues_next_unused(&display->queues, &slot) == NB_OK) {
+        struct wl_proxy *unused = proxies_get(&display->slots, slot);
+        if (unused)
+            display->slots.at[slot] = NULL;
+        free(unused);
+    }
 }
 
 EXPORT struct wl_proxy *wl_proxy_create(struct wl_proxy *factory, const struct wl_interface *interface)
@@ -73,25 +104,24 @@ EXPORT void wl_proxy_destroy(struct wl_proxy *proxy)
     pthread_mutex_lock(&display->lock);
     proxy_destroy_locked(proxy);
     free_unused_locked(display);
-    pthread_mutex_unlock(&display->lock);
+    unlock(display);
 }
 
 /* A wrapper is a proxy of the same object that gets no events: what it makes has its queue. It keeps the number, and
  * not the object. */
 EXPORT void *wl_proxy_create_wrapper(void *wrapped)
 {
-    struct wl_proxy *of = wrapped, *wrapper = calloc(1, sizeof *wrapper);
-    if (!wrapper)
-        return NULL;
+    const struct wl_proxy *of = wrapped;
     pthread_mutex_lock(&of->display->lock);
-    wrapper->object.interface = of->object.interface;
-    wrapper->object.id = of->object.id;
-    wrapper->version = of->version;
-    wrapper->display = of->display;
-    wrapper->serial = of->serial;
-    wrapper->row = of->row;
-    wrapper->is_wrapper = true;
-    queues_add_object(queue_of(of), &wrapper->queued);
+    struct wl_proxy *wrapper = proxy_beside_locked(of);
+    if (wrapper) {
+        wrapper->object.interface = of->object.interface;
+        wrapper->object.id = of->object.id;
+        wrapper->version = of->version;
+        wrapper->serial = of->serial;
+        wrapper->row = of->row;
+        wrapper->is_wrapper = true;
+    }
     pthread_mutex_unlock(&of->display->lock);
     return wrapper;
 }
@@ -103,9 +133,9 @@ EXPORT void wl_proxy_wrapper_destroy(void *proxy_wrapper)
     if (!wrapper->is_wrapper)
         log_and_abort("Tried to destroy non-wrapper proxy with wl_proxy_wrapper_destroy\n");
     pthread_mutex_lock(&display->lock);
-    queues_destroy(&display->queues, &wrapper->queued);
+    proxy_destroy_locked(wrapper);
     free_unused_locked(display);
-    pthread_mutex_unlock(&display->lock);
+    unlock(display);
 }
 
 /* ======== What a program sets */
@@ -168,7 +198,7 @@ EXPORT void wl_proxy_set_queue(struct wl_proxy *proxy, struct wl_event_queue *qu
 {
     struct wl_display *display = proxy->display;
     pthread_mutex_lock(&display->lock);
-    queues_move(&proxy->queued, queue ? &queue->queue : display->queues.first);
+    nb_queues_set_queue(&display->queues, proxy->slot, queue ? queue->number : display->default_queue.number);
     pthread_mutex_unlock(&display->lock);
 }
 
@@ -201,7 +231,13 @@ EXPORT struct wl_display *wl_proxy_get_display(struct wl_proxy *proxy)
 
 EXPORT struct wl_event_queue *wl_proxy_get_queue(const struct wl_proxy *proxy)
 {
-    return (struct wl_event_queue *)proxy->queued.queue;
+    struct wl_display *display = proxy->display;
+    struct wl_event_queue *queue, *found = &display->default_queue;
+    pthread_mutex_lock(&display->lock);
+    const size_t number = object_of_locked(proxy).queue;
+    wl_list_for_each(queue, &display->made_queues, link) if (queue->number == number) found = queue;
+    pthread_mutex_unlock(&display->lock);
+    return found;
 }
 
 EXPORT const struct wl_interface *wl_proxy_get_interface(struct wl_proxy *proxy)

@@ -8,6 +8,9 @@
  * no place in the session's table. */
 struct wl_proxy *proxy_new_locked(struct wl_proxy *factory, const struct wl_interface *interface, uint32_t version);
 
+/* The program has not destroyed it. */
+bool proxy_is_alive_locked(const struct wl_proxy *proxy);
+
 /* The program has destroyed it. Its memory goes with the next free_unused_locked that finds it unused. */
 void proxy_destroy_locked(struct wl_proxy *proxy);
 

@@ -1,9 +1,8 @@
 /* Event queues as programs have them: dispatching, and who reads. It touches queues, and calls listeners, for which it
  * gives up the lock.
  *
- * A queue is freed when the program has destroyed it and nobody dispatches it any more. Its events are ended when it is
- * destroyed, and its proxies have the default queue from then on (queues.h): so no queue that is gone is ever read. */
-#include "queue.h"
+ * A queue is freed when the program destroys it. Who dispatches it has its number, by which nb_queues_next_of tells
+ * that it is empty from then on; and its proxies have the default queue. */
 #include "connection.h"
 #include "event.h"
 #include "proxy.h"
@@ -33,9 +32,16 @@ EXPORT struct wl_event_queue *wl_display_create_queue_with_name(struct wl_displa
     }
     queue->display = display;
     pthread_mutex_lock(&display->lock);
-    queues_add(&display->queues, &queue->queue);
+    const nb_status status = nb_queues_new_queue(&display->queues, &queue->number);
+    if (status == NB_OK)
+        wl_list_insert(&display->made_queues, &queue->link);
     pthread_mutex_unlock(&display->lock);
-    return queue;
+    if (status == NB_OK)
+        return queue;
+    free(queue->name);
+    free(queue);
+    errno = ENOMEM;
+    return NULL;
 }
 
 EXPORT struct wl_event_queue *wl_display_create_queue(struct wl_display *display)
@@ -48,97 +54,35 @@ EXPORT const char *wl_event_queue_get_name(const struct wl_event_queue *queue)
     return queue->name;
 }
 
-/* Ends all events that wait. */
-static void empty_locked(struct wl_display *display, struct queue *queue)
+void empty_locked(struct wl_display *display, size_t queue)
 {
     struct event *event;
-    bool is_dropped;
-    while ((event = event_take_locked(display, queue, &is_dropped)))
+    while ((event = event_take_locked(display, queue)))
         event_end_locked(display, event);
-}
-
-static void release_queue(struct wl_event_queue *queue)
-{
-    if (!queue->is_dropped || queue->dispatchers > 0)
-        return;
-    free(queue->name);
-    free(queue);
 }
 
 EXPORT void wl_event_queue_destroy(struct wl_event_queue *queue)
 {
     struct wl_display *display = queue->display;
     pthread_mutex_lock(&display->lock);
-    queues_drop(&display->queues, &queue->queue);
-    empty_locked(display, &queue->queue);
-    queue->is_dropped = true;
-    release_queue(queue);
-    pthread_mutex_unlock(&display->lock);
-}
-
-/* ======== What outlives its display */
-
-/* Programs destroy proxies and queues after they have disconnected. So a display that ends hands those over to this
- * one, which is never freed: they can be destroyed then, and nothing else has an effect. */
-struct wl_display nowhere = {
-    .lock = PTHREAD_MUTEX_INITIALIZER,
-    .was_read = PTHREAD_COND_INITIALIZER,
-    .socket = -1,
-    .last_error = EPIPE,
-    .has_failed = true,
-};
-
-static void begin_nowhere_locked(void)
-{
-    if (nowhere.queues.first)
-        return;
-    queues_begin(&nowhere.queues, &nowhere.default_queue.queue);
-    queues_add(&nowhere.queues, &nowhere.own_queue.queue);
-    nowhere.default_queue.display = nowhere.own_queue.display = &nowhere;
-}
-
-static void move_members(struct queue *queue)
-{
-    struct queued_object *member;
-    while ((member = queue_any_member(queue))) {
-        proxy_of(member)->display = &nowhere;
-        queues_move(member, nowhere.queues.first);
-    }
-}
-
-void leave_to_nowhere_locked(struct wl_display *display)
-{
-    struct queue *queue;
-    pthread_mutex_lock(&nowhere.lock);
-    begin_nowhere_locked();
-    queues_destroy(&display->queues, &display->proxy.queued);
-    empty_locked(display, &display->own_queue.queue);
-    queues_drop(&display->queues, &display->own_queue.queue);
-    empty_locked(display, &display->default_queue.queue);
-    while ((queue = queues_any(&display->queues))) {
-        empty_locked(display, queue);
-        queues_drop(&display->queues, queue);
-        queues_add(&nowhere.queues, queue);
-        CONTAINER(queue, struct wl_event_queue, queue)->display = &nowhere;
-    }
-    move_members(&display->default_queue.queue);
-    pthread_mutex_unlock(&nowhere.lock);
+    nb_queues_drop_queue(&display->queues, queue->number);
+    empty_locked(display, queue->number);
+    wl_list_remove(&queue->link);
+    free(queue->name);
+    free(queue);
+    unlock(display);
 }
 
 /* ======== Dispatching */
 
 /* Hands an event to its listener. The lock is given up meanwhile; the event keeps its objects. */
-static void dispatch_event_locked(struct wl_display *display, struct event *event, bool is_dropped)
+static void dispatch_event_locked(struct wl_display *display, struct event *event)
 {
-    struct wl_proxy *proxy = sender_of(event);
-    wl_dispatcher_func_t dispatcher = proxy->dispatcher;
-    const void *implementation = proxy->object.implementation;
-    if (is_dropped) {
-        if (is_logging)
-            print_event("discarded ", event);
-        return;
-    }
-    if (!dispatcher && !implementation)
+    wl_dispatcher_func_t dispatcher = event->sender->dispatcher;
+    const void *implementation = event->sender->object.implementation;
+    if (event->is_dropped && is_logging)
+        print_event("discarded ", event);
+    if (event->is_dropped || (!dispatcher && !implementation))
         return;
     pthread_mutex_unlock(&display->lock);
     if (is_logging)
@@ -148,36 +92,39 @@ static void dispatch_event_locked(struct wl_display *display, struct event *even
 }
 
 /* How many events were handed out or dropped, until none waits or the display has an error. */
-static int dispatch_all_locked(struct wl_display *display, struct queue *queue)
+static int dispatch_all_locked(struct wl_display *display, size_t queue)
 {
     struct event *event;
-    bool is_dropped;
     int count = 0;
-    for (; display->last_error == 0 && (event = event_take_locked(display, queue, &is_dropped)); count++) {
-        if (event->kind == EVENT_OF_OBJECT)
-            dispatch_event_locked(display, event, is_dropped);
+    for (; display->last_error == 0 && (event = event_take_locked(display, queue)); count++) {
+        if (event->message)
+            dispatch_event_locked(display, event);
         else
-            take_error_locked(display, event->error.code, event->error.number, event->error.text);
+            take_error_locked(display, &event->error);
         event_end_locked(display, event);
     }
     return count;
 }
 
-EXPORT int wl_display_dispatch_queue_pending(struct wl_display *display, struct wl_event_queue *queue)
+/* -1 with errno if the display has an error, and else the count. */
+static int answer_locked(struct wl_display *display, int count)
 {
-    pthread_mutex_lock(&display->lock);
-    queue->dispatchers++;
-    int count = display->deleted + dispatch_all_locked(display, &display->own_queue.queue);
-    count += dispatch_all_locked(display, &queue->queue);
-    display->deleted = 0;
-    queue->dispatchers--;
-    release_queue(queue);
-    int error = display->last_error;
+    const int error = display->last_error;
     pthread_mutex_unlock(&display->lock);
     if (error == 0)
         return count;
     errno = error;
     return -1;
+}
+
+EXPORT int wl_display_dispatch_queue_pending(struct wl_display *display, struct wl_event_queue *queue)
+{
+    const size_t number = queue->number; /* a listener may destroy the queue */
+    pthread_mutex_lock(&display->lock);
+    int count = display->deleted + dispatch_all_locked(display, display->own_queue);
+    count += dispatch_all_locked(display, number);
+    display->deleted = 0;
+    return answer_locked(display, count);
 }
 
 EXPORT int wl_display_dispatch_pending(struct wl_display *display)
@@ -189,12 +136,12 @@ EXPORT int wl_display_dispatch_pending(struct wl_display *display)
 
 EXPORT int wl_display_prepare_read_queue(struct wl_display *display, struct wl_event_queue *queue)
 {
+    uint32_t has_events = 1;
     pthread_mutex_lock(&display->lock);
-    bool has_events = queue_has_events(&queue->queue);
-    if (!has_events)
-        readers_prepare(&display->readers);
+    nb_queues_has_events(&display->queues, queue->number, &has_events);
+    const nb_status status = nb_readers_prepare(&display->readers, has_events);
     pthread_mutex_unlock(&display->lock);
-    if (!has_events)
+    if (status == NB_OK)
         return 0;
     errno = EAGAIN;
     return -1;
@@ -207,7 +154,9 @@ EXPORT int wl_display_prepare_read(struct wl_display *display)
 
 static void cancel_locked(struct wl_display *display)
 {
-    if (readers_cancel(&display->readers))
+    uint32_t ends = 0;
+    nb_readers_cancel(&display->readers, &ends);
+    if (ends)
         pthread_cond_broadcast(&display->was_read);
 }
 
@@ -218,17 +167,27 @@ EXPORT void wl_display_cancel_read(struct wl_display *display)
     pthread_mutex_unlock(&display->lock);
 }
 
+static bool is_same_turn_locked(const struct wl_display *display, const nb_turn *turn)
+{
+    uint64_t ended = turn->ended;
+    nb_readers_ended(&display->readers, &ended);
+    return ended == turn->ended && display->last_error == 0;
+}
+
 /* Reads as the last of those that have prepared, or waits until that one has read. */
 static void read_or_wait_locked(struct wl_display *display)
 {
-    uint32_t serial;
-    if (!readers_begin(&display->readers, &serial)) {
-        while (display->readers.serial == serial)
-            pthread_cond_wait(&display->was_read, &display->lock);
-    } else if (receive_locked(display) < 0 && errno != EAGAIN)
-        fail_locked(display, errno);
-    else
-        end_reading_locked(display);
+    nb_turn turn;
+    if (nb_readers_begin(&display->readers, &turn) != NB_OK)
+        return; /* the thread has not prepared */
+    if (turn.reads) {
+        if (receive_locked(display) < 0 && errno != EAGAIN)
+            fail_locked(display, errno);
+        nb_readers_end(&display->readers);
+        pthread_cond_broadcast(&display->was_read);
+    }
+    while (!turn.reads && is_same_turn_locked(display, &turn))
+        pthread_cond_wait(&display->was_read, &display->lock);
 }
 
 EXPORT int wl_display_read_events(struct wl_display *display)
@@ -238,12 +197,7 @@ EXPORT int wl_display_read_events(struct wl_display *display)
         cancel_locked(display);
     else
         read_or_wait_locked(display);
-    int error = display->last_error;
-    pthread_mutex_unlock(&display->lock);
-    if (error == 0)
-        return 0;
-    errno = error;
-    return -1;
+    return answer_locked(display, 0);
 }
 
 /* ======== Waiting */

@@ -57,14 +57,14 @@ static nb_status finish(struct wl_display *display, const nb_event *event)
     if (nb_is_null(&event->created))
         return nb_client_finish_event(&display->session);
     nb_status status = nb_client_finish_event_with(&display->session, 0, &is_kept);
-    if (!numbers_proxy(&display->numbers, event->created.number))
+    if (!numbers_proxy(display->numbers, event->created.number))
         nb_client_destroy_object(&display->session, &event->created);
     return status;
 }
 
 static int take_event(struct wl_display *display, const nb_event *event, const nb_argument *arguments)
 {
-    struct wl_proxy *sender = numbers_proxy(&display->numbers, event->sender.number);
+    struct wl_proxy *sender = numbers_proxy(display->numbers, event->sender.number);
     bool is_well = true;
     if (sender)
         is_well = put_event_locked(sender, event, arguments);
@@ -105,23 +105,11 @@ static int take_failure(struct wl_display *display)
     return -1;
 }
 
-/* The session has given a descriptor back. */
-static void take_back(struct input *input, int32_t descriptor)
-{
-    uint32_t i = 0;
-    while (i < input->lent_count && input->lent[i] != descriptor)
-        i++;
-    if (i < input->lent_count)
-        input->lent[i] = input->lent[--input->lent_count];
-}
-
 void close_dropped_locked(struct wl_display *display)
 {
     int32_t descriptor;
-    while (nb_client_next_dropped(&display->session, &descriptor) == NB_OK) {
-        take_back(&display->input, descriptor);
+    while (nb_client_next_dropped(&display->session, &descriptor) == NB_OK)
         close(descriptor);
-    }
 }
 
 /* The next event of the session. The display's text grows as it needs. */
@@ -132,9 +120,6 @@ static nb_status next_event(struct wl_display *display, nb_event *event, nb_argu
                                           display->text_room)) == NB_TOO_SMALL)
         if (event->arguments > MOST_ARGUMENTS || !grow_text(display, event->bytes))
             return NB_OUT_OF_MEMORY;
-    for (uint32_t i = 0; status == NB_OK && display->input.lent_count > 0 && i < event->arguments; i++)
-        if (arguments[i].kind == NB_DESCRIPTOR)
-            take_back(&display->input, arguments[i].value);
     return status;
 }
 
@@ -188,9 +173,6 @@ static int feed_locked(struct wl_display *display, const uint8_t *bytes, size_t 
         errno = ENOMEM;
         return -1;
     }
-    if (descriptors > 0)
-        memcpy(display->input.lent, display->input.descriptors, descriptors * sizeof(int32_t));
-    display->input.lent_count = descriptors;
     take_away(&display->input, descriptors);
     return take_events(display);
 }
@@ -238,7 +220,7 @@ static bool read_head(const struct input *input, size_t at, struct head *head)
 
 static int lacks_descriptor(const struct wl_display *display, const struct head *head)
 {
-    const struct wl_interface *interface = numbers_proxy(&display->numbers, head->sender)->object.interface;
+    const struct wl_interface *interface = numbers_proxy(display->numbers, head->sender)->object.interface;
     if (head->opcode < (uint32_t)interface->event_count) {
         const struct wl_message *message = &interface->events[head->opcode];
         log_line("file descriptor expected, object (%u), message %s(%s)\n", head->sender, message->name,
@@ -259,7 +241,7 @@ static const char *word_for_missing(const struct wl_display *display, uint32_t n
 /* Adds a message to the run. Its sender is of this interface; if that is 0, it is unknown, and takes no descriptor. */
 static int add_message(struct wl_display *display, struct run *run, const struct head *head, uint32_t interface)
 {
-    const bool is_there = numbers_proxy(&display->numbers, head->sender);
+    const bool is_there = numbers_proxy(display->numbers, head->sender);
     struct input *input = &display->input;
     uint32_t needed = table_event_descriptors(&display->table, interface, head->opcode);
     if (is_logging && !is_there)
@@ -292,7 +274,7 @@ static int take_delete(struct wl_display *display, struct run *run, const struct
         if (feed_run(display, run) < 0)
             return -1;
         pass_over(run, head->size);
-        is_known = numbers_proxy(&display->numbers, head->number);
+        is_known = numbers_proxy(display->numbers, head->number);
     } else {
         is_known = number_interface_locked(display, head->number) != 0;
         run->to += head->size;

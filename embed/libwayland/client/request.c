@@ -20,7 +20,7 @@ static void add_ids(struct packed *packed, const union wl_argument *arguments, s
         nb_argument *slot = &packed->arguments[i];
         if ((slot->kind != NB_OBJECT && slot->kind != NB_NEW_ID) || !arguments[i].o)
             continue;
-        struct wl_proxy *proxy = CONTAINER(arguments[i].o, struct wl_proxy, object);
+        struct wl_proxy *proxy = proxy_of(arguments[i].o);
         if (slot->kind == NB_NEW_ID)
             *made = proxy;
         else
@@ -78,7 +78,7 @@ static int hand_over(struct wl_proxy *proxy, uint32_t opcode, const struct packe
     }
     if (made && !nb_is_null(&created)) {
         set_session_id(made, &created);
-        if (!numbers_put(&display->numbers, made)) {
+        if (!numbers_put(display->numbers, made)) {
             errno = ENOMEM;
             return -1;
         }
@@ -136,17 +136,15 @@ EXPORT struct wl_proxy *wl_proxy_marshal_array_flags(struct wl_proxy *proxy, uin
     struct wl_display *display = proxy->display;
     struct wl_proxy *made = NULL;
     pthread_mutex_lock(&display->lock);
-    if (display == &nowhere)
-        made = NULL;
-    else if (interface && !(made = proxy_new_locked(proxy, interface, version)))
+    if (!display->is_closed && interface && !(made = proxy_new_locked(proxy, interface, version)))
         fail_locked(display, errno);
-    else
+    else if (!display->is_closed)
         send_locked(proxy, opcode, args, made);
     if (flags & WL_MARSHAL_FLAG_DESTROY) {
         proxy_destroy_locked(proxy);
         free_unused_locked(display);
     }
-    pthread_mutex_unlock(&display->lock);
+    unlock(display);
     return made;
 }
 

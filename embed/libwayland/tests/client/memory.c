@@ -46,6 +46,9 @@ void *HERE(realloc)(void *memory, size_t size)
 
 /* ======== The scenario */
 
+enum { MOST_MADE = 16 };
+static struct wl_proxy *made_by_events[MOST_MADE];
+
 static int act(const void *implementation, void *target, uint32_t opcode, const struct wl_message *message,
                union wl_argument *arguments)
 {
@@ -58,8 +61,12 @@ static int act(const void *implementation, void *target, uint32_t opcode, const 
             union wl_argument *argument = &arguments[place++];
             if (*letter == 'h')
                 close(argument->h);
-            if (*letter == 'n' && argument->o)
-                wl_proxy_add_dispatcher((struct wl_proxy *)argument->o, act, NULL, NULL);
+            for (size_t i = 0; *letter == 'n' && argument->o && i < MOST_MADE; i++)
+                if (!made_by_events[i]) {
+                    made_by_events[i] = (struct wl_proxy *)argument->o;
+                    wl_proxy_add_dispatcher(made_by_events[i], act, NULL, NULL);
+                    break;
+                }
         }
     return 0;
 }
@@ -148,6 +155,11 @@ static void run(void)
             wl_proxy_destroy(registry);
         }
         wl_display_disconnect(display);
+        for (size_t i = 0; i < MOST_MADE; i++) {
+            if (made_by_events[i])
+                wl_proxy_destroy(made_by_events[i]);
+            made_by_events[i] = NULL;
+        }
     }
     close(server);
 }

@@ -33,9 +33,26 @@ static double seconds(void)
     return (double)now.tv_sec + (double)now.tv_nsec / 1e9;
 }
 
+static struct wl_registry *registry;
+static struct wl_proxy *kinds;
+
+static void start(void)
+{
+    begin();
+    registry = wl_display_get_registry(display);
+    kinds = watch(wl_registry_bind(registry, 1, &kinds_interface, 3), "kinds");
+}
+
+static void end(void)
+{
+    wl_display_disconnect(display);
+    wl_proxy_destroy(kinds);
+    wl_registry_destroy(registry);
+    close(server);
+}
+
 static void ask_of_proxies(void)
 {
-    struct wl_proxy *kinds = kinds_object();
     struct wl_event_queue *queue = wl_display_create_queue_with_name(display, "a name");
     struct wl_event_queue *unnamed = wl_display_create_queue(display);
     struct wl_proxy *wrapper = wl_proxy_create_wrapper(kinds);
@@ -79,13 +96,7 @@ static void wait_with_timeout(void)
     wl_event_queue_destroy(queue);
 }
 
-static void end(void)
-{
-    wl_display_disconnect(display);
-    close(server);
-}
-
-static unsigned long ask_until_it_fails(struct wl_proxy *kinds, unsigned long most)
+static unsigned long ask_until_it_fails(unsigned long most)
 {
     unsigned long count = 0;
     while (count < most && wl_display_get_error(display) == 0) {
@@ -100,15 +111,13 @@ static void bound_what_waits(void)
 {
     unsigned long without, with;
     end();
-    begin();
-    struct wl_proxy *kinds = wl_registry_bind(wl_display_get_registry(display), 1, &kinds_interface, 3);
-    without = ask_until_it_fails(kinds, 300000);
+    start();
+    without = ask_until_it_fails(300000);
     check("without a limit all waits", without == 300000 && wl_display_get_error(display) == 0);
     end();
-    begin();
-    kinds = wl_registry_bind(wl_display_get_registry(display), 1, &kinds_interface, 3);
+    start();
     wl_display_set_max_buffer_size(display, 100000);
-    with = ask_until_it_fails(kinds, 300000);
+    with = ask_until_it_fails(300000);
     check("with a limit the display fails", with < 300000 && wl_display_get_error(display) == E2BIG);
     check("what is sent and what waits is at least the limit", with * 8 >= 100000);
 }
@@ -125,7 +134,7 @@ static void has_fixes(void)
 
 int main(void)
 {
-    begin();
+    start();
     ask_of_proxies();
     wait_with_timeout();
     bound_what_waits();
