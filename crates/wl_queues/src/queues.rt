@@ -147,13 +147,34 @@ fn first_sender<E>(queue: &Queue<E>) -> Option<usize>
     Some(queue.events.front()?.sender)
 }
 
+/// Frees the memory of the queue, if it was dropped and no event waits in it.
+fn free_if_done<E: Drop>(queue: &mut Queue<E>)
+    ensures events { queue.new.events.items ≡ queue.old.events.items }
+    ensures kept { queue.new.is_dropped ≡ queue.old.is_dropped }
+{
+    if queue.is_dropped && queue.events.is_empty() {
+        queue.events = VecDeque::new(*queue.events.allocator());
+    }
+}
+
+/// The queue is dropped. Its events stay.
+fn drop_one<E: Drop>(queue: &mut Queue<E>)
+    ensures events { queue.new.events.items ≡ queue.old.events.items }
+    ensures dropped { queue.new.is_dropped ≡ true }
+{
+    queue.is_dropped = true;
+    free_if_done(queue);
+}
+
 /// Takes the first event out of the queue, in which one waits.
-fn take_first<E>(queue: &mut Queue<E>) -> Event<E>
+fn take_first<E: Drop>(queue: &mut Queue<E>) -> Event<E>
     requires { 0 < length queue.old.events.items }
     ensures event { queue.old.events.items ≡ result ∷ queue.new.events.items }
     ensures kept { queue.new.is_dropped ≡ queue.old.is_dropped }
 {
-    queue.events.pop_front().unwrap()
+    let first = queue.events.pop_front().unwrap();
+    free_if_done(queue);
+    first
 }
 
 /// Events that wait in queues, and that were handed out. It stands for the `wl_event_queue`s of a `wl_display`, and for what
@@ -229,7 +250,7 @@ impl<E: Drop> Queues<E> {
     }
 
     /// Drops the queue. Its objects have the default queue from now on. The events that wait in it come out of `next_of` as dropped.
-    /// It takes no memory. It stands for `wl_event_queue_destroy`.
+    /// It takes no memory, and the queue's own is freed once no event waits in it. It stands for `wl_event_queue_destroy`.
     ///
     /// Errors: `NoQueue`, if it is the default queue, 0, or if no such queue was made, or it was dropped already.
     pub fn drop_queue(&mut self, queue: usize) -> Result<(), NoQueue>
@@ -240,7 +261,7 @@ impl<E: Drop> Queues<E> {
         if queue == 0 || !self.is_open(queue) {
             return Err(NoQueue);
         }
-        self.queues[queue].is_dropped = true;
+        drop_one(&mut self.queues[queue]);
         self.objects.leave_queue(queue);
         Ok(())
     }

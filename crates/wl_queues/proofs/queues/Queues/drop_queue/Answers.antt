@@ -1,5 +1,6 @@
-use Rattle.std.proofs.Common.{refl, arith, rules, ◌<◌}
+use Rattle.std.proofs.Common.{refl, ap, arith, rules, ◌<◌, ◌==◌, ◌∙◌, if◌then◌else◌}
 use Rattle.std.proofs.lemmas.Grind.{common_steps}
+use Rattle.wl_queues.specs.Inside.Counts.{dropped_at}
 use Rattle.wl_queues.specs.Queues.{IsOpen}
 use Rattle.wl_queues.specs.States.{state_of}
 use Rattle.wl_queues.proofs.Lists.{dropped-set, waiting-kept}
@@ -15,8 +16,9 @@ returns-clause-dropped g c =
       leaves = record {
         objects = c.leave_queue.ensures.objects;
         queues = grind (arith, common_steps);
-        is_dropped = λ n. dropped-set before.queues.items c.args.queue _ n is_there.made;
-        waiting = λ n. waiting-kept before.queues.items c.args.queue c.index_mut.result.now _ n is_there.made c.index_mut.ensures.value refl;
+        is_dropped = λ n. dropped-set before.queues.items c.args.queue c.drop_one.new.queue n is_there.made
+            ∙ ap (λ b. if n == c.args.queue then b else dropped_at before.queues.items n) c.drop_one.ensures.dropped;
+        waiting = λ n. waiting-kept before.queues.items c.args.queue c.index_mut.result.now c.drop_one.new.queue n is_there.made c.index_mut.ensures.value c.drop_one.ensures.events;
         in_hand = refl;
         tickets = refl;
         failed = refl;
