@@ -16,10 +16,10 @@
  *   6. Forget what nb_server_next_note says is gone. Close each descriptor that nb_server_next_dropped answers.
  *
  * Places. A session lives in a *place*: an nb_server or nb_client of yours, which has zeros in it at first (NB_EMPTY).
- * The session's memory comes from malloc and goes back by free; nb_server_end and nb_client_end give all of it back. A
- * place may stand anywhere, and may be moved between calls, but it must not be copied while it is in use: two places
- * with one session would free it twice. A place that is empty or ended answers NB_NO_SESSION to each call but the one
- * that makes a session.
+ * So do queues of events, in an nb_queues. The memory comes from malloc and goes back by free; nb_server_end,
+ * nb_client_end and nb_queues_end give all of it back. A place may stand anywhere, and may be moved between calls, but
+ * it must not be copied while it is in use: two places with one session would free it twice. A place that is empty or
+ * ended answers NB_NO_SESSION to each call but the one that makes a session, or queues.
  *
  * Threads. A place is for one thread at a time: any thread may call, if a lock of yours, or the start or end of a
  * thread, lies between two calls of one place. Different places have nothing to do with each other. The library has no
@@ -139,7 +139,7 @@ typedef uint32_t nb_status;
 enum {
     NB_OK = 0,
     NB_NO_SESSION = 1,    /* the place is empty */
-    NB_IN_USE = 2,        /* the place has a session already */
+    NB_IN_USE = 2,        /* the place has a session already, or queues */
     NB_OUT_OF_MEMORY = 3, /* malloc refused */
     NB_WOULD_BLOCK = 4,   /* nothing more is there now */
     NB_TOO_SMALL = 5,     /* the memory that was lent is too small; what is needed is told, and nothing is lost */
@@ -1059,12 +1059,13 @@ nb_status nb_client_next_dropped(nb_client *place, int32_t *descriptor);
  *      call nb_readers_cancel.
  *
  * All calls are made under one lock of yours, and so is the looking of a thread that waits. When a turn ends, by
- * nb_readers_end or by a cancel whose `ends` is 1, wake all threads that wait. Then, whatever the threads do in
- * whatever order, at most one reads at a time; and a thread that waits, waits for a turn that has ended, or that
- * another thread which prepared or reads has still to end. No call takes memory. */
+ * nb_readers_end or by a cancel whose `ends` is 1, wake all threads that wait. If each thread keeps to these steps, in
+ * whatever order they come, then at most one reads at a time; and a thread that waits, waits for a turn that has ended,
+ * or that another thread which prepared or reads has still to end. No call takes memory. */
 
-/* Who reads: 24 bytes of yours, with zeros in them at first. Its fields are the library's. Numbers that no calls come
- * to are refused by each call (NB_INVALID_INPUT). It is no place: it may be copied, and has no end. */
+/* Who reads: 24 bytes of yours, with zeros in them at first. Its fields are the library's. If the threads that prepared,
+ * the turns that ended and the one that reads are together 2^64 or more, each call refuses it (NB_INVALID_INPUT). It is
+ * no place: it may be copied, and has no end. */
 typedef struct {
     uint64_t prepared;   /* how many threads have prepared, and neither began nor cancelled */
     uint64_t ended;      /* how many turns have ended */
@@ -1112,13 +1113,14 @@ nb_status nb_readers_ended(const nb_readers *readers, uint64_t *ended);
  *      nb_queues_argument does not answer is null by now. Listeners may dispatch in turn, and several threads may: so
  *      several events may be in hand, and are finished in any order.
  *   4. An event with another outcome is dropped: it is yours at once, and no listener is called. Close its descriptors,
- *      and destroy the object that it made.
+ *      and destroy the object that it made, unless an event of another queue has told the program of it.
  *   5. After nb_queues_finish, nb_queues_destroy and a dropped event, call nb_queues_next_unused until it answers
  *      NB_WOULD_BLOCK, and free what you keep of each object that it tells. No event that waits or is in hand names it,
  *      and none ever will: let this be the one place where you free any.
  *
- * A queue's number and a ticket are never used again. A slot is, once nb_queues_next_unused has told it: it is no id.
- * Queue 0, the default queue, is there from the start and is never dropped.
+ * A queue's number and a ticket are never used again, so a queue that was dropped keeps some 50 bytes until
+ * nb_queues_end. A slot is, once nb_queues_next_unused has told it: it is no id. Queue 0, the default queue, is there
+ * from the start and is never dropped.
  *
  * The place of queues is as that of a session: NB_EMPTY at first, used by one thread at a time under a lock of yours,
  * and never copied while it is in use. A refusal changes nothing. But for nb_queues_start, nb_queues_new_queue,
@@ -1204,8 +1206,8 @@ nb_status nb_queues_next_unused(nb_queues *place, size_t *object);
 
 /* Puts an event for this object into the queue that the object has now, behind those that wait there. `arguments` are
  * the slots of the objects among its arguments, in their order, also of one that it makes; leave out those that are
- * null, or were destroyed. The list is copied. Statuses: NB_OUT_OF_MEMORY (also if one object were named more than 2^64
- * - 1 times); NB_INVALID_ID (the sender or an argument is a slot without an object, or with one that was destroyed). */
+ * null, or were destroyed. The list is copied. Statuses: NB_INVALID_ID (the sender or an argument is a slot without an
+ * object, or with one that was destroyed); NB_OUT_OF_MEMORY (also if one object were named more than 2^64 - 1 times). */
 nb_status nb_queues_put(nb_queues *place, size_t sender, const size_t *arguments, size_t argument_count,
                         uint64_t content);
 
