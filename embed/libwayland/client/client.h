@@ -8,7 +8,7 @@
  * Who may free what:
  *
  *   - a proxy, wrappers too: free_unused_locked in proxy.c, once nb_queues_next_unused tells that it is unused;
- *   - an event: event_end_locked in event.c, once it has left its queue; and put_locked, if it never came into one;
+ *   - an event: event_end_locked in event.c, once it has left its queue; and give_up_locked, if it never came into one;
  *   - a queue: wl_event_queue_destroy in queue.c. Who dispatches it has its number alone, which is never used again;
  *   - a display: unlock in connection.c, once it is closed and the program has no proxy or queue of it any more. */
 #ifndef CLIENT_H
@@ -33,6 +33,7 @@ struct wl_proxy {
     uint64_t serial; /* of the session's id */
     uint32_t row;    /* of its interface in the session's table */
     bool is_wrapper;
+    bool is_untold; /* an event made it, and no event has told the program of it */
     void *user_data;
     wl_dispatcher_func_t dispatcher;
     const char *const *tag;

@@ -38,14 +38,14 @@ static bool is_object(const struct event *event, uint32_t i)
     return (event->kinds[i] == NB_OBJECT || event->kinds[i] == NB_NEW_ID) && event->arguments[i].o;
 }
 
-/* The program never heard of what the event has: its descriptors are closed, and the object that it made is destroyed.
- */
+/* The program did not see the event: its descriptors are closed, and the object that it made is destroyed, unless an
+ * event in another queue has told of it. */
 static void give_back_locked(struct event *event)
 {
     for (uint32_t i = 0; i < event->count; i++) {
         if (event->kinds[i] == NB_DESCRIPTOR)
             close(event->arguments[i].h);
-        if (event->kinds[i] == NB_NEW_ID && is_object(event, i))
+        if (event->kinds[i] == NB_NEW_ID && is_object(event, i) && proxy_of(event->arguments[i].o)->is_untold)
             proxy_destroy_locked(proxy_of(event->arguments[i].o));
     }
 }
@@ -123,6 +123,7 @@ static bool fill_new(struct event *event, uint32_t i, const nb_argument *from, c
     struct wl_proxy *proxy = proxy_new_locked(sender, type, sender->version);
     if (!proxy)
         return false;
+    proxy->is_untold = true;
     set_session_id(proxy, &from->object);
     if (!numbers_put(sender->display->numbers, proxy)) {
         proxy->object.id = 0;
@@ -247,10 +248,17 @@ void event_end_locked(struct wl_display *display, struct event *event)
     free_unused_locked(display);
 }
 
+void event_told_locked(struct event *event)
+{
+    event->is_told = true;
+    for (uint32_t i = 0; i < event->count; i++)
+        if (is_object(event, i))
+            proxy_of(event->arguments[i].o)->is_untold = false;
+}
+
 void hand_out(struct event *event, wl_dispatcher_func_t dispatcher, const void *implementation)
 {
     struct wl_proxy *proxy = event->sender;
-    event->is_told = true;
     if (dispatcher) {
         dispatcher(implementation, proxy, event->opcode, event->message, event->arguments);
         return;

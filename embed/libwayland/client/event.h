@@ -18,6 +18,9 @@ struct event *event_take_locked(struct wl_display *display, size_t queue);
 /* Ends an event that was taken. What the program was not told of is closed and destroyed. */
 void event_end_locked(struct wl_display *display, struct event *event);
 
+/* The program is told of the event: what it has is the program's. */
+void event_told_locked(struct event *event);
+
 /* Calls the listener or dispatcher, if there is one. */
 void hand_out(struct event *event, wl_dispatcher_func_t dispatcher, const void *implementation);
 

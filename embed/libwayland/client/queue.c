@@ -84,6 +84,7 @@ static void dispatch_event_locked(struct wl_display *display, struct event *even
         print_event("discarded ", event);
     if (event->is_dropped || (!dispatcher && !implementation))
         return;
+    event_told_locked(event);
     pthread_mutex_unlock(&display->lock);
     if (is_logging)
         print_event("", event);

@@ -135,6 +135,8 @@ EXPORT struct wl_proxy *wl_proxy_marshal_array_flags(struct wl_proxy *proxy, uin
 {
     struct wl_display *display = proxy->display;
     struct wl_proxy *made = NULL;
+    if (proxy->is_wrapper && (flags & WL_MARSHAL_FLAG_DESTROY))
+        log_and_abort("Tried to destroy wrapper with wl_proxy_destroy()\n");
     pthread_mutex_lock(&display->lock);
     if (!display->is_closed && interface && !(made = proxy_new_locked(proxy, interface, version)))
         fail_locked(display, errno);
