@@ -7,6 +7,7 @@ pub mod Actions
 pub mod Clients
 pub mod ReadingEnds
 pub mod Reading
+pub mod WithinLimit
 pub mod Globals
 pub mod Events
 pub mod Dispatch

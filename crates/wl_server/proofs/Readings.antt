@@ -3,6 +3,7 @@ pub mod Notes
 pub mod Texts
 pub mod Finishing
 pub mod Handling
+pub mod Limits
 pub mod Requesting
 pub mod OneMessage
 pub mod Words

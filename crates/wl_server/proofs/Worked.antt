@@ -5,3 +5,4 @@ pub mod Servers
 pub mod WholeCalls
 pub mod Announcements
 mod Chosen
+mod Limited

@@ -5,8 +5,8 @@ use Rattle.wl_wire.specs.declared.interface.InterfaceId.{InterfaceId}
 use Rattle.wl_wire.specs.Table.{InterfaceRow}
 use Rattle.wl_link.specs.declared.object.Object.{Object}
 use Rattle.wl_link.specs.Store.{Store, is_free, is_server_number, rewritten}
-use Rattle.wl_server.specs.declared.error.CreateError.{CreateError}
-use Rattle.wl_server.specs.declared.error.CreateError.TheVariants as create
+use Rattle.wl_server.specs.declared.error.CreateAtError.{CreateAtError}
+use Rattle.wl_server.specs.declared.error.CreateAtError.TheVariants as create
 use Rattle.wl_server.specs.declared.error.VersionError.{VersionError}
 use Rattle.wl_server.specs.declared.error.VersionError.TheVariants as wrong
 use Rattle.wl_server.specs.declared.objects.Kept.{Kept}
@@ -37,9 +37,9 @@ module _ {T U C : Type 0} where
 
   -- A new object gets this number, which has to be free in the client's range, and the next serial. The call is refused if the
   -- interface is not in the table, if no serial is left, or if the number is not free.
-  abbrev pub CreatesNumbered : List InterfaceRow → ClientParts → Part T U C → InterfaceId → ℕ → ℕ → U → Result IdParts CreateError → Part T U C → Type 0
+  abbrev pub CreatesNumbered : List InterfaceRow → ClientParts → Part T U C → InterfaceId → ℕ → ℕ → U → Result IdParts CreateAtError → Part T U C → Type 0
   CreatesNumbered table client before i version n u answer after =
       MatchOption (slice_get table i.0) ((answer ≡ Err create.UnknownInterface) × (after ≡ before))
       (λ _. MatchBool (before.last_serial == last_possible_serial) ((answer ≡ Err create.SerialsExhausted) × (after ≡ before))
-      (MatchBool (is_free_own before.store n) (CreatesAt client before n (new_object before i version u) answer after)
+      (MatchBool (is_free_own before.store n) (CreatesAt create.OutOfMemory client before n (new_object before i version u) answer after)
       ((answer ≡ Err create.NotFree) × (after ≡ before))))

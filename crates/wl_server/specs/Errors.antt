@@ -52,6 +52,10 @@ fault_text table i row (wrong.WrongInterface n asked got) =
     ++ (codes ": expected " ++ (name_of table asked.0 ++ (codes " but got " ++ (name_of table got.0 ++ codes ".")))))))
 fault_text table i row wrong.NullObject = codes "Invalid null object in request " ++ (request_name table i row ++ codes ".")
 
+-- a request that would make more objects than the limit allows
+abbrev pub limit_text : ℕ → List ℕ
+limit_text limit = codes "Too many objects: at most " ++ decimal limit ++ codes "."
+
 -- ---- an error
 
 -- what a client is killed for: the code, the object, the interface that the id has, and the text

@@ -25,11 +25,13 @@ pub record Globals (G : Type 0) : Type 0 where
 abbrev pub name_range : Range
 name_range = record { first = 1; end = 0x100000000 }
 
--- what the server offers to all clients: its table, its globals, and the limit of a new client's buffers
+-- what the server offers to all clients: its table, its globals, the limit of a new client's buffers, and the greatest number at
+-- which a request may make an object, if there is a limit
 pub record Offer (G : Type 0) : Type 0 where
   pub table : List InterfaceRow
   pub globals : Globals G
   pub default_limit : ℕ
+  pub object_limit : Option ℕ
 
 -- what a client sees of a global
 pub record Shown : Type 0 where
@@ -42,7 +44,7 @@ module _ {G : Type 0} where
   no_globals = record { store = empty_store; last_serial = 0; keeps_names = false }
 
   abbrev pub new_offer : List InterfaceRow → Offer G
-  new_offer table = record { table = table; globals = no_globals; default_limit = 4096 }
+  new_offer table = record { table = table; globals = no_globals; default_limit = 4096; object_limit = None }
 
   abbrev pub with_globals : Offer G → Globals G → Offer G
   with_globals offer globals = record offer { globals = globals }

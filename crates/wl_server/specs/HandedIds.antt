@@ -1,6 +1,5 @@
 -- The ids that calls hand out.
 use Rattle.std.specs.Prelude.{List, [], ◌∷◌, ◌++◌, Option, None, Some, Result, Ok, Err}
-use Rattle.wl_server.specs.declared.error.CreateError.{CreateError}
 use Rattle.wl_server.specs.Deeds.{Bind, Handed, Request}
 use Rattle.wl_server.specs.Ids.{IdParts}
 use Rattle.wl_link.specs.Identity.{HandedId, Found, New, argument_ids}
@@ -15,6 +14,6 @@ action_ids (Request sender opcode args is_destructor created) = Found sender ∷
 action_ids (Bind global object) = New object ∷ []
 
 -- the id of an object that the program made
-abbrev pub made_ids : Result IdParts CreateError → List (HandedId IdParts)
+abbrev pub made_ids : {E : Type 0} → Result IdParts E → List (HandedId IdParts)
 made_ids (Ok id) = New id ∷ []
 made_ids (Err e) = []

@@ -5,6 +5,7 @@ pub mod Deeds
 pub mod Globals
 pub mod Telling
 pub mod Errors
+pub mod Limited
 pub mod Objects
 pub mod Events
 pub mod Requests
@@ -37,6 +38,7 @@ pub mod Cutting
 pub mod Stretches
 pub mod Room
 pub mod Bounded
+pub mod WithinLimit
 pub mod Killed
 pub mod GivenOnce
 pub mod Accounts

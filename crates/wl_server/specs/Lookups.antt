@@ -1,5 +1,5 @@
 -- What look-ups answer. They change nothing.
-use Rattle.std.specs.Prelude.{ℕ, ◌+◌, List, [], ◌∷◌, ◌++◌, Bool, ◌==◌, if◌then◌else◌, Option, None, Some, map, option_map}
+use Rattle.std.specs.Prelude.{ℕ, ◌+◌, List, [], ◌∷◌, ◌++◌, Bool, ◌==◌, if◌then◌else◌, Option, None, Some, length, map, option_map}
 use Rattle.std.specs.FinMap as finmap
 use Rattle.std.specs.Fmt.{decimal}
 use Rattle.std.specs.Prelude.{codes}
@@ -7,6 +7,7 @@ use Rattle.wl_wire.specs.declared.interface.InterfaceId.{InterfaceId}
 use Rattle.wl_wire.specs.declared.interface.ObjectInfo.{ObjectInfo}
 use Rattle.wl_wire.specs.Table.{InterfaceRow, name_of}
 use Rattle.wl_link.specs.declared.object.Object.{Object}
+use Rattle.wl_link.specs.Link.{LinkState}
 use Rattle.wl_link.specs.Store.{held}
 use Rattle.wl_server.specs.declared.ids.global_id.GlobalInfo.{GlobalInfo}
 use Rattle.wl_server.specs.declared.objects.Kept.{Kept}
@@ -24,6 +25,10 @@ and_then (Some x) f = f x
 -- the id as a text: the name of its interface, the number, and the slot of its client
 abbrev pub display_text : List InterfaceRow → IdParts → List ℕ
 display_text table id = name_of table id.interface.0 ++ codes "@" ++ decimal id.number ++ codes "[" ++ decimal id.client.slot ++ codes "]"
+
+-- how many bytes and tokens wait on the way in, and how many on the way out
+abbrev pub waiting_in : {T : Type 0} → LinkState T → List ℕ
+waiting_in l = length l.incoming.bytes ∷ length l.incoming.tokens ∷ length l.outgoing.bytes ∷ length l.outgoing.tokens ∷ []
 
 abbrev pub info_at : {U : Type 0} → ℕ → Object (Kept U) → ObjectInfo
 info_at n x = record { id = n; interface = x.interface; version = x.version }
@@ -78,6 +83,10 @@ module _ {T U G C : Type 0} (s : ServerState T U G C) where
 
   abbrev pub transport_of : ClientParts → Option T
   transport_of id = option_map (λ p. p.link.transport) (client_of id)
+
+  -- how many bytes and tokens of a client were received and not read, and how many for it were written and not sent
+  abbrev pub waiting_of : ClientParts → Option (List ℕ)
+  waiting_of id = option_map (λ p. waiting_in p.link) (client_of id)
 
   -- the id of the client's object that has the number, if it is of that interface
   abbrev pub object_for_number : ClientParts → InterfaceId → ℕ → Option IdParts

@@ -33,11 +33,11 @@ module _ {T U C : Type 0} where
   abbrev pub with_new_at : Part T U C → ℕ → Object (Kept U) → Part T U C
   with_new_at p n x = record p { store = stored p.store n x; last_serial = p.last_serial + 1 }
 
-  -- at this number; or there is no memory for one that was never in use
-  abbrev pub CreatesAt : ClientParts → Part T U C → ℕ → Object (Kept U) → Result IdParts CreateError → Part T U C → Type 0
-  CreatesAt client before n x answer after =
+  -- at this number; or there is no memory for one that was never in use, which this error says
+  abbrev pub CreatesAt : {E : Type 0} → E → ClientParts → Part T U C → ℕ → Object (Kept U) → Result IdParts E → Part T U C → Type 0
+  CreatesAt no_memory client before n x answer after =
       ((answer ≡ Ok (id_at client n x)) × (after ≡ with_new_at before n x))
-      ⊎ ((answer ≡ Err create.OutOfMemory) × (n ≡ first_unused before.store n) × (after ≡ before))
+      ⊎ ((answer ≡ Err no_memory) × (n ≡ first_unused before.store n) × (after ≡ before))
 
   -- A new object gets the least number of the server's range that holds none, and the next serial. The call is refused if
   -- the interface is not in the table, or if no number or no serial is left.
@@ -48,7 +48,7 @@ module _ {T U C : Type 0} where
       ⊎ ((n : ℕ) × IsLeastAbsent server_range before.store n
       × MatchBool (before.last_serial == last_possible_serial)
       ((answer ≡ Err create.SerialsExhausted) × (after ≡ before))
-      (CreatesAt client before n (new_object before i version u) answer after)))
+      (CreatesAt create.OutOfMemory client before n (new_object before i version u) answer after)))
 
 -- ---- an object that leaves
 

@@ -18,6 +18,8 @@ use Rattle.wl_link.specs.Script.{Script, ScriptReceives, ScriptSends}
 use Rattle.wl_server.specs.declared.reading.action.Reading.{Reading}
 use Rattle.wl_server.specs.declared.error.ActionError.{ActionError}
 use Rattle.wl_server.specs.declared.error.ActionError.TheVariants.{Io}
+use Rattle.wl_server.specs.declared.error.CreateAtError.{CreateAtError}
+use Rattle.wl_server.specs.declared.error.CreateAtError.TheVariants as create_at
 use Rattle.wl_server.specs.declared.error.CreateError.{CreateError}
 use Rattle.wl_server.specs.declared.error.CreateError.TheVariants as create
 use Rattle.wl_server.specs.declared.error.DestroyError.TheVariants as destroy
@@ -78,6 +80,10 @@ abbrev pub lacks_create : Result IdParts CreateError → Bool
 lacks_create (Err create.OutOfMemory) = true
 lacks_create _ = false
 
+abbrev pub lacks_create_at : Result IdParts CreateAtError → Bool
+lacks_create_at (Err create_at.OutOfMemory) = true
+lacks_create_at _ = false
+
 abbrev pub lacks_move : Moved → Bool
 lacks_move (Err script.OutOfMemory) = true
 lacks_move _ = false
@@ -118,7 +124,7 @@ module _ {T U C : Type 0} where
   WithTransport becomes before after = (t : T) × becomes before.link.transport t × (after ≡ with_link before (with_transport before.link t))
 
 abbrev pub around : {T G C : Type 0} → World T G C → ClientParts → Offer G → Around G C
-around w id offer = record { table = offer.table; client = id; globals = offer.globals; views = w.views }
+around w id offer = record { table = offer.table; client = id; globals = offer.globals; views = w.views; object_limit = offer.object_limit }
 
 module _ {T U G C : Type 0} (w : World T G C) (id : ClientParts) (offer : Offer G) where
   -- ---- insertion
@@ -210,8 +216,8 @@ module _ {T U G C : Type 0} (w : World T G C) (id : ClientParts) (offer : Offer 
   PartStep (step.CreateObjectAt target i version n u) answer before lacked did after =
       (r : _) × (answer ≡ reply.CreateObjectAt r)
       × OfClient (same_client target id) before
-      (λ p q. (lacked ≡ lacks_create r) × (did ≡ []) × CreatesNumbered offer.table id p i version n u r q)
-      (r ≡ Err create.InvalidId) lacked did after
+      (λ p q. (lacked ≡ lacks_create_at r) × (did ≡ []) × CreatesNumbered offer.table id p i version n u r q)
+      (r ≡ Err create_at.InvalidId) lacked did after
   PartStep (step.DestroyObject o) answer before lacked did after =
       (r : _) × (answer ≡ reply.DestroyObject r)
       × OfClient (same_client o.client id) before (λ p q. Destroys w.sends id p o r lacked did q) (r ≡ Err destroy.InvalidId) lacked did after
@@ -231,6 +237,7 @@ module _ {T U G C : Type 0} (w : World T G C) (id : ClientParts) (offer : Offer 
   PartStep (step.DisableGlobal g) answer before lacked did after = (answer ≡ reply.DisableGlobal) × FeelsLoss g before lacked did after
   PartStep (step.RemoveGlobal g) answer before lacked did after = (answer ≡ reply.RemoveGlobal) × FeelsLoss g before lacked did after
   PartStep (step.KeepGlobalNames keep) answer before lacked did after = (answer ≡ reply.KeepGlobalNames) × Unfelt before lacked did after
+  PartStep (step.SetObjectLimit limit) answer before lacked did after = (answer ≡ reply.SetObjectLimit) × Unfelt before lacked did after
   PartStep (step.Flush target) answer before lacked did after =
       (r : _) × (answer ≡ reply.Flush r) × FlushedFor target r before lacked did after
   PartStep (step.SetDefaultMaxBufferSize limit) answer before lacked did after =

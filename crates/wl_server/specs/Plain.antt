@@ -164,7 +164,7 @@ module _ {T U G C : Type 0} where
     pub globals : GlobalsStay before after
 
   -- The answer is the id of a new object of that interface and version, with the data. Or nothing has changed.
-  abbrev pub CreatedAs : BackendState T U G C → ClientParts → InterfaceId → ℕ → U → Result IdParts CreateError → BackendState T U G C → Type 0
+  abbrev pub CreatedAs : {E : Type 0} → BackendState T U G C → ClientParts → InterfaceId → ℕ → U → Result IdParts E → BackendState T U G C → Type 0
   CreatedAs before client i version u (Ok id) after =
       (id.client ≡ client) × (id.interface ≡ i) × (object_in before id ≡ None) × (object_in after id ≡ Some (fresh_object i version id.serial (Some u)))
       × OtherObjectsStay before id after

@@ -26,20 +26,23 @@ use Rattle.wl_server.specs.declared.objects.Kept.{Kept}
 use Rattle.wl_server.specs.declared.globals.KeptGlobal.{KeptGlobal}
 use Rattle.wl_server.specs.Deeds.{Acted, Came, Deed, Handed, Remembered, Sent, handed}
 use Rattle.wl_server.specs.Deeds as deeds
-use Rattle.wl_server.specs.Errors.{bind_text, fault_text, new_id_text, posts, since_text}
+use Rattle.wl_server.specs.Errors.{bind_text, fault_text, limit_text, new_id_text, posts, since_text}
 use Rattle.wl_server.specs.Finish.{finishing}
 use Rattle.wl_server.specs.Globals.{Globals, global_at, is_visible, shown}
 use Rattle.wl_server.specs.Ids.{ClientParts, GlobalParts}
+use Rattle.wl_server.specs.Limited.{limit_passed}
 use Rattle.wl_server.specs.Part.{Part, display_of, id_at}
 use Rattle.wl_server.specs.Requests.{Outcome, Whole, Wrong, convert, is_valid_new, made_id, start, with_made}
 use Rattle.wl_server.specs.Telling.{Core, Did, Finish, Stops, Told, closed_down, deeds_of, deletions, done_message, introductions, objects_in, part_of, reader_part, tells, with_objects}
 
--- what a reading looks at beside its own client: the table, the client's id, the globals, and what a client may see of them
+-- what a reading looks at beside its own client: the table, the client's id, the globals, what a client may see of them, and the
+-- greatest number at which a request may make an object, if there is a limit
 pub record Around (G C : Type 0) : Type 0 where
   pub table : List InterfaceRow
   pub client : ClientParts
   pub globals : Globals G
   pub views : G → ClientParts → C → GlobalParts → Bool
+  pub object_limit : Option ℕ
 
 -- ---- what the table says of a request
 
@@ -171,11 +174,20 @@ module _ {U G C : Type 0} (a : Around G C) where
   -- ---- the reader
 
   -- a request goes by the interface of its object, whatever the object's number is
-  abbrev pub request_to : Core U C → WireMessage → Object (Kept U) → MessageRow → Verdict (Core U C) (Told U)
-  request_to c m receiver row =
+  abbrev pub by_interface : Core U C → WireMessage → Object (Kept U) → MessageRow → Verdict (Core U C) (Told U)
+  by_interface c m receiver row =
       if receiver.interface.0 == display_id.0
       then display_request c m.opcode m.args
       else (if receiver.interface.0 == registry_id.0 then registry_request c m.args else other_request c m receiver row)
+
+  -- a request that passed this limit is refused, with code 2 (`no_memory`); else it is this verdict
+  abbrev pub unless_passed : Core U C → Option ℕ → Verdict (Core U C) (Told U) → Verdict (Core U C) (Told U)
+  unless_passed c None v = v
+  unless_passed c (Some limit) v = breaks c 2 (limit_text limit)
+
+  -- a request to a kept object; the limit is looked at before anything else of it
+  abbrev pub request_to : Core U C → WireMessage → Object (Kept U) → MessageRow → Verdict (Core U C) (Told U)
+  request_to c m receiver row = unless_passed c (limit_passed a.object_limit m.args) (by_interface c m receiver row)
 
   -- what a request does
   abbrev pub request : Core U C → WireMessage → Option (Object (Kept U)) → Option MessageRow → Verdict (Core U C) (Told U)

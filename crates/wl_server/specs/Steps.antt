@@ -85,6 +85,7 @@ module _ {T U G C : Type 0} where
   offer_after offer (Asked (step.RemoveGlobal g) answer) = with_globals offer (freed offer.globals g)
   offer_after offer (Asked (step.KeepGlobalNames keep) answer) = keeping offer keep
   offer_after offer (Asked (step.SetDefaultMaxBufferSize limit) answer) = record offer { default_limit = limit }
+  offer_after offer (Asked (step.SetObjectLimit limit) answer) = record offer { object_limit = limit }
   offer_after offer (Grown rows answer) = with_table offer (table_after offer.table rows answer)
   offer_after offer _ = offer
 

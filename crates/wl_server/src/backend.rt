@@ -39,6 +39,8 @@ pub struct Backend<T, U, G, C> {
     pub(crate) keeps_names: bool,
     /// How far the buffers of new clients may grow, in bytes.
     pub(crate) default_limit: usize,
+    /// The greatest number at which a request may make an object, if there is a limit.
+    pub(crate) object_limit: Option<u32>,
     /// The serial of the client that was inserted last; 0 if none was.
     pub(crate) last_client: u64,
     /// The clients by slot.
@@ -83,6 +85,7 @@ impl<T, U, G, C> Model for Backend<T, U, G, C> {
           table = b.protocol;
           globals = record { store = b.globals.store; last_serial = b.last_global; keeps_names = b.keeps_names };
           default_limit = b.default_limit;
+          object_limit = b.object_limit;
         };
         last_client = b.last_client;
         clients = b.clients.items;
@@ -107,6 +110,7 @@ impl<T: Drop, U: Drop, G: Drop, C: Drop> Backend<T, U, G, C> {
             last_global: 0,
             keeps_names: false,
             default_limit: DEFAULT_MAX_BUFFER_SIZE,
+            object_limit: None,
             last_client: 0,
             clients: Vec::new(alloc),
             touched: Touched::all(alloc),

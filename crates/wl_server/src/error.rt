@@ -43,13 +43,37 @@ pub enum CreateError {
     /// There was no memory.
     #[error("out of memory")]
     OutOfMemory,
-    /// The number that was asked for is not free. Only `create_object_at` asks for one.
-    #[error("the number is not free")]
-    NotFree,
 }
 
 /// Writes what `Display` writes.
 impl fmt::Debug for CreateError {
+    fn fmt<W: fmt::Write>(&self, f: &mut fmt::Formatter<W>) -> fmt::Result {
+        write!(f, "{self}")
+    }
+}
+
+/// Why an object was not created at the number that the program chose.
+#[derive(Clone, Copy, PartialEq, Eq, Error)]
+pub enum CreateAtError {
+    /// The client is not stored.
+    #[error("Invalid Id")]
+    InvalidId,
+    /// The interface is not in the table.
+    #[error("the interface is not in the table")]
+    UnknownInterface,
+    /// Each serial was given out.
+    #[error("no serial is left")]
+    SerialsExhausted,
+    /// The number is not free, or not in the client's range.
+    #[error("the number is not free")]
+    NotFree,
+    /// There was no memory.
+    #[error("out of memory")]
+    OutOfMemory,
+}
+
+/// Writes what `Display` writes.
+impl fmt::Debug for CreateAtError {
     fn fmt<W: fmt::Write>(&self, f: &mut fmt::Formatter<W>) -> fmt::Result {
         write!(f, "{self}")
     }

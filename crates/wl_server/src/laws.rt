@@ -62,6 +62,7 @@ ghost use Rattle.wl_server.specs.Server.{Seen, ServerState, Stored, new_server};
 ghost use Rattle.wl_server.specs.Steps.{EachStandsFor, RiseBySlot, Entry, InsertsNext, OneStep, StandsFor, StepOf};
 ghost use Rattle.wl_server.specs.Stretches.{StretchIsServed, IsStretch, IsStretchWithin, SameLeft, handed_out, arrived, beside_exchanges, finished};
 ghost use Rattle.wl_server.specs.Telling.{Core, Finish, Told, reader_part};
+ghost use Rattle.wl_server.specs.WithinLimit.{ReadsWithinLimit};
 ghost use Rattle.wl_server.specs.Outcome.Whole.{AnswersAlike, HoldsSame, PerformancesHaveOneOutcome, RunsHaveOneOutcome};
 
 use crate::dispatch::Handler;
@@ -414,6 +415,16 @@ pub fn each_reading_ends_for_a_reason<T: Transport, U, G: GlobalHandler<C>, C>()
     ensures { (a : Around G C) (left : ℕ) (before : Part T U C) (turns : List Turn) (out : Gives (Told U)) (end : ReaderState T (Core U C)) →
         before.is_killed ≡ false → before.action ≡ None → Reads T.sends (server a) T.receives left (reader_part before) turns out end →
         ReadingEnds T.sends T.receives a (reader_part before) turns (answered out.stopped out.gave) out.refused out.left end }
+{}
+
+/// No reading makes an object above the limit of objects: what the numbers above it hold stays (`Backend::set_object_limit`).
+///
+/// No other call makes an object but `insert_client`, `create_object` and `create_object_at` (their `plain`). So a client has at
+/// most as many objects of its own numbers as the limit says, its display among them, if the limit was set before it was
+/// inserted, was not raised since, and the program creates none for it at a number above the limit.
+pub fn no_reading_makes_an_object_above_the_limit<T: Transport, U, G: GlobalHandler<C>, C>()
+    ensures { (before after : ServerState T U G C) (e : Entry T U G C) →
+        OneStep (over T.sends T.receives G.views) before e after → ReadsWithinLimit before after e.call }
 {}
 
 /// A call that does not read a client receives nothing from it. `next_action` receives from its client at most 64 times.

@@ -20,6 +20,7 @@
 //! | `transport_mut` | `client::transport` | `Backend`, `Lending`, `Plain/Transport` |
 //! | `create_object`, `destroy_object`, `set_object_data`, `with_object_data` | `objects` | `Objects`, `Plain/DataInPlace` |
 //! | `create_object_at`, `set_object_version` | `objects::create_at`, `objects::version` | `Chosen`, `Plain/Chosen` |
+//! | `set_object_limit` | `objects::limit` | `Limited`, `Plain/Calls` |
 //! | `send_event`, `send_event_lent`, `post_error` | `events` | `Events`, `Errors`, `Posted` |
 //! | `next_action`, `next_action_within`, and both `_into` | `reading::next_action` | `Reading`, `Requests`, `Cutting`, `Room`, `Plain/Reading`, `ReadingEnds` |
 //! | `finish_request`, `finish_bind`, and both `_returning` | `reading::finish` | `Finish`, `Cutting`, `Plain` |
@@ -38,12 +39,12 @@
 //!
 //! The laws of runs are the contracts of the functions of [`laws`]. A *run* is a list of calls, one after another. The
 //! words of each law stand in a file of `specs/`: `Runs` (each client is alone), `Identified` (ids), `Logged` (what was
-//! sent), `Announced` (globals), `NotedOnce` (notes), `Killed` (killed clients), `GivenOnce` (ids of clients and globals),
-//! `Accounts` (these seven, of one history), `Named` (what any id names), `NotedEnds` with its folder (which objects and
-//! errors notes tell of), `NoteOrder` with its folder (in which order notes come), `Cutting` and `Stretches` (it does not
-//! matter how the bytes are cut into receives), `Outcome` with its folder (there is one outcome), `Bounded` (how often is
-//! received), `ReadingEnds` (why a reading ends). That a message always has room in the buffer (`Room`) is a clause of
-//! `next_action` itself.
+//! sent), `Announced` (globals), `NotedOnce` (notes), `Killed` (killed clients), `GivenOnce` (ids of clients and
+//! globals), `Accounts` (these seven, of one history), `Named` (what any id names), `NotedEnds` with its folder (which
+//! objects and errors notes tell of), `NoteOrder` with its folder (in which order notes come), `Cutting` and
+//! `Stretches` (it does not matter how the bytes are cut into receives), `Outcome` with its folder (there is one
+//! outcome), `Bounded` (how often is received), `WithinLimit` (no object above the limit), `ReadingEnds` (why a reading
+//! ends). That a message always has room in the buffer (`Room`) is a clause of `next_action` itself.
 #![tactic(auto)]
 
 /// The server: what it holds, how one is made, and `memory_refused`: whether memory ran out in the last call.
@@ -79,8 +80,8 @@ pub use backend::Backend;
 pub use client::flush_client::Flushed;
 pub use dispatch::Handler;
 pub use error::{
-    ActionError, CreateError, DestroyError, EventError, FinishError, FinishRefused, GlobalError,
-    InsertClientError, InvalidId, ScriptError, VersionError,
+    ActionError, CreateAtError, CreateError, DestroyError, EventError, FinishError, FinishRefused,
+    GlobalError, InsertClientError, InvalidId, ScriptError, VersionError,
 };
 pub use globals::handler::{GlobalHandler, ShownToAll};
 pub use ids::client_id::ClientId;

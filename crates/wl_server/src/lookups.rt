@@ -8,6 +8,8 @@ ghost use Rattle.wl_server.specs.Server.{client_at};
 pub mod held;
 /// Calls a closure for each live client, or for each object of a client.
 pub mod visits;
+/// How much waits for a client, and of it.
+pub mod waiting;
 /// Iterators over clients and objects.
 pub mod walks;
 

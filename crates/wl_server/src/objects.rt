@@ -16,6 +16,8 @@ pub mod create_at;
 pub mod data;
 /// `destroy_object`.
 pub mod destroy;
+/// `set_object_limit`.
+pub mod limit;
 /// `set_object_version`.
 pub mod version;
 

@@ -6,7 +6,7 @@ ghost use Rattle.std.specs.Str.Lossy.{utf8_lossy};
 ghost use Rattle.std.specs.String.{string_bytes};
 ghost use Rattle.wl_wire.specs.Table.{holds_zero, message_row, name_of};
 ghost use Rattle.wl_server.specs.declared.reading.response.RequestFault.TheVariants as wrong;
-ghost use Rattle.wl_server.specs.Errors.{error_of, new_id_text as text_of_new_id, bind_text as text_of_bind, since_text as text_of_since, fault_text as text_of_fault};
+ghost use Rattle.wl_server.specs.Errors.{error_of, limit_text as text_of_limit, new_id_text as text_of_new_id, bind_text as text_of_bind, since_text as text_of_since, fault_text as text_of_fault};
 
 use crate::ids::object_id::ObjectId;
 use crate::reading::response::RequestFault;
@@ -59,6 +59,16 @@ pub fn new_id_text(alloc: Global, number: u32) -> Result<CString, OutOfMemory>
     ensures { IfOk result (λ text. text ≡ text_of_new_id number) }
 {
     let text = format!(in alloc; "Invalid new_id: {number}.")?;
+    Ok(c_string(text))
+}
+
+/// The text for a request that would make more objects than the limit allows.
+#[cold]
+#[inline(never)]
+pub fn limit_text(alloc: Global, limit: u32) -> Result<CString, OutOfMemory>
+    ensures { IfOk result (λ text. text ≡ text_of_limit limit) }
+{
+    let text = format!(in alloc; "Too many objects: at most {limit}.")?;
     Ok(c_string(text))
 }
 

@@ -19,6 +19,8 @@ pub mod front_request;
 pub mod handle_message;
 /// Hands out most requests where they stand in the buffer, without reading them into a message.
 pub mod in_place;
+/// The limit of objects: whether a request goes beyond it.
+pub mod limit;
 /// `next_action` and `next_action_within`, and both `_into`.
 pub mod next_action;
 /// The requests to objects that are neither displays nor registries.
@@ -46,4 +48,6 @@ pub struct Surroundings<'a, G> {
     pub globals: &'a ObjectMap<KeptGlobal<G>>,
     /// The id of the client.
     pub client: ClientId,
+    /// The greatest number at which a request may make an object, if there is a limit.
+    pub object_limit: Option<u32>,
 }

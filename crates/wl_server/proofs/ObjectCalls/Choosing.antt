@@ -10,8 +10,8 @@ use Rattle.wl_link.specs.declared.object_map.InsertError.{InsertError}
 use Rattle.wl_link.specs.declared.object_map.InsertError.TheVariants as insert
 use Rattle.wl_link.specs.Store.{Store, held, is_free, is_server_number, rewritten, stored}
 use Rattle.wl_link.proofs.Calls.Branches.{at_false, at_true, map_bool}
-use Rattle.wl_server.specs.declared.error.CreateError.{CreateError}
-use Rattle.wl_server.specs.declared.error.CreateError.TheVariants as create
+use Rattle.wl_server.specs.declared.error.CreateAtError.{CreateAtError}
+use Rattle.wl_server.specs.declared.error.CreateAtError.TheVariants as create
 use Rattle.wl_server.specs.declared.error.VersionError.{VersionError}
 use Rattle.wl_server.specs.declared.error.VersionError.TheVariants as wrong
 use Rattle.wl_server.specs.declared.objects.Kept.{Kept}
@@ -67,10 +67,10 @@ known : {A : Type 0} (o : Option A) (X Y : Type 0) → is_some o ≡ true → Y 
 known h1 h2 h3 is y = grind (arith, false≢true)
 
 module _ {T U C : Type 0} (table : List InterfaceRow) (client : ClientParts) (s : Stored T U C) (i : InterfaceId) (version n : ℕ) (u : U) where
-  abbrev pub Numbered : Result IdParts CreateError → Part T U C → List (Deed U) → Part T U C → Type 0
+  abbrev pub Numbered : Result IdParts CreateAtError → Part T U C → List (Deed U) → Part T U C → Type 0
   Numbered answer p did q = (did ≡ []) × CreatesNumbered table client p i version n u answer q
 
-  abbrev Refused : CreateError → Store (Kept U) → Type 0
+  abbrev Refused : CreateAtError → Store (Kept U) → Type 0
   Refused e store =
       Does s (λ p did q. Numbered (Err e) p did q) (record { serial = s.serial; part = record s.part { store = store }; made = s.made; times = no_times })
 

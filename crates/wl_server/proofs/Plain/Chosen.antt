@@ -8,8 +8,8 @@ use Rattle.wl_link.proofs.Calls.Branches.{either_option}
 use Rattle.wl_link.proofs.Ids.StoreLaws.{held_stored, stored_here}
 use Rattle.wl_link.specs.declared.object.Object.{Object}
 use Rattle.wl_link.specs.Store.{held, stored}
-use Rattle.wl_server.specs.declared.error.CreateError.{CreateError}
-use Rattle.wl_server.specs.declared.error.CreateError.TheVariants as create
+use Rattle.wl_server.specs.declared.error.CreateAtError.{CreateAtError}
+use Rattle.wl_server.specs.declared.error.CreateAtError.TheVariants as create
 use Rattle.wl_server.specs.declared.error.VersionError.{VersionError}
 use Rattle.wl_server.specs.declared.error.VersionError.TheVariants as wrong
 use Rattle.wl_server.specs.declared.objects.Kept.{Kept}
@@ -22,7 +22,7 @@ use Rattle.wl_server.specs.Identified.{named_of}
 use Rattle.wl_server.specs.Ids.{ClientParts, IdParts, same_client}
 use Rattle.wl_server.specs.Objects.{new_object, with_new_at}
 use Rattle.wl_server.specs.Part.{Part, fresh_object, id_at, id_of, last_possible_serial, named, same_id, serial_of}
-use Rattle.wl_server.specs.PartStep.{Quietly, World, lacks_create}
+use Rattle.wl_server.specs.PartStep.{Quietly, World, lacks_create_at}
 use Rattle.wl_server.specs.Plain.{CreatedAs, OtherObjectsStay, without_objects}
 use Rattle.wl_server.specs.Plain.Chosen.{CreatesObjectAt, SetsObjectVersion, VersionSetAs}
 use Rattle.wl_server.specs.Server.{Seen, seen}
@@ -82,10 +82,10 @@ module _ {T U G C : Type 0} {w : World T G C} {before after : BackendState T U G
 -- ---- a number
 
 -- what the call does to its client
-abbrev NumbersFor : {T U C : Type 0} → List InterfaceRow → InterfaceId → ℕ → ℕ → U → Result IdParts CreateError → ClientParts → Bool → List (Deed U)
+abbrev NumbersFor : {T U C : Type 0} → List InterfaceRow → InterfaceId → ℕ → ℕ → U → Result IdParts CreateAtError → ClientParts → Bool → List (Deed U)
     → Part T U C → Part T U C → Type 0
 NumbersFor table i version n u answer client lacked did p q =
-    (lacked ≡ lacks_create answer) × (did ≡ []) × CreatesNumbered table client p i version n u answer q
+    (lacked ≡ lacks_create_at answer) × (did ≡ []) × CreatesNumbered table client p i version n u answer q
 
 module _ {T U C : Type 0} (table : List InterfaceRow) (client : ClientParts) (p : Part T U C) (i : InterfaceId) (version n : ℕ) (u : U) where
   -- an object was put at the number, which held none
@@ -113,7 +113,7 @@ module _ {T U C : Type 0} (table : List InterfaceRow) (client : ClientParts) (p 
             ]
       ]
 
-  same_part : (e : CreateError) (q : Part T U C) → CreatesNumbered table client p i version n u (Err e) q → q ≡ p
+  same_part : (e : CreateAtError) (q : Part T U C) → CreatesNumbered table client p i version n u (Err e) q → q ≡ p
   same_part e q h =
       elim (either_option (slice_get table i.0) h) [
         | inl (none, (is, same)) ↦ same
@@ -133,11 +133,11 @@ module _ {T U G C : Type 0} (before after : BackendState T U G C) (target : Clie
   abbrev table_of : List InterfaceRow
   table_of = before.server.offer.table
 
-  abbrev Numbering : Result IdParts CreateError → Type 0
+  abbrev Numbering : Result IdParts CreateAtError → Type 0
   Numbering answer = IsOfOne before after target (NumbersFor table_of i version n u answer target) (answer ≡ Err create.InvalidId)
 
   put_at : (id : IdParts) (s t : Seen T U C) (lacked : Bool) → OnOne (NumbersFor table_of i version n u (Ok id) target)
-      (◌≡◌ {A = Result IdParts CreateError} (Ok id) (Err create.InvalidId)) s lacked t
+      (◌≡◌ {A = Result IdParts CreateAtError} (Ok id) (Err create.InvalidId)) s lacked t
       → (id.client ≡ target) × (id.interface ≡ i) × (id.number ≡ n) × (named_of s id ≡ None)
       × (named_of t id ≡ Some (fresh_object i version id.serial (Some u)))
   put_at id s t lacked h =
@@ -147,12 +147,12 @@ module _ {T U G C : Type 0} (before after : BackendState T U G C) (target : Clie
   others_at id one other differ =
       names_stay one other (grind (arith, named, other_named, stored, held_stored, nothing_has, held, same_id, id_of, id_at, put_new, new_object, true≢false, same_client))
 
-  none_at : (e : CreateError) (s t : Seen T U C) (lacked : Bool) → OnOne (NumbersFor table_of i version n u (Err e) target)
-      (◌≡◌ {A = Result IdParts CreateError} (Err e) (Err create.InvalidId)) s lacked t
+  none_at : (e : CreateAtError) (s t : Seen T U C) (lacked : Bool) → OnOne (NumbersFor table_of i version n u (Err e) target)
+      (◌≡◌ {A = Result IdParts CreateAtError} (Err e) (Err create.InvalidId)) s lacked t
       → t ≡ s
   none_at e s t lacked h = grind (arith, same_part, nothing_new, notes_in, append-nil)
 
-  numbered_as : (answer : Result IdParts CreateError) → Numbering answer
+  numbered_as : (answer : Result IdParts CreateAtError) → Numbering answer
       → CreatedAs before target i version u answer after × IfOk answer (λ id. id.number ≡ n)
   numbered_as (Ok id) one =
       let (of, interface, number, none, new) = put_at id _ _ after.refused one.own in
@@ -161,20 +161,18 @@ module _ {T U G C : Type 0} (before after : BackendState T U G C) (target : Clie
 
 module _ {T U G C : Type 0} {w : World T G C} {before after : BackendState T U G C} (target : ClientParts) (i : InterfaceId) (version n : ℕ)
     (u : U) where
-  pub creates_object_at : (answer : Result IdParts CreateError)
+  pub creates_object_at : (answer : Result IdParts CreateAtError)
       → Calls w before (step.CreateObjectAt target i version n u) (reply.CreateObjectAt answer) after
       → CreatesObjectAt before target i version n u answer after
   creates_object_at answer call =
       let (object, number) = numbered_as before after target i version n u answer one in
       record {
-        created = record {
-          object = object;
-          clients = one.clients;
-          notes = made_stay one (λ did p q r. ap notes_in r.1);
-          globals = one.globals;
-          memory = elim one.own [ not_stored none is calm same ↦ grind (arith, is) | became p q did there r same ↦ r.0 ];
-        };
+        object = object;
         number = number;
+        clients = one.clients;
+        notes = made_stay one (λ did p q r. ap notes_in r.1);
+        globals = one.globals;
+        memory = elim one.own [ not_stored none is calm same ↦ grind (arith, is) | became p q did there r same ↦ r.0 ];
       }
     where
       one : Numbering before after target i version n u answer

@@ -165,7 +165,7 @@ module _ {T U G C : Type 0} (sends : T → Queue → Result ℕ IoFault → T �
         → ReadingEnds sends receives a (reader_part p) turns answer lacked out.left end
         → MemoryOf answer lacked → IdsStay (objects_in (core_of p)) (objects_in end.core) → Comes r answer left lacked did p q
 
-  comes_to : (r : Reading) (answer : Result Handed ActionError) (left : Reading) (lacked : Bool) (did : List (Deed U)) (p q : Part T U C)
+  pub comes_to : (r : Reading) (answer : Result Handed ActionError) (left : Reading) (lacked : Bool) (did : List (Deed U)) (p q : Part T U C)
       → NextAction sends receives a r p answer left lacked did q → Comes r answer left lacked did p q
   comes_to r answer left lacked did p q h =
       elim (either_option p.action h) [

@@ -12,7 +12,7 @@ use Rattle.wl_link.proofs.Readings.RespectLaws.{reads_respect}
 use Rattle.wl_link.specs.Respect.{Keeps}
 use Rattle.wl_server.specs.declared.objects.Kept.{Kept}
 use Rattle.wl_server.specs.Deeds.{Deed, Put, came_in, notes_in, Handed, Remembered}
-use Rattle.wl_server.specs.Reading.{Around, breaks, converted, exchanges_in, garbled, server, action_in, answered, binds, binds_to, display_request, hands_out, may_bind, new_at, other_request, reads_on, registry_request, replies, request, row_in, stops_if, synced, with_registry, registers, syncs}
+use Rattle.wl_server.specs.Reading.{Around, breaks, converted, exchanges_in, garbled, server, action_in, answered, binds, binds_to, by_interface, display_request, hands_out, may_bind, new_at, other_request, reads_on, registry_request, replies, request, row_in, stops_if, synced, with_registry, registers, syncs, unless_passed}
 use Rattle.wl_server.specs.Requests.{Outcome, Whole, Wrong, convert, start, is_valid_new, made_id, made_object, with_made, Converted, Converting, allows_null, convert_one, going_on, kinds_after, object_found, with_new_argument, with_object_argument}
 use Rattle.wl_server.specs.Telling.{Core, Told, deeds_in, deeds_of, end_deeds, objects_in, Did, deletions, done_message, introductions, reader_part, with_objects}
 use Rattle.wl_server.proofs.OverRuns.Announced.RequestCases.{request_case}
@@ -31,7 +31,8 @@ use Rattle.wl_server.specs.declared.error.ActionError.TheVariants.{ActionOpen, I
 use Rattle.wl_server.specs.declared.globals.KeptGlobal.{KeptGlobal}
 use Rattle.wl_server.specs.declared.notes.DisconnectReason.TheVariants.{ConnectionClosed}
 use Rattle.wl_server.specs.declared.reading.action.OpenAction.{OpenAction}
-use Rattle.wl_server.specs.Errors.{new_id_text}
+use Rattle.wl_server.specs.Errors.{limit_text, new_id_text}
+use Rattle.wl_server.specs.Limited.{limit_passed}
 use Rattle.wl_server.specs.Globals.{global_at, shown}
 use Rattle.wl_server.specs.Ids.{IdParts, ClientParts}
 use Rattle.wl_server.specs.Part.{Part, id_at, fresh_object, null_id}
@@ -496,10 +497,16 @@ module _ {T U G C : Type 0} (sends : T → Queue → Result ℕ IoFault → T �
         let (receiver, row, holds, has) = read_row sends a here m link read in
         subst (λ (o : Option (Object (Kept U))). P (request a c m o (row_in a.table o m.opcode))) (sym holds)
         (subst (λ (o : Option MessageRow). P (request a c m (Some receiver) o)) (sym has)
-        (go receiver row holds has (eqb receiver.interface.0 display_id.0) (eqb receiver.interface.0 registry_id.0) refl refl))
+        (limited (limit_passed a.object_limit m.args) (by_interface a c m receiver row)
+        (go receiver row holds has (eqb receiver.interface.0 display_id.0) (eqb receiver.interface.0 registry_id.0) refl refl)))
       where
         P : Verdict (Core U C) (Told U) → Type 0
         P v = Turns Handled here v link
+
+        -- a request that passed the limit breaks the protocol
+        limited : (passed : Option ℕ) (v : Verdict (Core U C) (Told U)) → P v → P (unless_passed a c passed v)
+        limited None v other = other
+        limited (Some limit) v other = breaks_turns Handled here c 2 (limit_text limit) r took link
 
         go : (receiver : Object (Kept U)) (row : MessageRow) → held c.store m.sender ≡ Some receiver
             → request_row a.table receiver.interface m.opcode ≡ Some row → (b t : Bool)

@@ -48,7 +48,10 @@ use Rattle.wl_server.proofs.Readings.OneMessage.{message_handled}
 use Rattle.wl_link.specs.Reader.{Verdict}
 use Rattle.std.specs.Option.{option_map_or}
 use Rattle.std.proofs.lemmas.Option.{same_Some}
+use Rattle.wl_server.proofs.Readings.Limits.{MakesNone, none_passed, one_within}
 use Rattle.wl_server.proofs.Readings.Texts.{fixed_first}
+use Rattle.wl_server.specs.Limited.{is_above, is_new_above}
+use Rattle.std.specs.List.{list_any}
 
 -- the link without the message at its front
 abbrev pub taken : {T : Type 0} → LinkState T → LinkState T
@@ -108,7 +111,7 @@ module _ {T U G C : Type 0} (sends : T → Queue → Result ℕ IoFault → T �
     (a : Around G C)
     (s : Stored T U C) (n : ℕ) (live : Live s.part) (front : FrontRequest) (is_front : IsFront a.table s.part.store s.part.link front)
     (sync : IsSyncOf s.part.link front n)
-    (no_trace : LeavesNoTrace (objects_of s.part) n) where
+    (no_trace : LeavesNoTrace (objects_of s.part) n) (within : is_above a.object_limit n ≡ false) where
   abbrev core : Core U C
   core = core_of s.part
 
@@ -126,7 +129,8 @@ module _ {T U G C : Type 0} (sends : T → Queue → Result ℕ IoFault → T �
 
   to_display : (x : Object (Kept U)) → IsSenderOf front.sender x
       → request_to a core (record { sender = front.number; opcode = front.opcode; args = arg.NewId n ∷ [] }) x (row_of front) ≡ syncs a core n
-  to_display x (serial, interface, version) = rw (interface, sync.display, sync.opcode, no_trace.valid) refl
+  to_display x (serial, interface, version) =
+      rw (one_within a.object_limit n within, interface, sync.display, sync.opcode, no_trace.valid) refl
 
   pub sync_answered : (reading reading' : Reading) (link : LinkState T) (after : Stored T U C)
       → Puts sends (taken s.part.link) (done_message (new_at a core n) ∷ deletions n) (Ok tt) link
@@ -153,6 +157,11 @@ long_enough store (k ∷ kinds) asked bytes fit = grind (arith, and_parts, nat_l
 
 -- ---- the arguments are converted to what is handed out
 
+-- neither the first argument nor one of the others is a new id above the limit
+both_make_none : (limit : ℕ) (a : WireArgument) (args : List WireArgument) → list_any (is_new_above limit) (a ∷ []) ≡ false
+    → list_any (is_new_above limit) args ≡ false → list_any (is_new_above limit) (a ∷ args) ≡ false
+both_make_none limit a args first others = grind (arith, list_any, is_new_above limit a)
+
 -- a step that may find nothing has found something
 found_first : {A B : Type 0} (r : Option A) (f : A → Option B) (y : B) → (r >>= f) ≡ Some y → (x : A) × (r ≡ Some x) × (f x ≡ Some y)
 found_first h1 f y e = grind (arith)
@@ -171,10 +180,12 @@ module _ {U : Type 0} (client : ClientParts) (version : ℕ) (objects : Objects 
   abbrev at : List ArgumentType → List InterfaceId → Converting U
   at kinds asked = record { objects = objects; kinds = kinds; asked = asked; child = child; created = None }
 
-  -- the bytes begin with an argument of this type, which takes no token, and it is converted to this, with these bytes behind it
+  -- the bytes begin with an argument of this type, which takes no token and makes no object, and it is converted to this, with
+  -- these bytes behind it
   abbrev One : ArgumentType → List ArgumentType → List InterfaceId → List ℕ → Argument IdParts Token × List ℕ → Type 0
   One k kinds asked bytes x =
       (a : WireArgument) × (piece : List ℕ) × (bytes ≡ piece ++ x.1) × (token a ≡ []) × (fd_count (k ∷ kinds) ≡ fd_count kinds) × IsPiece k a piece
+      × MakesNone (a ∷ [])
       × (convert_one client version (at (k ∷ kinds) asked) a ≡ Ok (x.0, at kinds (asked_after k asked)))
 
   object_is : (null : AllowNull) (kinds : List ArgumentType) (asked : InterfaceId) (n : ℕ)
@@ -185,22 +196,22 @@ module _ {U : Type 0} (client : ClientParts) (version : ℕ) (objects : Objects 
   module _ (kinds : List ArgumentType) (asked : List InterfaceId) (bytes : List ℕ) where
     one_word : (k : ArgumentType) (a : WireArgument) (b : Argument IdParts Token) → 4 ≤ length bytes → token a ≡ []
         → fd_count (k ∷ kinds) ≡ fd_count kinds
-        → (IsWord (first_word bytes) (take 4 bytes) → IsPiece k a (take 4 bytes))
+        → (IsWord (first_word bytes) (take 4 bytes) → IsPiece k a (take 4 bytes)) → MakesNone (a ∷ [])
         → convert_one client version (at (k ∷ kinds) asked) a ≡ Ok (b, at kinds (asked_after k asked)) → One k kinds asked bytes (b, drop 4 bytes)
-    one_word k a b long none no_fd word converts =
+    one_word k a b long none no_fd word makes converts =
         let four : IsWord (first_word bytes) (take 4 bytes) = record { four = length-take-le 4 bytes long; value = refl } in
-        (a, take 4 bytes, sym (take-append-drop 4 bytes), none, no_fd, word four, converts)
+        (a, take 4 bytes, sym (take-append-drop 4 bytes), none, no_fd, word four, makes, converts)
 
     a_word : (k : ArgumentType) → 4 ≤ length bytes → word_fits objects.store k (next_interface asked) (first_word bytes) ≡ true
         → One k kinds asked bytes (handed_word client objects.store k (first_word bytes), drop 4 bytes)
     unfolding IsPiece
     a_word kind.Int long fit =
-        one_word kind.Int (arg.Int (cast_signed w32 (first_word bytes))) _ long refl refl (λ is. (first_word bytes, is, refl)) refl
-    a_word kind.Uint long fit = one_word kind.Uint (arg.Uint (first_word bytes)) _ long refl refl (λ is. is) refl
+        one_word kind.Int (arg.Int (cast_signed w32 (first_word bytes))) _ long refl refl (λ is. (first_word bytes, is, refl)) (λ l. refl) refl
+    a_word kind.Uint long fit = one_word kind.Uint (arg.Uint (first_word bytes)) _ long refl refl (λ is. is) (λ l. refl) refl
     a_word kind.Fixed long fit =
-        one_word kind.Fixed (arg.Fixed (cast_signed w32 (first_word bytes))) _ long refl refl (λ is. (first_word bytes, is, refl)) refl
+        one_word kind.Fixed (arg.Fixed (cast_signed w32 (first_word bytes))) _ long refl refl (λ is. (first_word bytes, is, refl)) (λ l. refl) refl
     a_word (kind.Object null) long fit =
-        one_word (kind.Object null) (arg.Object (first_word bytes)) _ long refl refl (λ is. is)
+        one_word (kind.Object null) (arg.Object (first_word bytes)) _ long refl refl (λ is. is) (λ l. refl)
         (ap (with_object_argument (at (kind.Object null ∷ kinds) asked)) (object_is null kinds (next_interface asked) (first_word bytes) fit))
     a_word _ long fit = absurd (true≢false (sym fit))
 
@@ -215,30 +226,31 @@ module _ {U : Type 0} (client : ClientParts) (version : ℕ) (objects : Objects 
         let (text, t, same) = found_first (text_of counted.0) (λ text. Some (arg.Str text, counted.1)) x found' in
         let read = text_read null bytes counted.0 counted.1 text c t in
         subst (One (kind.Str null) kinds asked bytes) (same_Some _ _ same)
-        (arg.Str text, read.piece, read.bytes, refl, refl, read.is_piece, refl)
+        (arg.Str text, read.piece, read.bytes, refl, refl, read.is_piece, (λ l. refl), refl)
     one_front kind.Array x found =
         let (counted, c, same) = found_first (counted_at bytes) (λ counted. Some (arg.Array counted.0, counted.1)) x found in
         let read = array_read bytes counted.0 counted.1 c in
         subst (One kind.Array kinds asked bytes) (same_Some _ _ same)
-        (arg.Array counted.0, read.piece, read.bytes, refl, refl, read.is_piece, refl)
+        (arg.Array counted.0, read.piece, read.bytes, refl, refl, read.is_piece, (λ l. refl), refl)
     one_front k x found = by_word k x found
 
   -- the bytes are arguments of these types, which take no token, and these are converted, behind `done`, to all that is handed out
   fronts_convert : (kinds : List ArgumentType) (asked : List InterfaceId) (bytes : List ℕ) (fds : List Token)
       (done handed : List (Argument IdParts Token))
       → fronts client objects.store done kinds asked bytes ≡ Some handed
-      → (args : List WireArgument) × ReadsArgs kinds args bytes fds × (fd_count kinds ≡ 0)
+      → (args : List WireArgument) × ReadsArgs kinds args bytes fds × (fd_count kinds ≡ 0) × MakesNone args
       × ((left : List InterfaceId) × (convert client version (at kinds asked) done args ≡ Whole (at [] left) handed))
   unfolding ReadsArgs
-  fronts_convert [] asked bytes fds done handed found = ([], tt, refl, (asked, ap (Whole (at [] asked)) (cc)))
+  fronts_convert [] asked bytes fds done handed found = ([], tt, refl, (λ l. refl), (asked, ap (Whole (at [] asked)) (cc)))
   fronts_convert (k ∷ kinds) asked bytes fds done handed found =
       let f = found_first (front_of client objects.store k (next_interface asked) bytes)
       (λ x. fronts client objects.store (done ++ x.0 ∷ []) kinds (asked_after k asked) x.1) handed found in
-      let (a, piece, bytes_are, no_token, same, is_piece, converts) = one_front kinds asked bytes k f.0 f.1 in
-      let (args, reads, no_fd, (left, is)) = fronts_convert kinds (asked_after k asked) f.0.1 fds (done ++ f.0.0 ∷ []) handed f.2 in (
+      let (a, piece, bytes_are, no_token, same, is_piece, makes, converts) = one_front kinds asked bytes k f.0 f.1 in
+      let (args, reads, no_fd, none, (left, is)) = fronts_convert kinds (asked_after k asked) f.0.1 fds (done ++ f.0.0 ∷ []) handed f.2 in (
         a ∷ args,
         (piece, f.0.1, fds, bytes_are, ap (λ (ts : List Token). ts ++ fds) (sym no_token), is_piece, reads),
         same ∙ no_fd,
+        (λ l. both_make_none l a args (makes l) (none l)),
         (left, ap (λ o. going_on o objects (λ b next. convert client version next (done ++ b ∷ []) args)) converts ∙ is),
       )
 
@@ -253,27 +265,38 @@ module _ {U : Type 0} (client : ClientParts) (version : ℕ) (objects : Objects 
 
 -- ---- what is handed out
 
-module _ {U : Type 0} (client : ClientParts) (version : ℕ) (objects : Objects (Kept U)) (row : MessageRow) (payload : List ℕ) (fds : List Token) where
+module _ {U : Type 0} (client : ClientParts) (limit : Option ℕ) (version : ℕ) (objects : Objects (Kept U)) (row : MessageRow) (payload : List ℕ)
+    (fds : List Token) where
   pub fronts_hand_out : (handed : List (Argument IdParts Token))
       → fronts client objects.store [] row.signature row.arg_interfaces payload ≡ Some handed
-      → HandsOut client version objects row payload fds None objects handed
+      → HandsOut client limit version objects row payload fds None objects handed
   fronts_hand_out handed found =
-      let (args, reads, no_fd, (left, converts)) =
+      let (args, reads, no_fd, none, (left, converts)) =
       fronts_convert client version objects row.child_interface row.signature row.arg_interfaces payload fds [] handed found in
-      record { args = args; reads = reads; no_fd = no_fd; done = _; converts = converts; objects_are = refl; created_is = refl }
+      record {
+        args = args;
+        reads = reads;
+        no_fd = no_fd;
+        within = none_passed limit args none;
+        done = _;
+        converts = converts;
+        objects_are = refl;
+        created_is = refl;
+      }
 
   pub words_hand_out : (handed : List (Argument IdParts Token)) → words_fit objects.store row.signature row.arg_interfaces payload ≡ true
-      → handed ≡ handed_words client objects.store row.signature payload → HandsOut client version objects row payload fds None objects handed
+      → handed ≡ handed_words client objects.store row.signature payload → HandsOut client limit version objects row payload fds None objects handed
   words_hand_out handed fit is =
       fronts_hand_out handed (rw is (words_are client version objects row.child_interface row.signature row.arg_interfaces payload [] fit))
 
   -- the one argument is a new id, whose object is made
   pub new_hands_out : (i : InterfaceId) (id : IdParts) (after : Objects (Kept U)) (handed : List (Argument IdParts Token))
       → row.signature ≡ kind.NewId ∷ [] → row.child_interface ≡ Some i → 4 ≤ length payload
+      → is_above limit (first_word payload) ≡ false
       → MakesObject client objects i version (first_word payload) (Some id) after → handed ≡ arg.NewId id ∷ []
-      → HandsOut client version objects row payload fds (Some id) after handed
+      → HandsOut client limit version objects row payload fds (Some id) after handed
   unfolding ReadsArgs IsPiece
-  new_hands_out i id after handed one child long (valid, after_is, id_is) is =
+  new_hands_out i id after handed one child long within (valid, after_is, id_is) is =
       let n = first_word payload in
       let reads : ReadsArgs (kind.NewId ∷ []) (arg.NewId n ∷ []) payload fds
       = (take 4 payload, drop 4 payload, fds, sym (take-append-drop 4 payload), refl, record { four = length-take-le 4 payload long; value = refl }, tt) in
@@ -281,6 +304,7 @@ module _ {U : Type 0} (client : ClientParts) (version : ℕ) (objects : Objects 
         args = arg.NewId n ∷ [];
         reads = subst (λ (kinds : List ArgumentType). ReadsArgs kinds (arg.NewId n ∷ []) payload fds) (sym one) reads;
         no_fd = ap fd_count one;
+        within = one_within limit (first_word payload) within;
         done = record { objects = after; kinds = kinds_after row.signature; asked = row.arg_interfaces; child = None; created = Some id };
         converts = rw (child, valid, is, after_is, id_is) refl;
         objects_are = refl;
@@ -293,7 +317,7 @@ module _ {T U G C : Type 0} (sends : T → Queue → Result ℕ IoFault → T �
     (a : Around G C)
     (s : Stored T U C) (live : Live s.part) (front : FrontRequest) (is_front : IsFront a.table s.part.store s.part.link front)
     (created : Option IdParts) (objects : Objects (Kept U)) (handed_args : List (Argument IdParts Token))
-    (put : IsPut a.client (objects_of s.part) s.part.link front objects handed_args created) where
+    (put : IsPut a.client a.object_limit (objects_of s.part) s.part.link front objects handed_args created) where
   abbrev id : IdParts
   id = record { number = front.number; serial = front.sender.serial; client = a.client; interface = front.sender.interface }
 
@@ -303,7 +327,7 @@ module _ {T U G C : Type 0} (sends : T → Queue → Result ℕ IoFault → T �
   abbrev handed : Handed
   handed = Request id front.opcode handed_args (row_of front).is_destructor created
 
-  hands : HandsOut a.client front.sender.version (objects_of s.part) (row_of front)
+  hands : HandsOut a.client a.object_limit front.sender.version (objects_of s.part) (row_of front)
       (payload_of s.part.link.incoming.bytes) s.part.link.incoming.tokens created objects handed_args
   hands = put.hands s.part.link.incoming.tokens
 
@@ -312,7 +336,7 @@ module _ {T U G C : Type 0} (sends : T → Queue → Result ℕ IoFault → T �
       (with_objects (core_of s.part) objects) action handed
   to_sender x (serial, interface, version) =
       let stands = put.stands in
-      rw (serial, interface, version, stands.no_display, stands.no_registry, le-ltb front.sender.version _ stands.since, hands.converts)
+      rw (hands.within, serial, interface, version, stands.no_display, stands.no_registry, le-ltb front.sender.version _ stands.since, hands.converts)
       (ap₂ (λ (made : Option IdParts) (kept : Objects (Kept U)). hands_out (with_objects (core_of s.part) kept)
       (opened.Request id (row_of front).is_destructor made)
       (Request id front.opcode handed_args (row_of front).is_destructor made)) hands.created_is hands.objects_are)

@@ -1,5 +1,5 @@
 -- What is announced by worked logs, computed from the definition.
-use Rattle.std.proofs.Common.{◌≡◌, ℕ, Bool, true, false, [], ◌∷◌, map, Some, is_some, refl, sym, ap, ◌∙◌, true≢false, arith}
+use Rattle.std.proofs.Common.{◌≡◌, ℕ, Bool, true, false, [], ◌∷◌, map, None, Some, is_some, refl, sym, ap, ◌∙◌, true≢false, arith}
 use mathlib.Core.Logic.{inl, inr}
 use Rattle.std.specs.Prelude.{codes}
 use Rattle.std.proofs.lemmas.Bool.{cases_eq}
@@ -66,6 +66,7 @@ offer_of is_disabled = record {
   table = table;
   globals = record { store = stored empty_store 1 (quad_global is_disabled); last_serial = 1; keeps_names = false };
   default_limit = 4096;
+  object_limit = None;
 }
 
 no_other : (is_disabled : Bool) (n : ℕ) (x : Object (KeptGlobal ℕ)) → held (offer_of is_disabled).globals.store n ≡ Some x

@@ -2,7 +2,7 @@
 use Rattle.std.proofs.Common.{◌≡◌, ℕ, Bool, List, [], ◌∷◌, Err, Ok, None, Some, true, false, refl}
 use Rattle.wl_wire.specs.declared.error.IoFault.TheVariants as fault
 use Rattle.wl_server.specs.declared.client.flush_client.Flushed.TheVariants.{All, More}
-use Rattle.wl_server.specs.declared.error.CreateError.TheVariants as create
+use Rattle.wl_server.specs.declared.error.CreateAtError.TheVariants as create
 use Rattle.wl_server.specs.declared.error.VersionError.TheVariants as version
 use Rattle.wl_server.specs.declared.notes.Happening.{Happening}
 use Rattle.wl_server.specs.declared.runs.step.Reply.{Reply}

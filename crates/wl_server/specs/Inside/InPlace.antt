@@ -18,6 +18,7 @@ use Rattle.wl_link.specs.Store.{Store}
 use Rattle.wl_server.specs.declared.objects.Kept.{Kept}
 use Rattle.wl_server.specs.declared.reading.front_request.FrontRequest.{FrontRequest}
 use Rattle.wl_server.specs.Ids.{ClientParts, IdParts}
+use Rattle.wl_server.specs.Limited.{limit_passed}
 use Rattle.wl_server.specs.Requests.{Converting, Whole, convert, start}
 use Rattle.wl_server.specs.Inside.Words.{MayStand, asked_after, first_word, handed_word, word_fits}
 
@@ -52,20 +53,21 @@ module _ {U : Type 0} where
       front_of client store k (next_interface asked) bytes >>= λ x. fronts client store (done ++ x.0 ∷ []) kinds (asked_after k asked) x.1
 
   -- The payload is arguments of this row's request, to an object of this version, and they become what is handed out: the objects
-  -- are then so, and this is the one that was made.
-  pub record HandsOut (client : ClientParts) (version : ℕ) (objects : Objects (Kept U)) (row : MessageRow) (payload : List ℕ) (fds : List Token)
+  -- are then so, and this is the one that was made. No new id among them is above the limit.
+  pub record HandsOut (client : ClientParts) (limit : Option ℕ) (version : ℕ) (objects : Objects (Kept U)) (row : MessageRow) (payload : List ℕ) (fds : List Token)
       (created : Option IdParts) (after : Objects (Kept U)) (handed : List (Argument IdParts Token)) : Type 0 where
     pub args : List WireArgument
     pub reads : Reads row.signature args payload fds
     pub no_fd : fd_count row.signature ≡ 0
+    pub within : limit_passed limit args ≡ None
     pub done : Converting U
     pub converts : convert client version (start objects row) [] args ≡ Whole done handed
     pub objects_are : done.objects ≡ after
     pub created_is : done.created ≡ created
 
   -- the arguments of the request at the front were put so, and it made this object
-  pub record IsPut {T : Type 0} (client : ClientParts) (objects : Objects (Kept U)) (link : LinkState T) (request : FrontRequest) (after : Objects (Kept U))
+  pub record IsPut {T : Type 0} (client : ClientParts) (limit : Option ℕ) (objects : Objects (Kept U)) (link : LinkState T) (request : FrontRequest) (after : Objects (Kept U))
       (handed : List (Argument IdParts Token)) (created : Option IdParts) : Type 0 where
     pub stands : MayStand (message_row request.desc.now) request.sender
     pub whole : IsWhole link.incoming.bytes
-    pub hands : (fds : List Token) → HandsOut client request.sender.version objects (message_row request.desc.now) (payload_of link.incoming.bytes) fds created after handed
+    pub hands : (fds : List Token) → HandsOut client limit request.sender.version objects (message_row request.desc.now) (payload_of link.incoming.bytes) fds created after handed

@@ -41,6 +41,7 @@ around_of views s = record {
   client = s.client;
   globals = record { store = s.globals.now.store; last_serial = 0; keeps_names = false };
   views = views;
+  object_limit = s.object_limit;
 }
 
 -- ---- a message is taken

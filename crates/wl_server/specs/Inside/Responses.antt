@@ -26,7 +26,7 @@ use Rattle.wl_server.specs.declared.reading.response.Response.TheVariants as res
 use Rattle.wl_server.specs.declared.reading.action.Found.{Found}
 use Rattle.wl_server.specs.declared.reading.action.Found.TheVariants as found
 use Rattle.wl_server.specs.Deeds.{Remembered}
-use Rattle.wl_server.specs.Errors.{bind_text, fault_text, new_id_text, since_text}
+use Rattle.wl_server.specs.Errors.{bind_text, fault_text, limit_text, new_id_text, since_text}
 use Rattle.wl_server.specs.Globals.{is_visible, shown}
 use Rattle.wl_server.specs.Ids.{IdParts}
 use Rattle.wl_server.specs.Part.{id_of}
@@ -57,12 +57,14 @@ allows a client_data g (Some name) version x =
 -- the code and the text of the error
 abbrev pub code_of : Breach → ℕ
 code_of (broke.SinceLater _ _ _ _ _) = 1
+code_of (broke.TooManyObjects _) = 2
 code_of _ = 0
 
 abbrev pub text_of : List InterfaceRow → Breach → List ℕ
 text_of table (broke.InvalidNewId n) = new_id_text n
 text_of table (broke.RefusedBind g version name) = bind_text (option_map_or (λ t. t) name.now []) version g
 text_of table (broke.SinceLater opcode version since i n) = since_text opcode version since (name_of table i.0) n
+text_of table (broke.TooManyObjects limit) = limit_text limit
 text_of table (broke.WrongArgument i desc wrong) = fault_text table i (message_row desc.now) wrong
 
 -- the name of the request that has a wrong argument holds no zero, so that its text is a string

@@ -3,7 +3,7 @@
 --
 -- A contract that cites one of these has another clause beside it, `call`, from which it follows. `GrowsTable` also needs the
 -- clause `server`.
-use Rattle.std.specs.Prelude.{◌≡◌, ℕ, List, ◌∷◌, [], ◌++◌, Bool, true, false, None, Some, Result, Ok, Err, MatchOption}
+use Rattle.std.specs.Prelude.{◌≡◌, ℕ, List, ◌∷◌, [], ◌++◌, Bool, true, false, Option, None, Some, Result, Ok, Err, MatchOption}
 use Rattle.wl_wire.specs.declared.protocol.TableError.{TableError}
 use Rattle.wl_wire.specs.Table.{AnswersTo, Extension, Growth, InterfaceRow, LongerRow, NewRows, refused_growth, table_after}
 use Rattle.wl_link.specs.Link.{IsFresh, LimitSet, LinkState}
@@ -56,6 +56,11 @@ module _ {T U G C : Type 0} where
   -- New clients get the limit. Nothing else of the server has changed: no client that is stored, no global, no note.
   pub record SetsDefaultLimit (before : BackendState T U G C) (limit : ℕ) (after : BackendState T U G C) : Type 0 where
     pub server : after.server ≡ record before.server { offer = record before.server.offer { default_limit = limit } }
+    pub memory : after.refused ≡ false
+
+  -- Each client has the limit from now on. Nothing else of the server has changed: no client, no object, no global, no note.
+  pub record SetsObjectLimit (before : BackendState T U G C) (limit : Option ℕ) (after : BackendState T U G C) : Type 0 where
+    pub server : after.server ≡ record before.server { offer = record before.server.offer { object_limit = limit } }
     pub memory : after.refused ≡ false
 
   -- The table has grown by that. Or it answers why not, and is as before. Nothing else of the server has changed: no client, no

@@ -4,14 +4,15 @@
 use Rattle.std.specs.Prelude.{◌≡◌, ℕ, true, false, None, Some, Result, Ok, Err, IfOk, option_map}
 use Rattle.wl_wire.specs.declared.interface.InterfaceId.{InterfaceId}
 use Rattle.wl_link.specs.declared.object.Object.{Object}
-use Rattle.wl_server.specs.declared.error.CreateError.{CreateError}
+use Rattle.wl_server.specs.declared.error.CreateAtError.{CreateAtError}
 use Rattle.wl_server.specs.declared.error.VersionError.{VersionError}
 use Rattle.wl_server.specs.declared.error.VersionError.TheVariants as wrong
 use Rattle.wl_server.specs.declared.objects.Kept.{Kept}
 use Rattle.wl_server.specs.Backend.{BackendState}
 use Rattle.wl_server.specs.Chosen.{has_version, with_version}
 use Rattle.wl_server.specs.Ids.{ClientParts, IdParts}
-use Rattle.wl_server.specs.Plain.{CreatesObject, GlobalsStay, IsUnchanged, OtherClientsStay, OtherObjectsStay, client_in, notes_made_in, object_in, without_objects}
+use Rattle.wl_server.specs.PartStep.{lacks_create_at}
+use Rattle.wl_server.specs.Plain.{CreatedAs, GlobalsStay, IsUnchanged, OtherClientsStay, OtherObjectsStay, client_in, notes_made_in, object_in, without_objects}
 
 module _ {T U G C : Type 0} where
   -- The object that the id names has the version, which its interface has in the table, and is otherwise as it was. Or it says
@@ -36,7 +37,11 @@ module _ {T U G C : Type 0} where
     pub memory : after.refused ≡ false
 
   -- what `create_object` does, with this number
-  pub record CreatesObjectAt (before : BackendState T U G C) (client : ClientParts) (i : InterfaceId) (version n : ℕ) (u : U) (answer : Result IdParts CreateError)
+  pub record CreatesObjectAt (before : BackendState T U G C) (client : ClientParts) (i : InterfaceId) (version n : ℕ) (u : U) (answer : Result IdParts CreateAtError)
       (after : BackendState T U G C) : Type 0 where
-    pub created : CreatesObject before client i version u answer after
+    pub object : CreatedAs before client i version u answer after
     pub number : IfOk answer (λ id. id.number ≡ n)
+    pub clients : OtherClientsStay before client after
+    pub notes : (other : ClientParts) → notes_made_in after other ≡ notes_made_in before other
+    pub globals : GlobalsStay before after
+    pub memory : after.refused ≡ lacks_create_at answer

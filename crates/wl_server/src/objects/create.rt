@@ -75,7 +75,7 @@ impl<T: Drop, U: Drop, C: Drop> Client<T, U, C> {
 }
 
 /// Whether the creation failed for want of memory.
-pub fn lacks_memory(answer: &Result<ObjectId, CreateError>) -> bool
+fn lacks_memory(answer: &Result<ObjectId, CreateError>) -> bool
     ensures { result ≡ lacks_create answer.now }
 {
     matches!(answer, Err(CreateError::OutOfMemory))

@@ -8,7 +8,7 @@ ghost use Rattle.wl_server.specs.Backend.{Calls};
 ghost use Rattle.wl_server.specs.Chosen.{CreatesNumbered};
 ghost use Rattle.wl_server.specs.Inside.Choosing.{InsertsOwn};
 ghost use Rattle.wl_server.specs.Inside.Client.{Does};
-ghost use Rattle.wl_server.specs.PartStep.{over};
+ghost use Rattle.wl_server.specs.PartStep.{lacks_create_at, over};
 ghost use Rattle.wl_server.specs.Plain.Chosen.{CreatesObjectAt};
 ghost use Rattle.wl_server.specs.declared.runs.step.Reply.TheVariants as reply;
 ghost use Rattle.wl_server.specs.declared.runs.step.Step.TheVariants as step;
@@ -16,11 +16,10 @@ ghost use Rattle.wl_server.specs.declared.runs.step.Step.TheVariants as step;
 use crate::backend::Backend;
 use crate::client::Client;
 use crate::client::stored::stored_mut;
-use crate::error::CreateError;
+use crate::error::CreateAtError;
 use crate::globals::handler::GlobalHandler;
 use crate::ids::client_id::ClientId;
 use crate::ids::object_id::ObjectId;
-use crate::objects::create::lacks_memory;
 use crate::objects::{Kept, fresh_object};
 use wl_link::{InsertError, Object, ObjectMap, SERVER_ID_LIMIT, Transport};
 use wl_wire::{InterfaceId, Protocol};
@@ -49,16 +48,16 @@ impl<T: Drop, U: Drop, C: Drop> Client<T, U, C> {
         version: u32,
         number: u32,
         user_data: U,
-    ) -> Result<ObjectId, CreateError>
+    ) -> Result<ObjectId, CreateAtError>
         ensures does { Does self.old (λ p did q. (did ≡ []) × CreatesNumbered protocol.now id.now p interface version number user_data result q) self.new }
         ensures times { self.new.times ≡ self.old.times }
         ensures numbered { IsNumbered (Some self.old) → IsNumbered (Some self.new) }
     {
         if protocol.get(interface).is_none() {
-            return Err(CreateError::UnknownInterface);
+            return Err(CreateAtError::UnknownInterface);
         }
         let Some(serial) = self.objects.last_serial.checked_add(1) else {
-            return Err(CreateError::SerialsExhausted);
+            return Err(CreateAtError::SerialsExhausted);
         };
         let object = fresh_object(interface, version, serial, Some(user_data));
         match insert_own(&mut self.objects.map, number, object) {
@@ -66,10 +65,17 @@ impl<T: Drop, U: Drop, C: Drop> Client<T, U, C> {
                 self.objects.last_serial = serial;
                 Ok(ObjectId::from_parts(number, serial, *id, interface))
             }
-            Err(InsertError::NotFree) => Err(CreateError::NotFree),
-            Err(InsertError::OutOfMemory) => Err(CreateError::OutOfMemory),
+            Err(InsertError::NotFree) => Err(CreateAtError::NotFree),
+            Err(InsertError::OutOfMemory) => Err(CreateAtError::OutOfMemory),
         }
     }
+}
+
+/// Whether the creation failed for want of memory.
+fn lacks_memory(answer: &Result<ObjectId, CreateAtError>) -> bool
+    ensures { result ≡ lacks_create_at answer.now }
+{
+    matches!(answer, Err(CreateAtError::OutOfMemory))
 }
 
 impl<T: Transport + Drop, U: Drop, G: GlobalHandler<C> + Drop, C: Drop> Backend<T, U, G, C> {
@@ -96,13 +102,13 @@ impl<T: Transport + Drop, U: Drop, G: GlobalHandler<C> + Drop, C: Drop> Backend<
         version: u32,
         number: u32,
         user_data: U,
-    ) -> Result<ObjectId, CreateError>
+    ) -> Result<ObjectId, CreateAtError>
         ensures call { Calls (over T.sends T.receives G.views) self.old (step.CreateObjectAt client.now interface version number user_data) (reply.CreateObjectAt result) self.new }
         ensures plain { CreatesObjectAt self.old client.now interface version number user_data result self.new }
     {
         self.refused = false;
         let Some(stored) = stored_mut(&mut self.clients, &mut self.touched, client) else {
-            return Err(CreateError::InvalidId);
+            return Err(CreateAtError::InvalidId);
         };
         let protocol = &self.protocol;
         let answer = stored.create_object_at(

@@ -57,22 +57,25 @@ fn waiting_payload<'s, T: Drop>(
 }
 
 /// Puts the arguments of the request at the front into `args`, and makes the object that it makes. Returns that object. The
-/// outer `None` says that the request cannot be handed out where it stands. Then nothing is changed.
+/// outer `None` says that the request cannot be handed out where it stands; so it is with one that passes the limit of objects.
+/// Then nothing is changed.
 #[inline(always)]
 fn put_waiting<T: Drop, U: Drop>(
     client: ClientId,
+    limit: Option<u32>,
     objects: &mut ClientObjects<U>,
     socket: &BufferedSocket<T>,
     front: &FrontRequest<'_>,
     args: &mut Args<ObjectId>,
 ) -> Option<Option<ObjectId>>
     ensures put { MatchOption result ((objects_of objects.new ≡ objects_of objects.old) × (args.new ≡ args.old))
-        (λ created. IsPut client (objects_of objects.old) socket.now front.now (objects_of objects.new) args.new.items created) }
+        (λ created. IsPut client limit (objects_of objects.old) socket.now front.now (objects_of objects.new) args.new.items created) }
     ensures registries { objects.new.registries ≡ objects.old.registries }
 {
     let payload = waiting_payload(socket, front)?;
     put_arguments(
         client,
+        limit,
         front.sender.version,
         front.desc,
         objects,
@@ -111,7 +114,14 @@ impl<T: Transport + Drop, U: Drop, C: Drop> Client<T, U, C> {
         else {
             return false;
         };
-        let put = put_waiting(around.client, &mut self.objects, &self.socket, front, args);
+        let put = put_waiting(
+            around.client,
+            around.object_limit,
+            &mut self.objects,
+            &self.socket,
+            front,
+            args,
+        );
         let Some(made) = put else {
             return false;
         };

@@ -166,6 +166,7 @@ impl<T: Transport + Drop, U: Drop, G: GlobalHandler<C> + Drop, C: Drop> Backend<
             protocol: &self.protocol,
             globals: &self.globals,
             client: *id,
+            object_limit: self.object_limit,
         };
         let (answer, refused) = client.find_action(
             &mut self.numbers,

@@ -22,7 +22,7 @@ use crate::globals::new_registry::put_globals;
 use crate::ids::object_id::ObjectId;
 use crate::notes::DisconnectReason;
 use crate::notes::queues::NoteNumbers;
-use crate::posted_errors::{bind_text, fault_text, new_id_text, since_text};
+use crate::posted_errors::{bind_text, fault_text, limit_text, new_id_text, since_text};
 use crate::reading::Surroundings;
 use crate::reading::action::{MessageEnd, NoAction};
 use std::alloc::Global;
@@ -56,6 +56,8 @@ pub enum Breach<'p, 'm> {
     /// The object's version does not have the request: the opcode, the version, the least version that has it, and the
     /// object's interface and number.
     SinceLater(u16, u32, u32, InterfaceId, u32),
+    /// It would make an object at a number above this limit.
+    TooManyObjects(u32),
     /// An argument of a request of this interface is wrong.
     WrongArgument(InterfaceId, &'p MessageDesc, RequestFault),
 }
@@ -98,6 +100,7 @@ fn breach_error(
             )?;
             Ok((1, text))
         }
+        Breach::TooManyObjects(limit) => Ok((2, limit_text(alloc, *limit)?)),
         Breach::WrongArgument(interface, desc, wrong) => {
             Ok((0, fault_text(alloc, protocol, *interface, desc, wrong)?))
         }

@@ -119,6 +119,10 @@ impl<U: Drop, G: GlobalHandler<C> + Drop, C: Drop> Backend<Memory, U, G, C> {
                 self.keep_global_names(keep);
                 Reply::KeepGlobalNames
             }
+            Step::SetObjectLimit(limit) => {
+                self.set_object_limit(limit);
+                Reply::SetObjectLimit
+            }
             Step::Cleanup => Reply::Cleanup(self.cleanup()),
             Step::TakeNotes => Reply::TakeNotes(self.take_notes()),
             _ => unreachable!(),

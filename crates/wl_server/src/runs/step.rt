@@ -1,7 +1,7 @@
 //! The calls of a server as values, and their answers.
 
 use crate::error::{
-    ActionError, CreateError, DestroyError, EventError, FinishRefused, GlobalError,
+    ActionError, CreateAtError, CreateError, DestroyError, EventError, FinishRefused, GlobalError,
     InsertClientError, InvalidId, ScriptError, VersionError,
 };
 use crate::ids::client_id::ClientId;
@@ -45,6 +45,8 @@ pub enum Step<T, U, G, C> {
     RemoveGlobal(GlobalId),
     /// `Backend::keep_global_names`.
     KeepGlobalNames(bool),
+    /// `Backend::set_object_limit`.
+    SetObjectLimit(Option<u32>),
     /// `Backend::flush`, and `Backend::flush_client`.
     Flush(Option<ClientId>),
     /// `Backend::set_default_max_buffer_size`.
@@ -93,7 +95,7 @@ pub enum Reply<T, U> {
     /// The reply to `Step::CreateObject`.
     CreateObject(Result<ObjectId, CreateError>),
     /// The reply to `Step::CreateObjectAt`.
-    CreateObjectAt(Result<ObjectId, CreateError>),
+    CreateObjectAt(Result<ObjectId, CreateAtError>),
     /// The reply to `Step::DestroyObject`.
     DestroyObject(Result<(), DestroyError>),
     /// The reply to `Step::SendEvent`.
@@ -110,6 +112,8 @@ pub enum Reply<T, U> {
     RemoveGlobal,
     /// The reply to `Step::KeepGlobalNames`.
     KeepGlobalNames,
+    /// The reply to `Step::SetObjectLimit`.
+    SetObjectLimit,
     /// The reply to `Step::Flush`.
     Flush(Result<(), IoFault>),
     /// The reply to `Step::SetDefaultMaxBufferSize`.

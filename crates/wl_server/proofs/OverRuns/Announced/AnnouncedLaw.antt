@@ -403,6 +403,9 @@ module _ {T U G C : Type 0} (w : World T G C) (id : ClientParts) (r : Id) where
   step_follows offer known (step.SetDefaultMaxBufferSize limit) answer s lacked did t about numbered alone (is, h) =
       unfelt_stays offer (record offer { default_limit = limit }) s lacked did t
       (λ client_data. renamed_stays w.views id client_data offer _ refl (λ a x at. refl)) h
+  step_follows offer known (step.SetObjectLimit limit) answer s lacked did t about numbered alone (is, h) =
+      unfelt_stays offer (record offer { object_limit = limit }) s lacked did t
+      (λ client_data. renamed_stays w.views id client_data offer _ refl (λ a x at. refl)) h
   step_follows offer known (step.SetClientMaxBufferSize target limit) answer s lacked did t about numbered alone (is, h) =
       of_client offer (same_client target id) s _ _ lacked did t
       (λ p q (no_memory, none, (link, set, same)). relinked_lives w.views id r offer p link did q none same) h

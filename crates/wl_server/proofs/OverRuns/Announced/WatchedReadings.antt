@@ -47,7 +47,7 @@ deletions_other r n display = go _
 
 -- what a reading asks beside its client
 abbrev around_of : {G C : Type 0} → (G → ClientParts → C → GlobalParts → Bool) → ClientParts → Offer G → Around G C
-around_of views client offer = record { table = offer.table; client = client; globals = offer.globals; views = views }
+around_of views client offer = record { table = offer.table; client = client; globals = offer.globals; views = views; object_limit = offer.object_limit }
 
 module _ {G C : Type 0} (views : G → ClientParts → C → GlobalParts → Bool) (client : ClientParts) (r : Id) {U : Type 0} (offer : Offer G) where
   abbrev Change : Scene U C → List Said → List Id → Scene U C → Type 0
@@ -204,6 +204,6 @@ module _ {G C : Type 0} (views : G → ClientParts → C → GlobalParts → Boo
 
     pub next_action_lives : (t : Reading) (p : Part T U C) (answer : Result Handed ActionError) (t' : Reading) (lacked : Bool) (did : List (Deed U))
         (q : Part T U C)
-        → NextAction sends receives (record { table = offer.table; client = client; globals = offer.globals; views = views }) t p answer t' lacked did q
+        → NextAction sends receives (around_of views client offer) t p answer t' lacked did q
         → PartLives views client r offer offer p did q
     next_action_lives t p answer t' lacked did q h1 = grind (arith, either_option, either_bool, turned, goes_so, part_scene, scene_of, log_of, deeds_in, registries_in, reads_lives, reader_part, append-nil, none_gave, gave_none, around_of, either_result, counted_answer, count_of, with_link, faulted, faulted_lives, gave_then, turn_lives, handles, garbled_handles, steady_same)

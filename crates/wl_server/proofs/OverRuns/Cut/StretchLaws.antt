@@ -214,6 +214,13 @@ module _ {G C : Type 0} (views : G → ClientParts → C → GlobalParts → Boo
 
     -- ---- a run
 
+    answers_join : (one more : List (Result Handed IoFault)) (acts others : ActList U) → one ++ [] ≡ answers_in (given_in acts) → more ≡ answers_in (given_in others)
+        → one ++ more ≡ answers_in (given_in (acts ++ others))
+    answers_join one more acts others e f =
+        (ap (λ (xs : List (Result Handed IoFault)). xs ++ more) (sym (append-nil one) ∙ e)
+        ∙ ap (λ (ys : List (Result Handed IoFault)). answers_in (given_in acts) ++ ys) f)
+        ∙ (sym (answers_both (given_in acts) (given_in others)) ∙ ap answers_in (sym (given_in-append acts others)))
+
     run_joins : (s m end : Client U) (mid after : Seen Script U C) (x y : Own Script U G C) (run : Run U) (acts others : ActList U)
         → Acts s (x ∷ []) mid m acts → Acts m (y ∷ run) after end others → Acts s (x ∷ y ∷ run) after end (acts ++ others)
     run_joins s m end mid after x y run acts others first rest = record {
@@ -223,7 +230,10 @@ module _ {G C : Type 0} (views : G → ClientParts → C → GlobalParts → Boo
       ended_with = grind (arith, ended-append acts others, first.ended_with, rest.ended_with, append-nil);
       deeds = grind (arith, beside_both, append_assoc, beside_exchanges, deeds_in, deeds_append, end_deeds, history, given_in, given_in-append, append-nil);
       sound = rest.sound;
-      answers = grind (arith, roomy_before, server, a, ends_by_pipe, acts_pieces, answers_in, given_in-append, answers_both, given_in, append-nil);
+      answers = λ pieces roomy.
+          let here = roomy_before (server a) ends_by_pipe m end others rest.does roomy in
+          let left = acts_pieces (server a) ends_by_pipe s m acts first.does pieces here in
+          answers_join _ _ acts others (first.answers pieces here) (rest.answers left roomy);
       waits = λ e before. subst ActsEndWaiting (append_assoc before acts others) (rest.waits e (before ++ acts));
     }
 

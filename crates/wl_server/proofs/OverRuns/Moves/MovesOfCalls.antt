@@ -17,6 +17,7 @@ use Rattle.wl_link.specs.Identity.{New}
 use Rattle.wl_link.specs.Store.{Store, held, removed, rewritten, server_range, stored}
 use Rattle.wl_link.proofs.Ids.StoreLaws.{removed_here}
 use Rattle.wl_server.specs.declared.reading.action.OpenAction.TheVariants as opened
+use Rattle.wl_server.specs.declared.error.CreateAtError.{CreateAtError}
 use Rattle.wl_server.specs.declared.error.CreateError.{CreateError}
 use Rattle.wl_server.specs.declared.error.DestroyError.{DestroyError}
 use Rattle.wl_server.specs.declared.error.EventError.{EventError}
@@ -118,7 +119,7 @@ module _ {T U C : Type 0} (kind : Kind) (sends : T → Queue → Result ℕ IoFa
             ]
       ]
 
-  pub numbered_moves : (table : List InterfaceRow) (p : Part T U C) (i : InterfaceId) (version n : ℕ) (u : U) (answer : Result IdParts CreateError)
+  pub numbered_moves : (table : List InterfaceRow) (p : Part T U C) (i : InterfaceId) (version n : ℕ) (u : U) (answer : Result IdParts CreateAtError)
       (q : Part T U C)
       → CreatesNumbered table client p i version n u answer q → Move p (handing (made_ids answer)) q
   numbered_moves table p i version n u answer q h =

@@ -35,7 +35,7 @@ use Rattle.wl_link.proofs.Calls.NumberLaws.{full_not_absent, least_absent_one, l
 use Rattle.wl_server.specs.Objects.{Creates, DataSet, Destroys, destroyable, destroys, new_object}
 use Rattle.wl_server.proofs.OverRuns.Outcome.MoveLaws.{IsMoveFunction, IsDetermined}
 use Rattle.wl_server.specs.Part.{Part, last_possible_serial, named, with_link}
-use Rattle.wl_server.specs.PartStep.{Quietly, WithTransport, lacks_create, lacks_move, Asked, Call, Changed, Grown, InsertedAs, OfClient, OnPart, PartCall, PartStep, Unfelt, World, around, share_of}
+use Rattle.wl_server.specs.PartStep.{Quietly, WithTransport, lacks_create, lacks_create_at, lacks_move, Asked, Call, Changed, Grown, InsertedAs, OfClient, OnPart, PartCall, PartStep, Unfelt, World, around, share_of}
 use Rattle.wl_server.specs.Reading.{Around, NextAction, answered, exchanges_in, read_on, server, action_content, new_reading}
 use Rattle.wl_server.specs.Telling.{Core, Tells, Told, core_of, deeds_of, part_of, reader_part, speaker, tells}
 use Rattle.wl_link.specs.Served.{Finds}
@@ -181,7 +181,7 @@ module _ {T U C : Type 0} where
       ]
 
   pub numbered_one : (client : ClientParts) (table : List InterfaceRow) (s : Part T U C) (i : InterfaceId) (version n : ℕ) (u : U)
-      → IsOne {U = U} (λ a l d x. (l ≡ lacks_create a) × (d ≡ []) × CreatesNumbered table client s i version n u a x)
+      → IsOne {U = U} (λ a l d x. (l ≡ lacks_create_at a) × (d ≡ []) × CreatesNumbered table client s i version n u a x)
   numbered_one client table s i version n u a b d e x y (unlacked, did, h) (unlacked', did', g) =
       elim (both_option (slice_get table i.0) h g) [
         | inl (none, (is, same), (is', same')) ↦ same_end is is' did did' same same'
@@ -192,8 +192,8 @@ module _ {T U C : Type 0} where
                   elim (both_bool (is_free_own s.store n) h'' g'') [
                     | inr ((is, same), (is', same')) ↦ same_end is is' did did' same same'
                     | inl (inl (is, same), inl (is', same')) ↦ same_end is is' did did' same same'
-                    | inl (inr (is, unused, same), other) ↦ absurd (true≢false (sym (unlacked ∙ ap lacks_create is)))
-                    | inl (inl one, inr (is', unused, same')) ↦ absurd (true≢false (sym (unlacked' ∙ ap lacks_create is')))
+                    | inl (inr (is, unused, same), other) ↦ absurd (true≢false (sym (unlacked ∙ ap lacks_create_at is)))
+                    | inl (inl one, inr (is', unused, same')) ↦ absurd (true≢false (sym (unlacked' ∙ ap lacks_create_at is')))
                   ]
             ]
       ]
@@ -376,7 +376,7 @@ module _ {T U G C : Type 0} (w : World T G C) (known : IsDetermined w) (id : Cli
       let one = of_one before d e x y (same_client target id) _ _ _ _ (λ a b. a ∙ sym b)
       (λ s q q' f f'. with_answer (numbered_one _ offer.table s i version n u r r' d e q q' f f')) h g in
       (one.0, λ own. same_reply id p q _ _ is is' (ap reply.CreateObjectAt (one.1 own)))
-  step_one s p q ample ample' shared h g = grind (arith, part_forms, part_calls, part_words, inserted_one, lacks_create, one_flush_lem)
+  step_one s p q ample ample' shared h g = grind (arith, part_forms, part_calls, part_words, inserted_one, lacks_create, lacks_create_at, one_flush_lem)
 
   -- what a step does, another does that is the same
   pub part_as : (s s' : Step T U G C) (q : Reply T U) → SameStep s s' → PartStep w id offer s' q before false e y

@@ -1,7 +1,7 @@
 //! The arguments of a request that is handed out where it stands, if they are not all words: strings and arrays, or one new
 //! object. All else is left to the general way, which also says what is wrong with a request.
 
-ghost use Rattle.std.specs.Prelude.{◌≡◌, ◌≤◌, ◌+◌, [], ◌∷◌, true, IfSome, IsTrue, List, MatchBool, MatchOption, None, Some, length, option_map};
+ghost use Rattle.std.specs.Prelude.{◌≡◌, ◌≤◌, ◌+◌, [], ◌∷◌, false, true, IfSome, IsTrue, List, MatchBool, MatchOption, None, Some, length, option_map};
 ghost use Rattle.wl_wire.specs.declared.argument.Argument.TheVariants as argument;
 ghost use Rattle.wl_wire.specs.declared.argument.ArgumentType.TheVariants as kind;
 ghost use Rattle.wl_wire.specs.declared.argument.Token.{Token as WireToken};
@@ -11,6 +11,7 @@ ghost use Rattle.wl_wire.specs.Table.{message_row};
 ghost use Rattle.wl_server.specs.Inside.Conversion.{MakesObject, objects_of};
 ghost use Rattle.wl_server.specs.Inside.InPlace.{HandsOut, array_front, front_of, fronts, text_front, word_front};
 ghost use Rattle.wl_server.specs.Inside.Words.{first_word};
+ghost use Rattle.wl_server.specs.Limited.{is_above};
 
 use crate::ids::client_id::ClientId;
 use crate::ids::object_id::ObjectId;
@@ -19,6 +20,7 @@ use crate::reading::arguments::insert_object;
 use crate::reading::in_place::words::{
     asked_after, empty, first_word, handed_word, put_words, word_fits, words_fit,
 };
+use crate::reading::limit::is_above;
 use smallvec::SmallVec;
 use std::alloc::Global;
 use wl_link::ObjectMap;
@@ -193,10 +195,11 @@ fn put_each<U: Drop>(
     true
 }
 
-/// Makes the object of a request whose one argument is a new id, and puts that in place of the arguments in `args`. Returns the
-/// object; if none is made, nothing is changed.
+/// Makes the object of a request whose one argument is a new id, which may not be above the limit, and puts that in place of the
+/// arguments in `args`. Returns the object; if none is made, nothing is changed.
 fn put_new<U: Drop>(
     client: ClientId,
+    limit: Option<u32>,
     version: u32,
     interface: InterfaceId,
     objects: &mut ClientObjects<U>,
@@ -204,13 +207,13 @@ fn put_new<U: Drop>(
     args: &mut Args<ObjectId>,
 ) -> Option<ObjectId>
     ensures made { MatchOption result ((objects_of objects.new ≡ objects_of objects.old) × (args.new ≡ args.old))
-        (λ id. (4 ≤ length payload.now)
+        (λ id. (4 ≤ length payload.now) × (is_above limit (first_word payload.now) ≡ false)
         × MakesObject client (objects_of objects.old) interface version (first_word payload.now) (Some id) (objects_of objects.new)
         × (args.new.items ≡ argument.NewId id ∷ [])) }
     ensures capacity { args.new.capacity ≡ args.old.capacity }
     ensures registries { objects.new.registries ≡ objects.old.registries }
 {
-    if payload.len() < 4 {
+    if payload.len() < 4 || is_above(limit, first_word(payload)) {
         return None;
     }
     let made = insert_object(client, objects, interface, version, first_word(payload));
@@ -237,6 +240,7 @@ fn is_one_new(signature: &[ArgumentType]) -> bool
 #[inline(never)]
 fn put_others<U: Drop>(
     client: ClientId,
+    limit: Option<u32>,
     version: u32,
     desc: &MessageDesc,
     objects: &mut ClientObjects<U>,
@@ -245,13 +249,13 @@ fn put_others<U: Drop>(
 ) -> Option<Option<ObjectId>>
     requires few { length desc.now.signature.items ≤ INLINE_ARGS }
     ensures put { MatchOption result ((objects_of objects.new ≡ objects_of objects.old) × (args.new ≡ args.old))
-        (λ created. (fds : List WireToken) → HandsOut client version (objects_of objects.old) (message_row desc.now) payload.now fds created (objects_of objects.new) args.new.items) }
+        (λ created. (fds : List WireToken) → HandsOut client limit version (objects_of objects.old) (message_row desc.now) payload.now fds created (objects_of objects.new) args.new.items) }
     ensures inline { INLINE_ARGS ≤ args.old.capacity → INLINE_ARGS ≤ args.new.capacity }
     ensures registries { objects.new.registries ≡ objects.old.registries }
 {
     if is_one_new(desc.signature.as_slice()) {
         let interface = desc.child_interface?;
-        let id = put_new(client, version, interface, objects, payload, args)?;
+        let id = put_new(client, limit, version, interface, objects, payload, args)?;
         return Some(Some(id));
     }
     if !put_each(client, &objects.map, desc, payload, args) {
@@ -262,12 +266,13 @@ fn put_others<U: Drop>(
 
 /// Puts the arguments of a request into `args`, in place of those that are there, and makes the object that it makes. Returns
 /// that object. `version` is the version of the object that the request was sent to, and `payload` has the bytes of the
-/// arguments.
+/// arguments. No object is made above the limit.
 ///
 /// The outer `None` says that it is a request for the general way. Then nothing is changed.
 #[inline(always)]
 pub fn put_arguments<U: Drop>(
     client: ClientId,
+    limit: Option<u32>,
     version: u32,
     desc: &MessageDesc,
     objects: &mut ClientObjects<U>,
@@ -276,7 +281,7 @@ pub fn put_arguments<U: Drop>(
 ) -> Option<Option<ObjectId>>
     requires few { length desc.now.signature.items ≤ INLINE_ARGS }
     ensures put { MatchOption result ((objects_of objects.new ≡ objects_of objects.old) × (args.new ≡ args.old))
-        (λ created. (fds : List WireToken) → HandsOut client version (objects_of objects.old) (message_row desc.now) payload.now fds created (objects_of objects.new) args.new.items) }
+        (λ created. (fds : List WireToken) → HandsOut client limit version (objects_of objects.old) (message_row desc.now) payload.now fds created (objects_of objects.new) args.new.items) }
     ensures inline { INLINE_ARGS ≤ args.old.capacity → INLINE_ARGS ≤ args.new.capacity }
     ensures registries { objects.new.registries ≡ objects.old.registries }
 {
@@ -284,5 +289,5 @@ pub fn put_arguments<U: Drop>(
         put_words(client, &objects.map, desc, payload, args);
         return Some(None);
     }
-    put_others(client, version, desc, objects, payload, args)
+    put_others(client, limit, version, desc, objects, payload, args)
 }

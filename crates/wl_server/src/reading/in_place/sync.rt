@@ -13,6 +13,7 @@ use crate::objects::ClientObjects;
 use crate::reading::Surroundings;
 use crate::reading::action::Reading;
 use crate::reading::front_request::FrontRequest;
+use crate::reading::limit::is_above;
 use wl_link::{BufferedSocket, SERVER_ID_LIMIT, Transport};
 use wl_wire::WL_DISPLAY_INTERFACE;
 use wl_wire::opcodes::SYNC;
@@ -55,6 +56,9 @@ impl<T: Transport + Drop, U: Drop, C: Drop> Client<T, U, C> {
         let Some(number) = waiting_sync(&self.socket, front) else {
             return false;
         };
+        if is_above(around.object_limit, number) {
+            return false;
+        }
         if !leaves_no_trace(&self.objects, number) || !self.socket.has_room(DONE_SIZE) {
             return false;
         }

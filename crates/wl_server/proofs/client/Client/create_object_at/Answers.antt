@@ -1,7 +1,7 @@
 use Rattle.std.proofs.Common.{◌∙◌, ap, not, rules, Err, refl}
 use Rattle.std.specs.Prelude.{slice_get}
 use Rattle.wl_server.specs.Server.{no_times}
-use Rattle.wl_server.specs.declared.error.CreateError.TheVariants as create
+use Rattle.wl_server.specs.declared.error.CreateAtError.TheVariants as create
 use Rattle.wl_server.proofs.CallSteps.Doing.{does_quietly}
 use Rattle.wl_server.proofs.ObjectCalls.Creation.{row_found, unknown}
 use Rattle.wl_server.proofs.ObjectCalls.Choosing.{Numbered, at_number, no_memory_at, no_serial, not_free}

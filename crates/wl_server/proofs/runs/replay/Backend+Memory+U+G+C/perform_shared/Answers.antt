@@ -20,3 +20,6 @@ returns-in-TakeNotes g c = rw c.in-TakeNotes.is (over_script g.G.GlobalHandler.v
 pub returns-in-KeepGlobalNames : goal.returns-in-KeepGlobalNames
 returns-in-KeepGlobalNames g c =
     rw c.in-KeepGlobalNames.is (over_script g.G.GlobalHandler.views _ _ _ _ c.keep_global_names.ensures.call)
+
+pub returns-in-SetObjectLimit : goal.returns-in-SetObjectLimit
+returns-in-SetObjectLimit g c = rw c.in-SetObjectLimit.is (over_script g.G.GlobalHandler.views _ _ _ _ c.set_object_limit.ensures.call)

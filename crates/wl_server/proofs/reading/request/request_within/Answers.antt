@@ -3,7 +3,7 @@ use Rattle.std.specs.List.{list_any}
 use Rattle.wl_wire.specs.declared.argument.ArgumentType.{ArgumentType}
 use Rattle.wl_wire.specs.Argument.{Matches, WireArgument, type_of}
 use Rattle.wl_wire.specs.Table.{is_new_id}
-use Rattle.wl_server.proofs.reading.request.request.Goals as goal
+use Rattle.wl_server.proofs.reading.request.request_within.Goals as goal
 
 -- a signature that a new id matches has one
 new_matches : (kinds : List ArgumentType) (args : List WireArgument) → Matches kinds args
