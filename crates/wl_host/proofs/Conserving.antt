@@ -10,11 +10,12 @@ use Rattle.wl_server.specs.declared.notes.Note.{Note}
 use Rattle.wl_host.proofs.Keeping.{conserves_gone_all, conserves_handed_out, conserves_passed_next}
 use Rattle.wl_host.proofs.Ledgers.{conserves_ledger, conserves_taken_out}
 use Rattle.wl_host.proofs.Queues.{conserves_nothing, conserves_put_in}
+use Rattle.wl_host.specs.Cleaning.{CleansUp, DropsNotes, DropsUnlessKept}
 use Rattle.wl_host.specs.Descriptors.{Conserves, Descriptors, kept_in, occurrences, put_in}
 use Rattle.wl_host.specs.Notes.{Fetches, NextNote, noted, noted_if, text_of}
 use Rattle.wl_host.specs.Seats.{SeatsState, kept_by_ledger, gone_all, kept_by_seats, ledger_of, left_by_first, listed}
 use Rattle.wl_host.specs.Sending.{came_out, mailbox_after, queue_after, sent_of}
-use Rattle.wl_host.specs.Server.{CleansUp, handed_if, is_too_small, IsNotStored, NextDropped, Received, ReceivedBy, Sent, SentBy, ServerState, asked_again, gone_with_first, handed, handed_out, kept_by_server, next_gone, or_would_block, sent_to_first, sent_by, sent_with, went_in}
+use Rattle.wl_host.specs.Server.{handed_if, is_too_small, IsNotStored, NextDropped, Received, ReceivedBy, Sent, SentBy, ServerState, TakesOut, asked_again, gone_with_first, handed, handed_out, kept_by_server, next_gone, or_would_block, sent_to_first, sent_by, sent_with, went_in}
 use Rattle.wl_host.specs.declared.flat.FlatNote.{FlatNote}
 use Rattle.wl_host.specs.declared.flat.Gone.{Gone}
 use Rattle.wl_host.specs.declared.server.ledger.Departed.{Departed}
@@ -95,17 +96,17 @@ conserves_sent b a id count s h = by (ledger_of id b.seats.ledgers) (transport_o
 
 -- ---- clients that are gone
 
-pub conserves_cleaned : (b a : ServerState) (s : Status) → CleansUp b s a → Conserves kept_by_server b [] [] a
-conserves_cleaned b a s h = elim h [
-  | inl n ↦ conserves_beside b a (ap (λ (x : ServerState). x.seats) n.2)
+conserves_taken_out_of_core : (b m : ServerState) (result : Result (Unit {0}) Status) → TakesOut b result m → Conserves kept_by_server b [] [] m
+conserves_taken_out_of_core b m result h = elim h [
+  | inl n ↦ conserves_beside b m (ap (λ (x : ServerState). x.seats) n.2)
   | inr y ↦ by y.1.0 y.1.2
 ]
   where
     by : (answer : Result (Vec (ClientParts × MailboxState) Global) OutOfMemory) → MatchResult answer
-        (λ out. (s ≡ status.Ok) × (a ≡ record b { core = a.core; seats = gone_all b.seats out.items; may_clean_up = false; may_have_notes = true }))
-        (λ _. (s ≡ status.OutOfMemory) × (a ≡ record b { core = a.core })) → Conserves kept_by_server b [] [] a
+        (λ out. (result ≡ Ok tt) × (m ≡ record b { core = m.core; seats = gone_all b.seats out.items; may_clean_up = false; may_have_notes = true }))
+        (λ _. (result ≡ Err status.OutOfMemory) × (m ≡ record b { core = m.core })) → Conserves kept_by_server b [] [] m
     by (Ok out) h = record { each = λ d. let c = (conserves_gone_all b.seats out.items).each d in let k = ap (kept_by_server d) h.1 in omega (arith, c, k) }
-    by (Err e) h = conserves_beside b a (ap (λ (x : ServerState). x.seats) h.1)
+    by (Err e) h = conserves_beside b m (ap (λ (x : ServerState). x.seats) h.1)
 
 pub conserves_next_gone : (b a : ServerState) (s : Status) (out : Gone) (bytes : List ℕ) (ds : List ℤ) → s ≡ (next_gone b out bytes ds).status
     → a ≡ (next_gone b out bytes ds).after → Conserves kept_by_server b [] (gone_with_first b s) a
@@ -179,3 +180,22 @@ conserves_noted b a out out' text text' s h = conserves_beside b a (elim h.3 [
   | inl y ↦ ap (λ (x : ServerState). x.seats) y.4 ∙ (noted_beside h.0 h.0.notes out text ∙ fetched_beside b h.0 h.1 h.2)
   | inr n ↦ ap (λ (x : ServerState). x.seats) n.3 ∙ fetched_beside b h.0 h.1 h.2
 ])
+
+-- ---- a cleanup
+
+dropped_beside : (m a : ServerState) → DropsNotes m a → a.seats ≡ m.seats
+dropped_beside m a (mid, fetched, fetches, is) = ap (λ (x : ServerState). x.seats) is ∙ fetched_beside (record m { notes = [] }) mid fetched fetches
+
+pub conserves_cleaned : (b a : ServerState) (s : Status) → CleansUp b s a → Conserves kept_by_server b [] [] a
+conserves_cleaned b a s (m, result, taken, told) = by result taken told
+  where
+    beside : Conserves kept_by_server b [] [] m → a.seats ≡ m.seats → Conserves kept_by_server b [] [] a
+    beside c e = record { each = λ d. let x = c.each d in let k = ap (kept_by_seats d) e in omega (arith, x, k) }
+
+    by : (result : Result (Unit {0}) Status) → TakesOut b result m → MatchResult result (λ _. (s ≡ status.Ok) × DropsUnlessKept m a) (λ e. (s ≡ e) × (a ≡ m))
+        → Conserves kept_by_server b [] [] a
+    by (Ok u) taken told = beside (conserves_taken_out_of_core b m (Ok u) taken) (elim told.1 [
+      | inl kept ↦ ap (λ (x : ServerState). x.seats) kept.1
+      | inr dropped ↦ dropped_beside m a dropped.1
+    ])
+    by (Err e) taken told = beside (conserves_taken_out_of_core b m (Err e) taken) (ap (λ (x : ServerState). x.seats) told.1)

@@ -8,6 +8,7 @@ use Rattle.std.specs.Prelude.{MatchBool, Vec, if◌then◌else◌, option_map, s
 use Rattle.wl_link.proofs.Calls.Branches.{either_bool, either_option}
 use Rattle.wl_link.specs.Mailbox.{MailboxReceives, MailboxSends, MailboxState}
 use Rattle.wl_server.specs.declared.error.ActionError.{ActionError}
+use Rattle.wl_server.specs.declared.error.CreateAtError.{CreateAtError}
 use Rattle.wl_server.specs.declared.error.CreateError.{CreateError}
 use Rattle.wl_server.specs.declared.error.FinishError.TheVariants as finish
 use Rattle.wl_server.specs.declared.error.FinishRefused.{FinishRefused}
@@ -128,7 +129,7 @@ version_keeps table o version r p q h k =
           ]
     ]
 
-creates_at_keeps : (table : List InterfaceRow) (id : ClientParts) (i : InterfaceId) (version n u : ℕ) (r : Result IdParts CreateError) (p q : P)
+creates_at_keeps : (table : List InterfaceRow) (id : ClientParts) (i : InterfaceId) (version n u : ℕ) (r : Result IdParts CreateAtError) (p q : P)
     → CreatesNumbered table id p i version n u r q → q.is_killed ≡ true → p.is_killed ≡ true
 creates_at_keeps table id i version n u r p q h k =
     elim (either_option (slice_get table i.0) h) [
@@ -255,7 +256,7 @@ module _ (b a : CoreState) where
       by_each _ _ call (λ id lacked did h k. of_client (seen id b.server) (seen id a.server) lacked did (same_client o.client id) _ _
       (λ p q r. version_keeps b.server.offer.table o version h.0 p q r.2) h.2 k)
 
-  pub creates_at_kills : (client : ClientParts) (i : InterfaceId) (version n u : ℕ) (answer : Result IdParts CreateError)
+  pub creates_at_kills : (client : ClientParts) (i : InterfaceId) (version n u : ℕ) (answer : Result IdParts CreateAtError)
       → Calls world b (step.CreateObjectAt client i version n u) (reply.CreateObjectAt answer) a → KillsNobody b a
   creates_at_kills client i version n u answer call =
       by_each _ _ call (λ id lacked did h k. of_client (seen id b.server) (seen id a.server) lacked did (same_client client id) _ _
@@ -263,6 +264,9 @@ module _ (b a : CoreState) where
 
   pub keep_names_kills : (keep : Bool) → Calls world b (step.KeepGlobalNames keep) reply.KeepGlobalNames a → KillsNobody b a
   keep_names_kills keep call = by_each _ _ call (λ id lacked did h k. unfelt (seen id b.server) (seen id a.server) lacked did h.1 k)
+
+  pub object_limit_kills : (limit : Option ℕ) → Calls world b (step.SetObjectLimit limit) reply.SetObjectLimit a → KillsNobody b a
+  object_limit_kills limit call = by_each _ _ call (λ id lacked did h k. unfelt (seen id b.server) (seen id a.server) lacked did h.1 k)
 
   pub finish_bind_kills : (client : ClientParts) (u : ℕ) (answer : Result (Unit {0}) (FinishRefused ℕ)) → Calls world b (step.FinishBind client u) (reply.FinishBind answer) a
       → KillsNobody b a

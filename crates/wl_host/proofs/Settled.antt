@@ -28,18 +28,19 @@ use Rattle.wl_host.proofs.Marking.{KillsNobody, action_kills, cleanup_leaves_non
 use Rattle.wl_host.specs.Actions.{EndsBind, EndsRequest, Lent, NextAction, ReadsAllowed, ReadsIfAllowed, ReadsNext, ended, is_killed_by, marked_if, null_in}
 use Rattle.wl_host.specs.Calls.{CoreState, CreatesGlobal, CreatesObject, InsertsClient, SetsObjectData, flattened, interface_of, world}
 use Rattle.wl_host.specs.Chosen.{CreatesObjectAt, SetsObjectVersion}
+use Rattle.wl_host.specs.Cleaning.{CleansUp, DropsNotes, DropsUnlessKept}
 use Rattle.wl_host.specs.Clients.{SetsRoom, inserted}
 use Rattle.wl_host.specs.Extending.{Lengthens, Parts, Takes, parts_of, told_at, told_of_new}
 use Rattle.wl_host.specs.Events.{Passed, PostsError, SendsEvent}
 use Rattle.wl_host.specs.Flat.{client_of, flat_global}
 use Rattle.wl_host.specs.Flushing.{FlushesClient}
 use Rattle.wl_host.specs.Killed.{IsSettled, KnowsEnd, StaysSettled}
-use Rattle.wl_host.specs.Notes.{NextNote, noted, noted_if, text_of}
+use Rattle.wl_host.specs.Notes.{Fetches, NextNote, noted, noted_if, text_of}
 use Rattle.wl_host.specs.Nulls.{is_refused}
 use Rattle.wl_host.specs.Rows.{fault_of}
 use Rattle.wl_host.specs.Seats.{SeatsState, added, gone_all, ledger_at, ledger_of}
 use Rattle.wl_host.specs.Status.{of_global}
-use Rattle.wl_host.specs.Server.{Asks, AsksInTurn, CleansUp, Ends, NextWritable, Received, ReceivedBy, Sent, SentBy, ServerState}
+use Rattle.wl_host.specs.Server.{Asks, AsksInTurn, Ends, NextWritable, Received, ReceivedBy, Sent, SentBy, ServerState, TakesOut}
 use Rattle.wl_host.specs.Tables.{AddsInterfaces, ExtendsInterfaces, IsNewServer}
 use Rattle.wl_host.specs.declared.flat.FlatArgument.{FlatArgument}
 use Rattle.wl_host.specs.declared.flat.FlatClientId.{FlatClientId}
@@ -325,42 +326,57 @@ noted_beside s (n ∷ ns) out text = by (nat_lt (length text) (length (text_of n
     by true = (refl, refl)
     by false = (refl, refl)
 
+fetch_settled : (b m : ServerState) (fetched : Result (Unit {0}) Status) → Fetches b fetched m → StaysSettled b m
+fetch_settled b m fetched fetches = elim fetches [
+  | inl none ↦ stays_same b m none.2
+  | inr asked ↦ stays_by b m (notes_kill b.core m.core asked.1.0 asked.1.1) (by asked.1.0 asked.1.2)
+]
+  where
+    by : (answer : Result (Vec (Note ℕ) Global) OutOfMemory)
+        → MatchResult answer (λ taken. (fetched ≡ Ok tt) × (m ≡ record b { core = m.core; notes = taken.items; may_have_notes = false }))
+        (λ _. (fetched ≡ Err status.OutOfMemory) × (m ≡ record b { core = m.core }))
+        → m.may_clean_up ≡ b.may_clean_up
+    by (Ok taken) h = ap (λ (s : ServerState). s.may_clean_up) h.1
+    by (Err e) h = ap (λ (s : ServerState). s.may_clean_up) h.1
+
 pub notes_settled : (b a : ServerState) (out out' : FlatNote) (text text' : List ℕ) (s : Status) → NextNote b out text s out' text' a → StaysSettled b a
 notes_settled b a out out' text text' s (mid, fetched, fetches, told) settled =
     elim told [
       | inl y ↦
           let same = noted_beside mid mid.notes out text in
-          stays_by mid a (kills_same mid.core a.core (ap (λ (s : ServerState). s.core) y.4 ∙ same.0)) (ap (λ (s : ServerState). s.may_clean_up) y.4 ∙ same.1) (fetch settled)
-      | inr n ↦ stays_same mid a n.3 (fetch settled)
-    ]
-  where
-    by : (answer : Result (Vec (Note ℕ) Global) OutOfMemory)
-        → MatchResult answer (λ taken. (fetched ≡ Ok tt) × (mid ≡ record b { core = mid.core; notes = taken.items; may_have_notes = false }))
-        (λ _. (fetched ≡ Err status.OutOfMemory) × (mid ≡ record b { core = mid.core }))
-        → mid.may_clean_up ≡ b.may_clean_up
-    by (Ok taken) h = ap (λ (s : ServerState). s.may_clean_up) h.1
-    by (Err e) h = ap (λ (s : ServerState). s.may_clean_up) h.1
-
-    fetch : StaysSettled b mid
-    fetch = elim fetches [
-      | inl none ↦ stays_same b mid none.2
-      | inr asked ↦ stays_by b mid (notes_kill b.core mid.core asked.1.0 asked.1.1) (by asked.1.0 asked.1.2)
+          stays_by mid a (kills_same mid.core a.core (ap (λ (s : ServerState). s.core) y.4 ∙ same.0)) (ap (λ (s : ServerState). s.may_clean_up) y.4 ∙ same.1) (fetch_settled b mid fetched fetches settled)
+      | inr n ↦ stays_same mid a n.3 (fetch_settled b mid fetched fetches settled)
     ]
 
-pub cleanup_settled : (b a : ServerState) (s : Status) → CleansUp b s a → StaysSettled b a
-cleanup_settled b a s h =
+drop_settled : (m a : ServerState) → DropsNotes m a → StaysSettled m a
+drop_settled m a (mid, fetched, fetches, is) settled =
+    stays_by mid a (kills_same mid.core a.core (ap (λ (s : ServerState). s.core) is)) (ap (λ (s : ServerState). s.may_clean_up) is)
+    (fetch_settled (record m { notes = [] }) mid fetched fetches settled)
+
+taken_out_settled : (b m : ServerState) (result : Result (Unit {0}) Status) → TakesOut b result m → StaysSettled b m
+taken_out_settled b m result h =
     elim h [
-      | inl none ↦ stays_same b a none.2
+      | inl none ↦ stays_same b m none.2
       | inr looked ↦ by looked.0 looked.1.0 looked.1.1 looked.1.2
     ]
   where
-    by : b.may_clean_up ≡ true → (answer : Result (Vec (ClientParts × MailboxState) Global) OutOfMemory) → Calls world b.core step.Cleanup (reply.Cleanup answer) a.core
+    by : b.may_clean_up ≡ true → (answer : Result (Vec (ClientParts × MailboxState) Global) OutOfMemory) → Calls world b.core step.Cleanup (reply.Cleanup answer) m.core
         → MatchResult answer
-        (λ out. (s ≡ status.Ok) × (a ≡ record b { core = a.core; seats = gone_all b.seats out.items; may_clean_up = false; may_have_notes = true }))
-        (λ _. (s ≡ status.OutOfMemory) × (a ≡ record b { core = a.core }))
-        → StaysSettled b a
-    by on (Ok out) call h = λ settled off. cleanup_leaves_none b.core a.core out call
-    by on (Err e) call h = stays_marked b a (ap (λ (s : ServerState). s.may_clean_up) h.1 ∙ on)
+        (λ out. (result ≡ Ok tt) × (m ≡ record b { core = m.core; seats = gone_all b.seats out.items; may_clean_up = false; may_have_notes = true }))
+        (λ _. (result ≡ Err status.OutOfMemory) × (m ≡ record b { core = m.core }))
+        → StaysSettled b m
+    by on (Ok out) call h = λ settled off. cleanup_leaves_none b.core m.core out call
+    by on (Err e) call h = stays_marked b m (ap (λ (s : ServerState). s.may_clean_up) h.1 ∙ on)
+
+pub cleanup_settled : (b a : ServerState) (s : Status) → CleansUp b s a → StaysSettled b a
+cleanup_settled b a s (m, result, taken, told) = λ settled. by result (taken_out_settled b m result taken settled) told
+  where
+    by : (result : Result (Unit {0}) Status) → IsSettled m → MatchResult result (λ _. (s ≡ status.Ok) × DropsUnlessKept m a) (λ e. (s ≡ e) × (a ≡ m)) → IsSettled a
+    by (Ok u) settled told = elim told.1 [
+      | inl kept ↦ stays_same m a kept.1 settled
+      | inr dropped ↦ drop_settled m a dropped.1 settled
+    ]
+    by (Err e) settled told = stays_same m a told.1 settled
 
 -- ---- events
 

@@ -2,22 +2,22 @@
 use Rattle.std.specs.Prelude.{◌≡◌, ℕ, Result}
 use Rattle.wl_server.specs.Backend.{Calls}
 use Rattle.wl_server.specs.Ids.{IdParts}
-use Rattle.wl_server.specs.declared.error.CreateError.{CreateError}
+use Rattle.wl_server.specs.declared.error.CreateAtError.{CreateAtError}
 use Rattle.wl_server.specs.declared.error.VersionError.{VersionError}
 use Rattle.wl_server.specs.declared.runs.step.Reply.TheVariants as reply
 use Rattle.wl_server.specs.declared.runs.step.Step.TheVariants as step
 use Rattle.wl_host.specs.Calls.{CoreState, flattened, interface_of, status_by, world}
 use Rattle.wl_host.specs.Flat.{client_of, flat_resource, resource_of}
-use Rattle.wl_host.specs.Status.{of_create, of_version}
+use Rattle.wl_host.specs.Status.{of_create_at, of_version}
 use Rattle.wl_host.specs.declared.flat.FlatClientId.{FlatClientId}
 use Rattle.wl_host.specs.declared.flat.FlatObjectId.{FlatObjectId}
 use Rattle.wl_host.specs.declared.status.Status.{Status}
 
 abbrev pub CreatesObjectAt : CoreState → FlatClientId → ℕ → ℕ → ℕ → ℕ → Result FlatObjectId Status → CoreState → Type 0
 CreatesObjectAt before client interface version number u result after =
-    (answer : Result IdParts CreateError)
+    (answer : Result IdParts CreateAtError)
     × Calls world before (step.CreateObjectAt (client_of client) (interface_of interface) version number u) (reply.CreateObjectAt answer) after
-    × (result ≡ flattened flat_resource of_create answer)
+    × (result ≡ flattened flat_resource of_create_at answer)
 
 abbrev pub SetsObjectVersion : CoreState → FlatObjectId → ℕ → Status → CoreState → Type 0
 SetsObjectVersion before object version s after =

@@ -4,6 +4,7 @@ pub mod Arguments
 pub mod Arrivals
 pub mod Calls
 pub mod Chosen
+pub mod Cleaning
 pub mod Client
 pub mod Clients
 pub mod Descriptors
@@ -19,6 +20,7 @@ pub mod Inside
 pub mod Killed
 pub mod Kinds
 pub mod Lent
+pub mod Limits
 pub mod Lists
 pub mod Notes
 pub mod Nulls
@@ -31,3 +33,4 @@ pub mod Signatures
 pub mod Status
 pub mod Tables
 pub mod Visibility
+pub mod Waiting

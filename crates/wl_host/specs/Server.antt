@@ -33,7 +33,7 @@ use Rattle.wl_host.specs.declared.status.Status.TheVariants as status
 
 -- The core, and what is kept beside it; the notes that were taken from the core and not handed out, the oldest first; and
 -- whether there may be something to be cleaned up, and notes to be taken; and whether requests with a null that the table forbids
--- are refused.
+-- are refused, and notes are kept for the host.
 pub record ServerState : Type 0 where
   pub core : CoreState
   pub seats : SeatsState
@@ -41,6 +41,7 @@ pub record ServerState : Type 0 where
   pub may_clean_up : Bool
   pub may_have_notes : Bool
   pub refuses_nulls : Bool
+  pub keeps_notes : Bool
 
 -- how often a descriptor is kept
 abbrev pub kept_by_server : ℤ → ServerState → ℕ
@@ -201,13 +202,13 @@ sent_with s id count = sent_by (ledger_of id s.seats.ledgers) (transport_of s.co
 -- ---- clients that are gone
 
 -- the cleanup of the core; or no call since the last one can have killed a client or ended an object
-abbrev pub CleansUp : ServerState → Status → ServerState → Type 0
-CleansUp before s after =
-    ((before.may_clean_up ≡ false) × (s ≡ status.Ok) × (after ≡ before))
+abbrev pub TakesOut : ServerState → Result (Unit {0}) Status → ServerState → Type 0
+TakesOut before result after =
+    ((before.may_clean_up ≡ false) × (result ≡ Ok tt) × (after ≡ before))
     ⊎ ((before.may_clean_up ≡ true) × ((answer : _) × Calls world before.core step.Cleanup (reply.Cleanup answer) after.core
     × MatchResult answer
-    (λ out. (s ≡ status.Ok) × (after ≡ record before { core = after.core; seats = gone_all before.seats out.items; may_clean_up = false; may_have_notes = true }))
-    (λ _. (s ≡ status.OutOfMemory) × (after ≡ record before { core = after.core }))))
+    (λ out. (result ≡ Ok tt) × (after ≡ record before { core = after.core; seats = gone_all before.seats out.items; may_clean_up = false; may_have_notes = true }))
+    (λ _. (result ≡ Err status.OutOfMemory) × (after ≡ record before { core = after.core }))))
 
 -- the client as a flat struct
 abbrev pub flat_gone : Departed → Gone

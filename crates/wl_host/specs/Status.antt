@@ -6,6 +6,8 @@ use Rattle.wl_link.specs.declared.mailbox.MailboxError.{MailboxError}
 use Rattle.wl_link.specs.declared.mailbox.MailboxError.TheVariants as mailbox
 use Rattle.wl_server.specs.declared.error.InsertClientError.{InsertClientError}
 use Rattle.wl_server.specs.declared.error.InsertClientError.TheVariants as insert
+use Rattle.wl_server.specs.declared.error.CreateAtError.{CreateAtError}
+use Rattle.wl_server.specs.declared.error.CreateAtError.TheVariants as create_at
 use Rattle.wl_server.specs.declared.error.CreateError.{CreateError}
 use Rattle.wl_server.specs.declared.error.CreateError.TheVariants as create
 use Rattle.wl_server.specs.declared.error.VersionError.{VersionError}
@@ -103,8 +105,14 @@ of_create create.InvalidId = status.InvalidId
 of_create create.UnknownInterface = status.UnknownInterface
 of_create create.IdsExhausted = status.IdsExhausted
 of_create create.SerialsExhausted = status.SerialsExhausted
-of_create create.NotFree = status.NotFree
 of_create create.OutOfMemory = status.OutOfMemory
+
+abbrev pub of_create_at : CreateAtError → Status
+of_create_at create_at.InvalidId = status.InvalidId
+of_create_at create_at.UnknownInterface = status.UnknownInterface
+of_create_at create_at.SerialsExhausted = status.SerialsExhausted
+of_create_at create_at.NotFree = status.NotFree
+of_create_at create_at.OutOfMemory = status.OutOfMemory
 
 abbrev pub of_version : VersionError → Status
 of_version version.InvalidId = status.InvalidId

@@ -1,5 +1,5 @@
 -- Which table a session has: when it is made for rows, when the interfaces of more rows are added, and when whole rows extend it.
-use Rattle.std.specs.Prelude.{◌≡◌, ◌⊎◌, [], ◌++◌, List, false, None, Result, Ok, Err}
+use Rattle.std.specs.Prelude.{◌≡◌, ◌⊎◌, [], ◌++◌, List, true, false, None, Result, Ok, Err}
 use Rattle.wl_wire.specs.declared.protocol.TableError.{TableError}
 use Rattle.wl_wire.specs.Table.{AnswersGrowth, AnswersTo, Growth, InterfaceRow, IsAcceptedTable, IsFirstFault, NewRows, fixed_rows, grown, refused_growth, table_after}
 use Rattle.wl_client.specs.Session.{IsConnected}
@@ -38,6 +38,7 @@ new_state table = record {
   may_clean_up = false;
   may_have_notes = false;
   refuses_nulls = false;
+  keeps_notes = true;
 }
 
 -- the session is a new one with the table of the rows

@@ -9,7 +9,7 @@
 //! | the calls about one object | `client::objects` |
 //! | `next_note` | `client::notes` |
 //! | `keep_freed`, `next_freed` | `client::freed` |
-//! | `flush`, `to_send`, `sent`, `send_failed`, `next_dropped` | `client::sending` |
+//! | `flush`, `to_send`, `sent`, `send_failed`, `next_dropped`, `waiting` | `client::sending`, `client::waiting` |
 
 ghost use Rattle.std.specs.Prelude.{◌≡◌, [], IfErr, IfOk, Ok};
 ghost use Rattle.wl_wire.specs.declared.protocol.TableError.TheVariants as table_error;
@@ -31,6 +31,7 @@ mod receiving;
 mod refusals;
 mod requests;
 mod sending;
+mod waiting;
 
 use self::notes::DestroyedObject;
 use crate::descriptors::DescriptorQueue;

@@ -229,6 +229,17 @@ pub struct Counts {
     pub descriptors: u32,
 }
 
+/// How many bytes and descriptors wait in a session: those that the host received, and that were not read yet; and those that are
+/// to be sent.
+#[repr(C)]
+#[derive(Clone, Copy, Debug, PartialEq, Eq, Drop)]
+pub struct Waiting {
+    /// What was received, and was not read yet.
+    pub received: Counts,
+    /// What is to be sent.
+    pub to_send: Counts,
+}
+
 /// What happened to a client or to one of its objects: [`INSERTED`], [`KILLED`] or [`DESTROYED`].
 #[repr(C)]
 #[derive(Clone, Copy, Debug, PartialEq, Eq, Drop)]

@@ -17,6 +17,7 @@ ghost use Rattle.wl_host.specs.Allowed.{LendsAllowedAction, LendsAllowedEvent};
 ghost use Rattle.wl_host.specs.Arguments.{ComesBack, IsReadInPlace, all_bytes, arguments_of, flat_arguments, moved};
 ghost use Rattle.wl_host.specs.Calls.{CoreState, CreatesGlobal, CreatesObject, InsertsClient, SetsObjectData, world};
 ghost use Rattle.wl_host.specs.Chosen.{CreatesObjectAt, SetsObjectVersion};
+ghost use Rattle.wl_host.specs.Cleaning.{CleansUp};
 ghost use Rattle.wl_host.specs.Client.{ClientCore, HandsNext, HostedClient, LentForEvent};
 ghost use Rattle.wl_host.specs.Clients.{SetsRoom, inserted};
 ghost use Rattle.wl_host.specs.Descriptors.{Descriptors};
@@ -28,7 +29,7 @@ ghost use Rattle.wl_host.specs.Killed.{IsSettled, KnowsEnd, StaysSettled};
 ghost use Rattle.wl_host.specs.Notes.{NextNote};
 ghost use Rattle.wl_host.specs.Nulls.{TellsNull, forbidden_null};
 ghost use Rattle.wl_host.specs.Rows.{said_by};
-ghost use Rattle.wl_host.specs.Server.{CleansUp, Ends, NextWritable, Received, Sent, ServerState};
+ghost use Rattle.wl_host.specs.Server.{Ends, NextWritable, Received, Sent, ServerState};
 ghost use Rattle.wl_host.specs.Tables.{AddsInterfaces, ExtendsClient, ExtendsInterfaces, IsNewServer};
 ghost use Rattle.wl_host.specs.declared.extending.ExtensionFault.{ExtensionFault};
 ghost use Rattle.wl_host.specs.declared.flat.FlatArgument.{FlatArgument};
@@ -114,6 +115,7 @@ pub fn a_cleanup_looks_for_the_killed()
     ensures create_object_at { (before after : ServerState) (client : FlatClientId) (interface version number user_data : ℕ) (result : Result FlatObjectId Status) → CreatesObjectAt before.core client interface version number user_data result after.core → after ≡ record before { core = after.core } → StaysSettled before after }
     ensures set_object_version { (before after : ServerState) (object : FlatObjectId) (version : ℕ) (s : Status) → SetsObjectVersion before.core object version s after.core → after ≡ record before { core = after.core } → StaysSettled before after }
     ensures keep_global_names { (before after : ServerState) (keep : Bool) → Calls world before.core (step.KeepGlobalNames keep) reply.KeepGlobalNames after.core → after ≡ record before { core = after.core } → StaysSettled before after }
+    ensures set_object_limit { (before after : ServerState) (limit : Option ℕ) → Calls world before.core (step.SetObjectLimit limit) reply.SetObjectLimit after.core → after ≡ record before { core = after.core } → StaysSettled before after }
     ensures flush_client { (before after : ServerState) (id : ClientParts) (s : Status) → FlushesClient before id s after → StaysSettled before after }
     ensures refused_global { (before after : ServerState) (interface version user_data groups : ℕ) (hidden : List FlatClientId) (s : Status) → CreatesGlobal before.core interface version user_data groups hidden (Err s) after.core → after ≡ record before { core = after.core } → StaysSettled before after }
     ensures next_writable { (before after : ServerState) (result : Result FlatClientId Status) → NextWritable before result after → StaysSettled before after }

@@ -22,6 +22,7 @@
 //! | laws of the flat structs | `laws` | `Arguments`, `Nulls` |
 //! | which file descriptor a token stands for | `descriptors` | `Descriptors` |
 //! | nulls that the table forbids | `nulls` | `Nulls` |
+//! | how much waits | `waiting` | `Waiting` |
 #![tactic(auto)]
 
 mod arguments;
@@ -39,6 +40,7 @@ mod rows;
 mod server;
 mod signatures;
 mod status;
+mod waiting;
 
 pub use client::Client;
 pub use event_queues::{
@@ -49,7 +51,7 @@ pub use extending::ExtensionFault;
 pub use flat::{
     BIND, Counts, DESTROYED, FlatAction, FlatArgument, FlatClientId, FlatError, FlatEvent,
     FlatGlobalId, FlatGlobalInfo, FlatHeldObject, FlatNote, FlatObjectId, FlatObjectInfo,
-    FlatRequest, Gone, INSERTED, IO, KILLED, PROTOCOL, REQUEST, kind,
+    FlatRequest, Gone, INSERTED, IO, KILLED, PROTOCOL, REQUEST, Waiting, kind,
 };
 pub use laws::{a_forbidden_null_is_told, flat_arguments_come_back};
 pub use readers::{FlatReaders, FlatTurn};

@@ -7,8 +7,9 @@
 //! | `next_action`, and those that finish an action | `server::actions`, `server::refusals` |
 //! | `send_event`, `post_error` | `server::events` |
 //! | objects, globals | `server::objects`, `server::chosen`, `server::held`, `server::globals` |
-//! | what is to be sent, and clients that are gone | `server::sending`, `server::departures` |
-//! | notes | `server::notes` |
+//! | `set_object_limit` | `server::limits` |
+//! | what is to be sent, what waits, and clients that are gone | `server::sending`, `server::waiting`, `server::departures` |
+//! | notes, `keep_notes` | `server::notes` |
 
 pub mod actions;
 pub mod arrivals;
@@ -20,6 +21,7 @@ pub mod globals;
 pub mod held;
 pub mod hidden;
 pub mod ledger;
+pub mod limits;
 pub mod listing;
 pub mod notes;
 pub mod objects;
@@ -27,6 +29,7 @@ pub mod refusals;
 pub mod seats;
 pub mod sending;
 pub mod slots;
+pub mod waiting;
 
 ghost use Rattle.std.specs.Prelude.{[], ◌≡◌, IfErr, IfOk, true};
 ghost use Rattle.wl_host.specs.Descriptors.{Conserves};
@@ -122,6 +125,8 @@ pub struct Server {
     pub(crate) may_have_notes: bool,
     /// Whether a request with a null that the table forbids is refused.
     pub(crate) refuses_nulls: bool,
+    /// Whether notes are kept until the host takes them.
+    pub(crate) keeps_notes: bool,
 }
 
 impl fmt::Debug for Server {
@@ -146,6 +151,7 @@ impl Model for Server {
       may_clean_up = s.may_clean_up;
       may_have_notes = s.may_have_notes;
       refuses_nulls = s.refuses_nulls;
+      keeps_notes = s.keeps_notes;
     } };
 }
 
@@ -195,6 +201,7 @@ impl Server {
             may_clean_up: false,
             may_have_notes: false,
             refuses_nulls: false,
+            keeps_notes: true,
         }
     }
 

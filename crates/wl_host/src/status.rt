@@ -9,7 +9,7 @@ use wl_client::{
 };
 use wl_link::MailboxError;
 use wl_server::{
-    ActionError, CreateError, DestroyError, EventError, FinishError, GlobalError,
+    ActionError, CreateAtError, CreateError, DestroyError, EventError, FinishError, GlobalError,
     InsertClientError, InvalidId, VersionError,
 };
 use wl_wire::{IoFault, OutOfMemory};
@@ -187,8 +187,23 @@ impl From<CreateError> for Status {
             CreateError::UnknownInterface => Status::UnknownInterface,
             CreateError::IdsExhausted => Status::IdsExhausted,
             CreateError::SerialsExhausted => Status::SerialsExhausted,
-            CreateError::NotFree => Status::NotFree,
             CreateError::OutOfMemory => Status::OutOfMemory,
+        }
+    }
+}
+
+impl From<CreateAtError> for Status {
+    ghost use Rattle.wl_host.specs.Status.{of_create_at};
+
+    ghost from_gives = { λ error status. status ≡ of_create_at error };
+
+    fn from(error: CreateAtError) -> Status {
+        match error {
+            CreateAtError::InvalidId => Status::InvalidId,
+            CreateAtError::UnknownInterface => Status::UnknownInterface,
+            CreateAtError::SerialsExhausted => Status::SerialsExhausted,
+            CreateAtError::NotFree => Status::NotFree,
+            CreateAtError::OutOfMemory => Status::OutOfMemory,
         }
     }
 }

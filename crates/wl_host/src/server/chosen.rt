@@ -4,16 +4,26 @@ ghost use Rattle.std.specs.Prelude.{[], ◌≡◌, ◌≢◌, Err};
 ghost use Rattle.wl_host.specs.Chosen.{CreatesObjectAt, SetsObjectVersion};
 ghost use Rattle.wl_host.specs.Descriptors.{Conserves};
 ghost use Rattle.wl_host.specs.Server.{kept_by_server};
-ghost use Rattle.wl_host.specs.Calls.{status_by};
-ghost use Rattle.wl_host.specs.Status.{of_version};
+ghost use Rattle.wl_host.specs.Calls.{flattened, status_by};
+ghost use Rattle.wl_host.specs.Flat.{flat_resource};
+ghost use Rattle.wl_host.specs.Status.{of_create_at, of_version};
 ghost use Rattle.wl_host.specs.declared.status.Status.TheVariants as status;
 
 use crate::flat::{FlatClientId, FlatObjectId};
 use crate::server::Server;
-use crate::server::objects::created;
 use crate::status::Status;
-use wl_server::VersionError;
+use wl_server::{CreateAtError, ObjectId, VersionError};
 use wl_wire::InterfaceId;
+
+/// The object that was created, or the status of the error.
+fn created_at(answer: Result<ObjectId, CreateAtError>) -> Result<FlatObjectId, Status>
+    ensures { result ≡ flattened flat_resource of_create_at answer }
+{
+    match answer {
+        Ok(id) => Ok(FlatObjectId::of_resource(id)),
+        Err(error) => Err(Status::from(error)),
+    }
+}
 
 /// The status of an answer of `set_object_version`.
 fn version_set(answer: Result<(), VersionError>) -> Status
@@ -29,7 +39,7 @@ impl Server {
     /// Creates an object of the client at this number of its range (`wl_server::Backend::create_object_at`).
     ///
     /// The status is `MissingData` if `has_data` is 0: such an object always has data. Else it is that of
-    /// `wl_server::CreateError`.
+    /// `wl_server::CreateAtError`.
     pub fn create_object_at(
         &mut self,
         client: &FlatClientId,
@@ -49,7 +59,7 @@ impl Server {
         }
         let interface = InterfaceId(interface as usize);
         let client = client.id();
-        created(
+        created_at(
             self.core
                 .create_object_at(&client, interface, version, number, user_data),
         )

@@ -1,11 +1,12 @@
 //! Clients that are gone, and descriptors that belong to nobody.
 
 ghost use Rattle.std.specs.Prelude.{◌≡◌, [], if◌then◌else◌, map, not};
+ghost use Rattle.wl_host.specs.Cleaning.{CleansUp};
 ghost use Rattle.wl_host.specs.Descriptors.{Conserves};
 ghost use Rattle.wl_host.specs.Flat.{over_front};
 ghost use Rattle.wl_host.specs.Seats.{gone_all};
 ghost use Rattle.wl_host.specs.Sending.{descriptors_of, shown};
-ghost use Rattle.wl_host.specs.Server.{CleansUp, NextDropped, flat_gone, gone_with_first, handed, is_too_small, kept_by_server, next_gone};
+ghost use Rattle.wl_host.specs.Server.{NextDropped, TakesOut, flat_gone, gone_with_first, handed, is_too_small, kept_by_server, next_gone};
 
 use crate::flat::{Counts, FlatClientId, Gone};
 use crate::outgoing::{copy_bytes, copy_descriptors};
@@ -56,24 +57,38 @@ fn depart_all(seats: &mut Seats, gone: Vec<(ClientId, Mailbox)>)
 }
 
 impl Server {
-    /// Takes the clients out that were killed (`wl_server::Backend::cleanup`). `next_gone` hands them out.
+    /// Takes the clients out that were killed (`wl_server::Backend::cleanup`). `next_gone` hands them out. If notes are not kept
+    /// (`keep_notes`), those that there are then are dropped.
     ///
     /// The status is `OutOfMemory` if there was no memory. Then nothing is changed.
     pub fn cleanup(&mut self) -> Status
         ensures call { CleansUp self.old result self.new }
         ensures descriptors { Conserves kept_by_server self.old [] [] self.new }
     {
+        if let Err(status) = self.take_out_killed() {
+            return status;
+        }
+        if !self.keeps_notes {
+            self.drop_notes();
+        }
+        Status::Ok
+    }
+
+    /// Takes the killed clients out of the core, if there may be some.
+    fn take_out_killed(&mut self) -> Result<(), Status>
+        ensures { TakesOut self.old result self.new }
+    {
         if !self.may_clean_up {
-            return Status::Ok;
+            return Ok(());
         }
         match self.core.cleanup() {
             Ok(gone) => {
                 depart_all(&mut self.seats, gone);
                 self.may_clean_up = false;
                 self.may_have_notes = true;
-                Status::Ok
+                Ok(())
             }
-            Err(error) => Status::from(error),
+            Err(error) => Err(Status::from(error)),
         }
     }
 

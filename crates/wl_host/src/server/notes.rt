@@ -1,9 +1,12 @@
 //! Notes: what happened to clients and their objects.
 
 ghost use Rattle.std.specs.Prelude.{◌≡◌, ◌++◌, [], length, nat_lt, not};
+ghost use Rattle.wl_host.specs.Cleaning.{DropsNotes};
 ghost use Rattle.wl_host.specs.Descriptors.{Conserves};
 ghost use Rattle.wl_host.specs.Notes.{Fetches, NextNote, client_note, error_note, flat_note, text_of, with_text};
+ghost use Rattle.wl_host.specs.Nulls.{sets};
 ghost use Rattle.wl_host.specs.Server.{kept_by_server};
+ghost use Rattle.wl_host.specs.declared.status.Status.TheVariants as status;
 
 use crate::flat::{
     DESTROYED, FlatClientId, FlatNote, FlatObjectId, INSERTED, KILLED, count_number,
@@ -121,6 +124,30 @@ impl Server {
         }
         self.notes.pop_front();
         Status::Ok
+    }
+
+    /// Sets whether notes are kept until `next_note` hands them out: not if `is_on` is 0. In a new session they are kept.
+    ///
+    /// If they are not, each `cleanup` that answers `Ok` drops the notes that there are: those of ended objects and killed
+    /// clients, and all others. Those that the core still has stay there until the next one, if there is no memory to take them.
+    /// Between two cleanups `next_note` hands out what was noted since the first.
+    pub fn keep_notes(&mut self, is_on: u32) -> Status
+        ensures set { self.new ≡ record self.old { keeps_notes = sets is_on } }
+        ensures descriptors { Conserves kept_by_server self.old [] [] self.new }
+        ensures status { result ≡ status.Ok }
+    {
+        self.keeps_notes = is_on != 0;
+        Status::Ok
+    }
+
+    /// Drops all notes that there are. Those of the core stay if there is no memory to take them.
+    pub(crate) fn drop_notes(&mut self)
+        ensures { DropsNotes self.old self.new }
+    {
+        let alloc = self.alloc();
+        self.notes = VecDeque::new(alloc);
+        let _ = self.fetch_notes();
+        self.notes = VecDeque::new(alloc);
     }
 
     /// Takes the notes of the core, if none are left and there may be some.

@@ -19,7 +19,7 @@ use wl_server::{ClientId, CreateError, InvalidId, ObjectId};
 use wl_wire::InterfaceId;
 
 /// The object that was created, or the status of the error.
-pub(crate) fn created(answer: Result<ObjectId, CreateError>) -> Result<FlatObjectId, Status>
+fn created(answer: Result<ObjectId, CreateError>) -> Result<FlatObjectId, Status>
     ensures { result ≡ flattened flat_resource of_create answer }
 {
     match answer {

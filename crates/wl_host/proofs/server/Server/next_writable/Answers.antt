@@ -11,6 +11,7 @@ after c = record {
   may_clean_up = c.self.inside.may_clean_up;
   may_have_notes = c.self.inside.may_have_notes;
   refuses_nulls = c.self.inside.refuses_nulls;
+  keeps_notes = c.self.inside.keeps_notes;
 }
 
 pub returns-clause-call : goal.returns-clause-call
