@@ -67,10 +67,11 @@
  *     empty next_gone and next_dropped. Of a client's session: call nb_client_fail, and empty nb_client_next_dropped.
  *   - Actions and events that you do not care for may have descriptors, too. Close them.
  *
- * Bounds. The session bounds how many bytes wait for a client (nb_server_set_default_max_buffer_size). It bounds
- * neither how many objects a client makes, nor how many descriptors it sends that no request takes. So a host that
- * serves strangers counts both, and ends a client that has too many: nb_server_objects, and the descriptors that came
- * less those that actions had. first/server.c does so.
+ * Bounds. The session bounds how many bytes wait for a client (nb_server_set_default_max_buffer_size), and how many
+ * objects its requests make, once the host limits them (nb_server_set_object_limit). It does not bound how many
+ * descriptors a client sends that no request takes. So a host that serves strangers sets that limit, counts the
+ * descriptors that came less those that actions had, and ends a client that has too many: first/server.c does so. One
+ * that creates objects for a client counts them, too (nb_server_objects), as host.c does.
  *
  * What a C program must not do:
  *
@@ -439,6 +440,11 @@ typedef struct {
     uint32_t bytes, descriptors;
 } nb_counts;
 
+/* How much waits in a session: what the host passed in and was not read yet, and what is to be sent. */
+typedef struct {
+    nb_counts received, to_send;
+} nb_waiting;
+
 enum { NB_INSERTED = 1, NB_KILLED = 2, NB_DESTROYED = 3 };
 
 /* A note of what happened in a server's session: 80 bytes. */
@@ -532,10 +538,11 @@ nb_status nb_server_merge_interfaces(nb_server *place, const uint8_t *text, size
 
 /* Writes 1 if malloc refused in the last call that asked the core, also where the call did its work all the same (a
  * client that could not be told something is killed then). Else 0. A call that does not ask the core leaves it: the calls
- * that only look, received and received_end, receive_failed, sent, set_room, refuse_nulls, next_gone, next_dropped; and
- * any other that answers from what the host keeps, or answers NB_OUT_OF_MEMORY for its own copies. After
- * nb_server_next_action refused a request for a null (nb_server_refuse_nulls), this says only whether malloc refused as
- * the request was finished, and not whether it did as the client was told. */
+ * that only look, received and received_end, receive_failed, sent, set_room, refuse_nulls, keep_notes, next_gone,
+ * next_dropped; and any other that answers from what the host keeps, or answers NB_OUT_OF_MEMORY for its own copies.
+ * After nb_server_next_action refused a request for a null (nb_server_refuse_nulls), this says only whether malloc
+ * refused as the request was finished, and not whether it did as the client was told; after a cleanup that dropped notes
+ * (nb_server_keep_notes), only whether it did as these were taken. */
 nb_status nb_server_memory_refused(nb_server *place, uint32_t *is_refused);
 
 /* Sets whether requests with a null that the table forbids are refused: they are if `is_on` is not 0. At first they are
@@ -561,6 +568,19 @@ nb_status nb_server_set_default_max_buffer_size(nb_server *place, uint64_t size)
 
 /* Sets the same for a client that is there. An unknown client is no error: nothing is done. */
 nb_status nb_server_set_max_buffer_size(nb_server *place, const nb_client_id *client, uint64_t size);
+
+/* Limits how many objects each client may have. At 0, as in a new session, there is no limit.
+ *
+ * The limit is the greatest number at which a client's request may make an object, so that it makes at most so many, its
+ * wl_display included, which has the number 1. A well-formed request to an object that is there, with a new id above the
+ * limit, is not done, whatever else is wrong with it, and nb_server_next_action answers NB_CLOSED: the client is told so
+ * by wl_display.error of its wl_display, with the code 2 (no_memory) and a text as "Too many objects: at most 1000.", and
+ * killed. That holds of sync and get_registry, too.
+ *
+ * A client uses a number again once it has heard that the object is gone (wl_display.delete_id). So it needs as many
+ * numbers as it ever has objects at once, and those of whose ends it has not heard: set the limit well above that. It is
+ * asked for each new object from now on; objects that are there stay. Those that the host creates are not limited. */
+nb_status nb_server_set_object_limit(nb_server *place, uint32_t limit);
 
 /* Sets the client's *room*: how many bytes may be ready for nb_server_to_send. The rest waits in the client's buffer,
  * up to its limit. It is 65536 at first. With 0 nothing gets ready any more. If there is room now for what waits,
@@ -636,7 +656,8 @@ nb_status nb_server_send_failed(nb_server *place, const nb_client_id *client);
  *   - NB_INVALID_ID: the client is not there (any more).
  *   - NB_OPEN: an action of the client is open.
  *   - NB_CLOSED: the client is killed. It was before, its connection has ended, or it broke the protocol by a
- *     well-formed request, and is told so by wl_display.error; by a null, too, after nb_server_refuse_nulls.
+ *     well-formed request, and is told so by wl_display.error; by a null, too, after nb_server_refuse_nulls, and by an
+ *     object beyond nb_server_set_object_limit.
  *   - NB_PROTOCOL_ERROR: what it sent is no message that it may send. It is killed.
  *   - NB_WOULD_BLOCK: no whole message is there. Receive first.
  *   - NB_OUT_OF_MEMORY: read again later. What was handled stays handled.
@@ -823,9 +844,16 @@ nb_status nb_server_to_send(nb_server *place, const nb_client_id *client, uint8_
  * No other call for the client may come between nb_server_to_send and this one. Statuses: NB_INVALID_ID. */
 nb_status nb_server_sent(nb_server *place, const nb_client_id *client, uint32_t count);
 
+/* How much waits for a client, killed or not, and of it, whether it is ready or not: in `received` what was passed in,
+ * and no action was read of; in `to_send` what is to be sent. An action that was kept (NB_TOO_SMALL) is read. The
+ * descriptors of bytes that nb_server_to_send copied are counted until nb_server_sent. A count above 4294967295 is told
+ * as that. Statuses: NB_INVALID_ID. */
+nb_status nb_server_waiting(nb_server *place, const nb_client_id *client, nb_waiting *waiting);
+
 /* Takes the clients out that were killed: each comes once by nb_server_next_gone, and each of their objects with data
- * is noted. So is each object that nb_server_destroy_object, or an event that is a destructor, has ended since. Call it
- * each round: if there is nothing to do it costs nothing. Statuses: NB_OUT_OF_MEMORY (they stay; call again). */
+ * is noted. So is each object that nb_server_destroy_object, or an event that is a destructor, has ended since. Notes
+ * that are not to be kept are dropped (nb_server_keep_notes). Call it each round: if there is nothing to do it costs
+ * nothing. Statuses: NB_OUT_OF_MEMORY (they stay; call again). */
 nb_status nb_server_cleanup(nb_server *place);
 
 /* The next client that was taken out: its id, its data, and the last bytes and descriptors for it, the error message
@@ -843,6 +871,12 @@ nb_status nb_server_next_gone(nb_server *place, nb_gone *gone, uint8_t *bytes, s
  * Statuses: NB_WOULD_BLOCK (there is none); NB_OUT_OF_MEMORY (call again later); NB_TOO_SMALL (`note` is written; it is
  * kept: call again with room for message_length + interface_length). */
 nb_status nb_server_next_note(nb_server *place, nb_note *note, uint8_t *text, size_t text_room);
+
+/* Sets whether notes are kept until nb_server_next_note hands them out: they are if `is_on` is not 0, and in a new
+ * session. If they are not, each nb_server_cleanup that answers NB_OK drops those that there are, of each kind. Without
+ * memory to take them from the core it drops the others alone, and these at the next cleanup. So a host that never asks
+ * for notes keeps none for longer than from one cleanup to the next, but for want of memory. */
+nb_status nb_server_keep_notes(nb_server *place, uint32_t is_on);
 
 /* The next descriptor that the session had and no call will hand out: its message was refused, or its client is gone.
  * Close it. Statuses: NB_WOULD_BLOCK (there is none). */
@@ -1015,6 +1049,10 @@ nb_status nb_client_to_send(nb_client *place, uint8_t *bytes, size_t byte_room, 
 /* sendmsg took this many bytes, and with the first of them all descriptors: close them. A greater count counts as all
  * that waits. No other call may come between nb_client_to_send and this one. */
 nb_status nb_client_sent(nb_client *place, uint32_t count);
+
+/* How much waits, ready or not, as nb_server_waiting tells it: in `received` what no event was read of. Once the session
+ * has failed, nothing of that changes any more, also not as nb_client_next_dropped gives the descriptors back. */
+nb_status nb_client_waiting(nb_client *place, nb_waiting *waiting);
 
 /* ======== A client's session: what has happened */
 

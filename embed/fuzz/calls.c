@@ -476,9 +476,15 @@ static void call_of_server(void)
         nb_object_id list[8];
         nb_held_object held[8];
         nb_client_id all[4];
+        nb_waiting waiting;
         id = any_client();
         see(nb_server_flush_client(&server, &id));
-        see(nb_server_keep_global_names(&server, take() % 2));
+        kept = take();
+        see(nb_server_keep_global_names(&server, kept % 2));
+        see(nb_server_set_object_limit(&server, kept > 240 ? kept - 240 : 0));
+        see(nb_server_keep_notes(&server, kept % 4));
+        if (see(nb_server_waiting(&server, &id, &waiting)) == NB_OK)
+            saw(waiting.received.bytes + waiting.to_send.bytes);
         if (see(nb_server_create_object_at(&server, &id, NB_INTERFACE_FIRST, take() % 4, take() % 9, take() % 2, take(), &made)) == NB_OK)
             keep(objects, made);
         if (see(nb_server_object_by_number(&server, &id, take() % 9, held)) == NB_OK)
@@ -531,6 +537,7 @@ static void call_of_client(void)
     nb_object_id object, made = nb_null();
     nb_request request;
     nb_counts counts = { 0, 0 };
+    nb_waiting waiting;
     nb_object_info info;
     nb_error error;
     nb_status status;
@@ -580,6 +587,8 @@ static void call_of_client(void)
         see(nb_client_set_object_data(&session, &object, take()));
         see(nb_client_memory_refused(&session, &refused));
         saw(refused);
+        see(nb_client_waiting(&session, &waiting));
+        saw(waiting.received.bytes + waiting.to_send.bytes);
         break;
     case 10:
         object = any_object(own);

@@ -183,6 +183,42 @@ static void events(void)
     OK(nb_client_end(&session));
 }
 
+static int waits(uint32_t received, uint32_t came, uint32_t to_send, uint32_t going)
+{
+    nb_waiting waiting = { { 9, 9 }, { 9, 9 } };
+    OK(nb_client_waiting(&session, &waiting));
+    return waiting.received.bytes == received && waiting.received.descriptors == came &&
+           waiting.to_send.bytes == to_send && waiting.to_send.descriptors == going;
+}
+
+/* What is to be sent waits until it was, ready or not, and what was passed in until an event is read of it. */
+static void waiting(void)
+{
+    const nb_argument with[] = { nb_string(0, 4), nb_array(0, 4), nb_descriptor(60) };
+    nb_object_id none;
+    connect_session();
+    HOLDS(waits(0, 0, 0, 0));
+    const nb_request request = { object, NB_QUAD_REQUEST_GIVE, 0, 0, 0, 0, 0, 0 };
+    OK(nb_client_send_request(&session, &request, with, 3, (const uint8_t *)"text", 4, &none));
+    HOLDS(waits(0, 0, 28, 1));
+    OK(nb_client_flush(&session));
+    HOLDS(waits(0, 0, 28, 1));
+    OK(nb_client_to_send(&session, bytes, 5, descriptors, NB_MOST_DESCRIPTORS, &counts));
+    OK(nb_client_sent(&session, 5));
+    HOLDS(waits(0, 0, 23, 0));
+    put(3, NB_QUAD_EVENT_MOVED, "u", 7);
+    descriptors[0] = 61;
+    OK(nb_client_received(&session, wire, 9, descriptors, 1));
+    HOLDS(waits(9, 1, 23, 0));
+    IS(next_event(), NB_WOULD_BLOCK);
+    HOLDS(waits(9, 1, 23, 0));
+    OK(nb_client_received(&session, wire + 9, 3, NULL, 0));
+    wire_length = 0;
+    OK(next_event());
+    HOLDS(waits(0, 1, 23, 0)); /* the descriptor is for a message to come */
+    OK(nb_client_end(&session));
+}
+
 /* The client destroys what an event made, and then finishes the event: the data are not kept, and no note names
  * them. */
 static void not_kept(void)
@@ -534,6 +570,7 @@ int main(void)
 {
     requests();
     events();
+    waiting();
     not_kept();
     reclaimed();
     by_number();

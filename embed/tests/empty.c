@@ -18,11 +18,13 @@ static void server_calls(void)
     nb_global_info offered;
     nb_gone gone;
     nb_note note;
+    nb_waiting waiting;
     NONE(nb_server_end(&server));
     NONE(nb_server_extend(&server, &quad, &fault));
     NONE(nb_server_memory_refused(&server, &number));
     NONE(nb_server_set_default_max_buffer_size(&server, 1));
     NONE(nb_server_refuse_nulls(&server, 1));
+    NONE(nb_server_set_object_limit(&server, 1));
     NONE(nb_server_set_max_buffer_size(&server, &id, 1));
     NONE(nb_server_set_room(&server, &id, 1));
     NONE(nb_server_insert_client(&server, 1, 1, &global, 1, &id));
@@ -63,9 +65,11 @@ static void server_calls(void)
     NONE(nb_server_flush_client(&server, &id));
     NONE(nb_server_to_send(&server, &id, bytes, 9, descriptors, NB_MOST_DESCRIPTORS, &counts));
     NONE(nb_server_sent(&server, &id, 1));
+    NONE(nb_server_waiting(&server, &id, &waiting));
     NONE(nb_server_cleanup(&server));
     NONE(nb_server_next_gone(&server, &gone, bytes, 9, descriptors, NB_MOST_DESCRIPTORS));
     NONE(nb_server_next_note(&server, &note, bytes, 9));
+    NONE(nb_server_keep_notes(&server, 1));
     NONE(nb_server_next_dropped(&server, descriptors));
     HOLDS(number == 7 && data == 7 && server.state == 0);
 }
@@ -79,6 +83,7 @@ static void client_calls(void)
     nb_event event;
     nb_request request = { { 1, { 0, 0 }, 4, 9 }, 0, 0, 0, 0, 0, 0, 0 };
     nb_error error;
+    nb_waiting waiting;
     NONE(nb_client_end(&session));
     NONE(nb_client_extend(&session, &quad, &fault));
     NONE(nb_client_memory_refused(&session, &number));
@@ -105,6 +110,7 @@ static void client_calls(void)
     NONE(nb_client_flush(&session));
     NONE(nb_client_to_send(&session, bytes, 9, descriptors, NB_MOST_DESCRIPTORS, &counts));
     NONE(nb_client_sent(&session, 1));
+    NONE(nb_client_waiting(&session, &waiting));
     NONE(nb_client_last_error(&session, &error, bytes, 9));
     NONE(nb_client_next_note(&session, &object, &data));
     NONE(nb_client_keep_freed(&session, 1));

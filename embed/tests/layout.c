@@ -85,6 +85,8 @@ AT(nb_global_info, version, 4);
 AT(nb_global_info, is_disabled, 8);
 SIZE(nb_counts, 8);
 AT(nb_counts, descriptors, 4);
+SIZE(nb_waiting, 16);
+AT(nb_waiting, to_send, 8);
 SIZE(nb_note, 80);
 AT(nb_note, is_protocol_error, 4);
 AT(nb_note, code, 8);

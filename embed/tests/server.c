@@ -113,6 +113,42 @@ static void events(void)
     OK(nb_server_end(&server));
 }
 
+/* Notes that are not kept are dropped by a cleanup. */
+static void notes_unkept(void)
+{
+    nb_object_id object = begin();
+    nb_note note;
+    OK(nb_server_keep_notes(&server, 0));
+    OK(nb_server_destroy_object(&server, &object));
+    OK(nb_server_cleanup(&server));
+    IS(nb_server_next_note(&server, &note, bytes, sizeof bytes), NB_WOULD_BLOCK);
+    /* What is noted after it is there until the next one. */
+    OK(nb_server_create_object(&server, &client, NB_QUAD, 1, 1, 91, &object));
+    OK(nb_server_send_failed(&server, &client));
+    OK(nb_server_next_note(&server, &note, bytes, sizeof bytes));
+    HOLDS(note.kind == NB_KILLED);
+    OK(nb_server_cleanup(&server));
+    IS(nb_server_next_note(&server, &note, bytes, sizeof bytes), NB_WOULD_BLOCK);
+    /* So are those of a host that had asked for some, and not for all. */
+    OK(nb_server_end(&server));
+    object = begin();
+    OK(nb_server_destroy_object(&server, &object));
+    OK(nb_server_cleanup(&server));
+    OK(nb_server_next_note(&server, &note, bytes, sizeof bytes));
+    HOLDS(note.kind == NB_INSERTED);
+    OK(nb_server_keep_notes(&server, 0));
+    OK(nb_server_cleanup(&server));
+    OK(nb_server_keep_notes(&server, 1));
+    IS(nb_server_next_note(&server, &note, bytes, sizeof bytes), NB_WOULD_BLOCK);
+    /* Now they are kept again. */
+    OK(nb_server_create_object(&server, &client, NB_QUAD, 1, 1, 92, &object));
+    OK(nb_server_destroy_object(&server, &object));
+    OK(nb_server_cleanup(&server));
+    OK(nb_server_next_note(&server, &note, bytes, sizeof bytes));
+    HOLDS(note.kind == NB_DESTROYED && note.data == 92);
+    OK(nb_server_end(&server));
+}
+
 /* Numbers and versions that the host chooses, and objects with their data. */
 static void chosen(void)
 {
@@ -178,6 +214,84 @@ static void one_flushed(void)
     OK(nb_server_keep_global_names(&server, 0));
     OK(nb_offer(&server, NB_QUAD, 3, &global));
     HOLDS(global.name == 2);
+    OK(nb_server_end(&server));
+}
+
+static int waits(uint32_t received, uint32_t came, uint32_t to_send, uint32_t going)
+{
+    nb_waiting waiting = { { 9, 9 }, { 9, 9 } };
+    OK(nb_server_waiting(&server, &client, &waiting));
+    return waiting.received.bytes == received && waiting.received.descriptors == came &&
+           waiting.to_send.bytes == to_send && waiting.to_send.descriptors == going;
+}
+
+/* What was passed in waits until an action is read of it, and what is to be sent until it was, ready or not. */
+static void waiting(void)
+{
+    nb_object_id object = begin();
+    nb_client_id other = client;
+    nb_waiting none = { { 9, 9 }, { 9, 9 } };
+    const nb_argument argument = nb_int(7);
+    HOLDS(waits(0, 0, 0, 0));
+    put(3, NB_QUAD_REQUEST_GIVE, "sa", "text", "array", 5);
+    HOLDS(wire_length == 32);
+    descriptors[0] = 61;
+    OK(nb_server_received(&server, &client, wire, 10, descriptors, 1));
+    HOLDS(waits(10, 1, 0, 0));
+    IS(next_action(), NB_WOULD_BLOCK);
+    HOLDS(waits(10, 1, 0, 0));
+    OK(nb_server_received(&server, &client, wire + 10, 22, NULL, 0));
+    wire_length = 0;
+    HOLDS(waits(32, 1, 0, 0));
+    OK(next_action());
+    HOLDS(waits(0, 0, 0, 0));
+    OK(nb_server_finish_request(&server, &client));
+    for (int i = 0; i < 3; i++)
+        OK(nb_server_send_event(&server, &object, NB_QUAD_EVENT_MOVED, &argument, 1, NULL, 0));
+    HOLDS(waits(0, 0, 36, 0));
+    OK(nb_server_flush_client(&server, &client));
+    HOLDS(waits(0, 0, 36, 0));
+    HOLDS(send_some(&client, 7) == 7);
+    HOLDS(waits(0, 0, 29, 0));
+    other.serial = 99;
+    IS(nb_server_waiting(&server, &other, &none), NB_INVALID_ID);
+    HOLDS(none.received.bytes == 9 && none.to_send.descriptors == 9);
+    OK(nb_server_end(&server));
+}
+
+/* A client that makes more objects than it may is told so and killed; what the host creates is not limited. */
+static void object_limit(void)
+{
+    nb_object_id object = begin(), made;
+    nb_object_info info;
+    nb_note note;
+    uint32_t is_kept;
+    /* The display, the registry and the bound object have the numbers 1 to 3. */
+    OK(nb_server_set_object_limit(&server, 4));
+    put(3, NB_QUAD_REQUEST_MAKE, "u", 4);
+    put(1, 0, "u", 5);
+    OK(arrive(NULL, 0));
+    OK(next_action());
+    HOLDS(action.created.number == 4);
+    OK(nb_server_finish_request_with(&server, &client, 1, &is_kept));
+    OK(nb_server_create_object(&server, &client, NB_QUAD, 1, 1, 2, &made));
+    OK(nb_server_create_object_at(&server, &client, NB_QUAD, 1, 5, 1, 3, &made));
+    IS(next_action(), NB_CLOSED);
+    put(1, 0, "uus", 1, 2, "Too many objects: at most 4.");
+    HOLDS(sends(&client));
+    OK(nb_server_object_info(&server, &object, &info)); /* it has its objects until it is taken out */
+    OK(nb_server_next_note(&server, &note, bytes, sizeof bytes));
+    HOLDS(note.kind == NB_INSERTED);
+    OK(nb_server_next_note(&server, &note, bytes, sizeof bytes));
+    HOLDS(note.kind == NB_KILLED && note.is_protocol_error == 1 && note.code == 2 && note.object_number == 1);
+    OK(nb_server_end(&server));
+    /* At 0 there is no limit. */
+    begin();
+    OK(nb_server_set_object_limit(&server, 3));
+    OK(nb_server_set_object_limit(&server, 0));
+    put(3, NB_QUAD_REQUEST_MAKE, "u", 4);
+    OK(arrive(NULL, 0));
+    OK(next_action());
     OK(nb_server_end(&server));
 }
 
@@ -500,6 +614,9 @@ int main(void)
     events();
     chosen();
     one_flushed();
+    object_limit();
+    notes_unkept();
+    waiting();
     texts();
     globals();
     hidden();

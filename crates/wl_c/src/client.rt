@@ -6,6 +6,7 @@
 //! | `received`, `next_event`, `finish_event`, `send_request`, .. | `events` |
 //! | `display`, `object_data`, .. | `objects` |
 //! | `flush`, `to_send`, `sent`, `next_note`, `keep_freed`, `next_freed`, `next_dropped` | `sending` |
+//! | `waiting` | `waiting` |
 
 mod events;
 mod kept;
@@ -13,5 +14,6 @@ mod objects;
 mod place;
 mod sending;
 mod session;
+mod waiting;
 
 pub use place::ClientPlace;

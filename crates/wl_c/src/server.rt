@@ -8,16 +8,20 @@
 //! | `create_object`, `object_data`, .. | `objects` |
 //! | `create_object_at`, `set_object_version`, `object_by_number`, `held_objects` | `chosen` |
 //! | `create_global`, `global_name`, .. | `globals` |
+//! | `set_object_limit` | `limits` |
 //! | `next_writable`, `to_send`, `cleanup`, `next_gone`, .. | `sending` |
+//! | `waiting` | `waiting` |
 
 mod actions;
 mod chosen;
 mod clients;
 mod globals;
 mod kept;
+mod limits;
 mod objects;
 mod place;
 mod sending;
 mod session;
+mod waiting;
 
 pub use place::ServerPlace;

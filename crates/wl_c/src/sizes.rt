@@ -10,7 +10,7 @@ use wl_host::{
     ArgumentRow, Counts, ExtensionFault, FlatAction, FlatArgument, FlatClientId, FlatError,
     FlatEvent, FlatGlobalId, FlatGlobalInfo, FlatHeldObject, FlatNote, FlatObjectId,
     FlatObjectInfo, FlatQueuedEvent, FlatQueuedObject, FlatReaders, FlatRequest, FlatTurn, Gone,
-    InterfaceRow, MessageRow, TableFault,
+    InterfaceRow, MessageRow, TableFault, Waiting,
 };
 
 const _: () = prove!(size_of::<ServerPlace>() == 16);
@@ -52,6 +52,8 @@ const _: () = prove!(size_of::<FlatNote>() == 80);
 const _: () = prove!(size_of::<FlatError>() == 28);
 
 const _: () = prove!(size_of::<Counts>() == 8);
+
+const _: () = prove!(size_of::<Waiting>() == 16);
 
 const _: () = prove!(size_of::<Gone>() == 32);
 

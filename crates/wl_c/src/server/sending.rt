@@ -2,11 +2,13 @@
 
 ghost use Rattle.std.specs.Prelude.{IsSome, None, [], ◌≡◌, ◌≢◌};
 ghost use Rattle.wl_c.specs.Calls.{Did, Gave, Told};
+ghost use Rattle.wl_host.specs.Cleaning.{CleansUp};
 ghost use Rattle.wl_host.specs.Descriptors.{Conserves};
 ghost use Rattle.wl_host.specs.Flat.{client_of};
 ghost use Rattle.wl_host.specs.Flushing.{FlushesClient, OkHasBytes};
 ghost use Rattle.wl_host.specs.Notes.{NextNote};
-ghost use Rattle.wl_host.specs.Server.{CleansUp, FoundHasBytes, NextDropped, NextWritable, NoneAskedHasBytes, Sent, gone_with_first, handed, kept_by_server, next_gone, sent_with, to_send};
+ghost use Rattle.wl_host.specs.Nulls.{sets};
+ghost use Rattle.wl_host.specs.Server.{FoundHasBytes, NextDropped, NextWritable, NoneAskedHasBytes, Sent, gone_with_first, handed, kept_by_server, next_gone, sent_with, to_send};
 ghost use Rattle.wl_host.specs.declared.status.Status.TheVariants as status;
 
 use super::place::ServerPlace;
@@ -163,6 +165,23 @@ pub extern "C" fn nb_server_next_note(
         return Status::NoSession.code();
     };
     let status = session.next_note(note, text);
+    place.put(session);
+    status.code()
+}
+
+/// Sets whether notes are kept until they are handed out: not if `is_on` is 0.
+#[unsafe(no_mangle)]
+pub extern "C" fn nb_server_keep_notes(alloc: Global, place: &mut ServerPlace, is_on: u32) -> u32
+    ensures none { place.old.kept.held ≡ None → (result ≡ 1) × (place.new.kept.held ≡ None) }
+    ensures stays { IsSome place.old.kept.held → IsSome place.new.kept.held }
+    ensures set { Did place.old.kept.held result place.new.kept.held (λ s status t. t ≡ record s { keeps_notes = sets is_on }) }
+    ensures descriptors { Did place.old.kept.held result place.new.kept.held (λ s status t. Conserves kept_by_server s [] [] t) }
+    ensures status { IsSome place.old.kept.held → result ≡ 0 }
+{
+    let Some(mut session) = place.take(alloc) else {
+        return Status::NoSession.code();
+    };
+    let status = session.keep_notes(is_on);
     place.put(session);
     status.code()
 }

@@ -491,6 +491,16 @@ plain! {
     }
 }
 
+plain! {
+    /// How much waits in a session.
+    nb_waiting: 16, 4 {
+        /// What was passed in, and was not read yet.
+        received: nb_counts = 0,
+        /// What is to be sent.
+        to_send: nb_counts = 8,
+    }
+}
+
 /// A note: a client was inserted.
 pub const NB_INSERTED: u32 = 1;
 /// A note: a client was killed.
@@ -688,6 +698,8 @@ unsafe extern "C" {
     ) -> nb_status;
     /// Sets whether requests with a null that the table forbids are refused.
     pub safe fn nb_server_refuse_nulls(place: &mut nb_server, is_on: u32) -> nb_status;
+    /// Limits how many objects each client may have.
+    pub safe fn nb_server_set_object_limit(place: &mut nb_server, limit: u32) -> nb_status;
     /// Sets how far the buffers of a client may grow.
     pub safe fn nb_server_set_max_buffer_size(
         place: &mut nb_server,
@@ -937,6 +949,12 @@ unsafe extern "C" {
         client: &nb_client_id,
         count: u32,
     ) -> nb_status;
+    /// How much waits for a client, and of it.
+    pub safe fn nb_server_waiting(
+        place: &mut nb_server,
+        client: &nb_client_id,
+        waiting: &mut nb_waiting,
+    ) -> nb_status;
     /// Takes the clients out that were killed.
     pub safe fn nb_server_cleanup(place: &mut nb_server) -> nb_status;
     /// The next client that was taken out.
@@ -955,6 +973,8 @@ unsafe extern "C" {
         text: *mut u8,
         text_room: usize,
     ) -> nb_status;
+    /// Sets whether notes are kept until they are handed out.
+    pub safe fn nb_server_keep_notes(place: &mut nb_server, is_on: u32) -> nb_status;
     /// The next descriptor that no call will hand out.
     pub safe fn nb_server_next_dropped(place: &mut nb_server, descriptor: &mut i32) -> nb_status;
 
@@ -1103,6 +1123,8 @@ unsafe extern "C" {
     ) -> nb_status;
     /// sendmsg took this many bytes.
     pub safe fn nb_client_sent(place: &mut nb_client, count: u32) -> nb_status;
+    /// How much waits.
+    pub safe fn nb_client_waiting(place: &mut nb_client, waiting: &mut nb_waiting) -> nb_status;
     /// The session's error.
     pub fn nb_client_last_error(
         place: &mut nb_client,
