@@ -9,7 +9,8 @@
 //! ```
 //!
 //! Sockets, locks and callbacks are here. What is read and what is sent, which objects there are, and what is an error,
-//! is decided by the sessions of `libnumbyroga`. README lists what differs from the original.
+//! is decided by the sessions of `libnumbyroga`, and which of several threads reads, by its `nb_readers`. README lists what
+//! differs from the original.
 //!
 //! Errors are printed to stderr, or by the crate `log` with the feature `log`. If the environment has
 //! `WAYLAND_DEBUG=1`, or `client` or `server` in place of the 1, each message is printed to stderr.

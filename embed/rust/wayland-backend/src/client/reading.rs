@@ -2,6 +2,7 @@
 
 use std::io;
 use std::mem;
+use std::num::NonZeroUsize;
 use std::ptr;
 use std::sync::{Arc, MutexGuard, PoisonError};
 
@@ -11,33 +12,34 @@ use super::connection::Connection;
 use super::session::{Failure, Leftovers, OpenEvent, Session};
 use super::{Backend, ObjectData, ObjectId, WaylandError};
 use crate::debug;
-use crate::library::{Arguments, Received, Status};
+use crate::library::{Arguments, Received, Status, Turns};
 use crate::panics::Panics;
 use crate::protocol::{has_forbidden_null, Message};
 
 /// Tells threads apart, as long as they run. It costs less than the standard library's id, for which references are counted.
+/// No address is 0, so an `Option` of it takes one word.
 #[derive(Clone, Copy, Debug, PartialEq, Eq)]
-struct ThreadMark(usize);
+struct ThreadMark(NonZeroUsize);
 
 impl ThreadMark {
     fn of_this() -> ThreadMark {
         thread_local!(static PLACE: u8 = const { 0 });
-        PLACE.with(|place| ThreadMark(ptr::from_ref(place) as usize))
+        let address = PLACE.with(|place| ptr::from_ref(place) as usize);
+        ThreadMark(NonZeroUsize::new(address).expect("a place has an address"))
     }
 }
 
 /// Who reads, or is going to.
 #[derive(Debug, Default)]
 pub(super) struct Readers {
-    /// How many readings are prepared, and have neither begun nor been given up.
-    prepared: usize,
-    /// How many readings have ended, or were given up.
-    ended: usize,
-    /// The thread that reads now.
+    /// Who has prepared, and whose turn it is. Each prepared reading is a thread of its own there: a thread may have several.
+    turns: Turns,
+    /// The thread that reads now. The turns do not tell which it is, and a callback of the reading is not to wait for it.
     current: Option<ThreadMark>,
-    /// How many threads wait until a reading has ended.
+    /// How many threads wait until a turn has ended. To wake nobody is a system call, too.
     waiting: usize,
-    /// How many readings have brought something that threads may wait for: events, or the end of the connection.
+    /// How many readings have brought something that threads may wait for: events, or the end of the connection. Turns end
+    /// without that, too.
     fruitful: usize,
     /// The thread that made the last of them, which knows of all.
     last: Option<ThreadMark>,
@@ -115,10 +117,7 @@ impl Connection {
         }
         let readers = &mut session.readers;
         let is_told = readers.current.is_none() && !readers.knows(thread);
-        if !is_told {
-            readers.prepared += 1;
-        }
-        !is_told
+        readers.turns.prepare(is_told)
     }
 
     /// This thread looks at its queues.
@@ -145,16 +144,13 @@ impl Connection {
     /// Gives a prepared reading up. If it was the last one, those that wait for a reader go on.
     pub(super) fn give_up_reading(&self) {
         let readers = &mut self.lock().readers;
-        readers.prepared -= 1;
-        if readers.prepared == 0 && readers.current.is_none() {
-            self.end_reading(readers);
+        if readers.turns.cancel() {
+            self.wake(readers);
         }
     }
 
-    fn end_reading(&self, readers: &mut Readers) {
-        readers.current = None;
-        readers.ended = readers.ended.wrapping_add(1);
-        // To wake nobody is a system call, too.
+    /// Wakes those that wait: a turn has ended.
+    fn wake(&self, readers: &Readers) {
         if readers.waiting > 0 {
             self.read.notify_all();
         }
@@ -165,21 +161,20 @@ impl Connection {
     fn begin_reading(&self) -> Result<Option<MutexGuard<'_, Session>>, WaylandError> {
         let thread = ThreadMark::of_this();
         let mut session = self.lock();
-        session.readers.prepared -= 1;
         if session.readers.current == Some(thread) {
             // A callback of this thread's own reading.
+            session.readers.turns.cancel();
             return Err(io::Error::from(Errno::AGAIN).into());
         }
-        let ended = session.readers.ended;
-        while session.readers.prepared > 0 || session.readers.current.is_some() {
+        let Some(ended) = session.readers.turns.begin() else {
+            session.readers.current = Some(thread);
+            return Ok(Some(session));
+        };
+        while session.readers.turns.ended() == ended {
             session = self.wait(session);
-            if session.readers.ended != ended {
-                session.readers.tell(thread);
-                return Ok(None);
-            }
         }
-        session.readers.current = Some(thread);
-        Ok(Some(session))
+        session.readers.tell(thread);
+        Ok(None)
     }
 }
 
@@ -197,7 +192,9 @@ impl Reading<'_> {
         if self.is_fruitful {
             readers.count(ThreadMark::of_this());
         }
-        self.connection.end_reading(readers);
+        readers.current = None;
+        readers.turns.end();
+        self.connection.wake(readers);
         self.is_over = true;
     }
 }

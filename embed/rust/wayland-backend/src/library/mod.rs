@@ -1,4 +1,5 @@
-//! The sessions of `libnumbyroga` behind safe methods. The `unsafe` code of the crate stands in this module alone.
+//! The sessions of `libnumbyroga`, and its turns of threads that read, behind safe methods. The `unsafe` code of the crate
+//! stands in this module alone.
 //!
 //! Three things make a method safe that the C call is not:
 //!
@@ -33,6 +34,7 @@ mod receiving;
 mod rows;
 mod server;
 mod transit;
+mod turns;
 
 pub(crate) use client::{Client, SessionError};
 pub(crate) use messages::{Arguments, Outgoing};
@@ -40,6 +42,7 @@ pub(crate) use ready::Ready;
 pub(crate) use receiving::{Inbox, Receipt, Received};
 pub(crate) use rows::{text_of, Opcode, Rows, TableFault, TableFaultKind};
 pub(crate) use server::{ClientError, Note, Server};
+pub(crate) use turns::Turns;
 
 /// How many descriptors wait in a session, and are in one send, at most.
 pub(crate) const MOST_DESCRIPTORS: usize = sys::NB_MOST_DESCRIPTORS;
