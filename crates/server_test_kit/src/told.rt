@@ -5,8 +5,8 @@ use std::test::Fail;
 use test_kit::message::tell_bytes;
 use wl_link::Memory;
 use wl_server::{
-    Action, ActionError, ClientId, CreateError, DisconnectReason, FinishRefused, GlobalError,
-    GlobalId, InsertClientError, Note, ObjectId, Reading, Reply,
+    Action, ActionError, ClientId, DisconnectReason, FinishRefused, GlobalError, GlobalId,
+    InsertClientError, Note, ObjectId, Reading, Reply,
 };
 use wl_wire::{Argument, OutOfMemory, Token};
 
@@ -48,7 +48,7 @@ fn inserted(log: &mut String, answer: &Result<ClientId, InsertClientError>) -> R
 }
 
 /// Tells the object that was created, or why none was.
-fn created(log: &mut String, answer: &Result<ObjectId, CreateError>) -> Result<(), Fail> {
+fn created<E: Display>(log: &mut String, answer: &Result<ObjectId, E>) -> Result<(), Fail> {
     match answer {
         Ok(id) => {
             write!(log, "created ")?;
@@ -303,7 +303,8 @@ fn of_client(log: &mut String, reply: &Reply<Memory, u32>) -> Result<(), Fail> {
     match reply {
         Reply::SetObjectData(answer) => done(log, answer),
         Reply::SetObjectVersion(answer) => done(log, answer),
-        Reply::CreateObject(answer) | Reply::CreateObjectAt(answer) => created(log, answer),
+        Reply::CreateObject(answer) => created(log, answer),
+        Reply::CreateObjectAt(answer) => created(log, answer),
         Reply::DestroyObject(answer) => done(log, answer),
         Reply::SendEvent(answer) => done(log, answer),
         Reply::NextAction(answer) => read(log, answer),

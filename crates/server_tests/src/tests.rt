@@ -12,6 +12,7 @@ mod dispatches;
 mod drops;
 mod globals;
 mod handlers;
+mod limits;
 mod long;
 mod no_memory;
 mod notes;

@@ -1,11 +1,11 @@
-//! What a host chooses: numbers and versions of objects, and that names of globals are kept. With it what it looks at: objects with
-//! their data, and whether something is to be sent to one client.
+//! What a host chooses: numbers and versions of objects, how many a client may have, and whether names of globals and notes are
+//! kept. With it what it looks at: objects with their data, and whether something is to be sent to one client.
 
-use crate::tests::acts::{Act, FIRST, MOVED, SECOND};
+use crate::tests::acts::{Act, FIRST, GIVEN, MOVED, SECOND};
 use crate::tests::args::{arg, id};
 use crate::tests::server::BOUND;
 use crate::tests::session::{Run, run_tells};
-use crate::tests::told::{NULL, tell_numbers, tell_object, told};
+use crate::tests::told::{NULL, tell_numbers, tell_object, tell_waiting, told};
 use std::test::Fail;
 use wl_host::{FlatClientId, FlatGlobalId, FlatHeldObject, FlatObjectId, Server, Status};
 
@@ -25,6 +25,12 @@ pub enum Choice {
     All(FlatClientId, usize),
     /// What waits for the client.
     Flush(FlatClientId),
+    /// How much waits for the client.
+    Waiting(FlatClientId),
+    /// Each client may have so many objects, or as many as it likes if this is 0.
+    Limit(u32),
+    /// Notes are kept if this is not 0.
+    Notes(u32),
 }
 
 /// An object, with its data if it has any.
@@ -69,6 +75,9 @@ pub fn choose(log: &mut String, server: &mut Server, choice: &Choice) -> Result<
         Choice::ByNumber(id, number) => told(log, server.object_by_number(id, *number), tell_held),
         Choice::All(id, room) => tell_all(log, server, id, *room),
         Choice::Flush(id) => Ok(server.flush_client(id)),
+        Choice::Waiting(id) => told(log, server.waiting(id), tell_waiting),
+        Choice::Limit(limit) => Ok(server.set_object_limit(*limit)),
+        Choice::Notes(is_on) => Ok(server.keep_notes(*is_on)),
     }
 }
 
@@ -87,8 +96,11 @@ const GLOBAL: FlatGlobalId = FlatGlobalId { serial: 1, name: 1 };
 /// `pad.make` by the object 4, with the new id 5.
 const MAKE: &[u32] = &[4, 0x000c0003, 5];
 
+/// `pad.make` by the object 3, with the new id 4.
+const MAKE_4: &[u32] = &[3, 0x000c0003, 4];
+
 /// The runs, each of a new session.
-static RUNS: [Run<Act>; 3] = [
+static RUNS: [Run<Act>; 7] = [
     // The client has the display, its registry and the `pad` at the numbers 1 to 3: 4 is next. The object that the host makes there
     // gets a version that the interface has, and so does what its requests make.
     Run {
@@ -171,6 +183,83 @@ static RUNS: [Run<Act>; 3] = [
                 Act::Choose(Choice::Flush(FlatClientId { serial: 9, slot: 0 })),
                 "InvalidId",
             ),
+        ],
+    },
+    // What arrived waits until an action is read of it, and what is to be sent until it was: in the session, and then ready. The
+    // registry's global is to be sent from the beginning.
+    Run {
+        name: "so much waits",
+        first: BOUND,
+        entries: &[
+            (Act::Choose(Choice::Waiting(FIRST)), "Ok 0+0 24+0"),
+            (Act::Received(FIRST, &[3, 0x000c0000], &[42]), "Ok"),
+            (Act::Choose(Choice::Waiting(FIRST)), "Ok 8+1 24+0"),
+            (Act::Next(FIRST, 2, 0), "WouldBlock"),
+            (Act::Received(FIRST, &[5], &[]), "Ok"),
+            (Act::Choose(Choice::Waiting(FIRST)), "Ok 12+1 24+0"),
+            (
+                Act::Next(FIRST, 2, 0),
+                "Ok kind 1 data 33 arguments 2 by 4@3 (0: 5) (7: 42)",
+            ),
+            (Act::Choose(Choice::Waiting(FIRST)), "Ok 0+0 24+0"),
+            (Act::Choose(Choice::Flush(FIRST)), "Ok"),
+            (Act::Send(PAD, GIVEN, &[arg!(fd: 99)], &[]), "Ok"),
+            (Act::Choose(Choice::Waiting(FIRST)), "Ok 0+0 32+1"),
+            (Act::Sent(FIRST, 4), "Ok"),
+            (Act::Choose(Choice::Waiting(FIRST)), "Ok 0+0 28+1"),
+            (Act::Choose(Choice::Waiting(SECOND)), "InvalidId"),
+        ],
+    },
+    // The client has three objects with its display. It is told that it may not have a fourth, and killed.
+    Run {
+        name: "the limit of objects is passed",
+        first: BOUND,
+        entries: &[
+            (Act::Choose(Choice::Limit(3)), "Ok"),
+            (Act::Received(FIRST, MAKE_4, &[]), "Ok"),
+            (Act::Next(FIRST, 1, 0), "Closed"),
+            (Act::Next(FIRST, 1, 0), "Closed"),
+            (
+                Act::ToSend(FIRST),
+                "Ok [ 02 00 00 00 00 00 18 00 01 00 00 00 04 00 00 00 70 61 64 00 02 00 00 00 01 00 00 00 00 00 34 00 01 00 00 00 02 00 00 00 \
+                 1d 00 00 00 54 6f 6f 20 6d 61 6e 79 20 6f 62 6a 65 63 74 73 3a 20 61 74 20 6d 6f 73 74 20 33 2e 00 00 00 00 ] [ ]",
+            ),
+        ],
+    },
+    // At 0 there is no limit.
+    Run {
+        name: "the limit of objects is lifted",
+        first: BOUND,
+        entries: &[
+            (Act::Choose(Choice::Limit(3)), "Ok"),
+            (Act::Choose(Choice::Limit(0)), "Ok"),
+            (Act::Received(FIRST, MAKE_4, &[]), "Ok"),
+            (
+                Act::Next(FIRST, 1, 0),
+                "Ok kind 1 opcode 3 data 33 version 2 arguments 1 by 4@3 made 4@4 (5: 0 object 4@4)",
+            ),
+        ],
+    },
+    // Notes that are not kept are dropped by a cleanup: those of the core, and those that were taken from it. What is noted after it is
+    // there until the next one.
+    Run {
+        name: "notes are not kept",
+        first: BOUND,
+        entries: &[
+            (Act::Insert(8, 1, &[]), "Ok client 1:2"),
+            (Act::Note, "Ok kind 1 client 0:1"),
+            (Act::Choose(Choice::Notes(0)), "Ok"),
+            (Act::Kill(FIRST), "Ok"),
+            (Act::Cleanup, "Ok"),
+            (Act::Note, "WouldBlock"),
+            (Act::Kill(SECOND), "Ok"),
+            (Act::Note, "Ok kind 2 client 1:2"),
+            (Act::Choose(Choice::Notes(1)), "Ok"),
+            (Act::Cleanup, "Ok"),
+            (Act::Insert(9, 1, &[]), "Ok client 0:3"),
+            (Act::Cleanup, "Ok"),
+            (Act::Note, "Ok kind 1 client 0:3"),
+            (Act::Note, "WouldBlock"),
         ],
     },
 ];

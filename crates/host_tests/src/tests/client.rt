@@ -63,7 +63,7 @@ const OPENED: FlatObjectId = id!(NOBODY, 4 @ 4278190080, serial 4);
 const GLOBAL_NULL: &[u32] = &[2, 0x00140000, 1, 0, 1];
 
 /// The conversations, each of a new session.
-static ROWS: [Run<Act>; 6] = [
+static ROWS: [Run<Act>; 7] = [
     // `wl_display.sync` is sent, and `wl_callback.done` and `wl_display.delete_id` come back. The callback had data, so it is
     // noted.
     Run {
@@ -104,6 +104,32 @@ static ROWS: [Run<Act>; 6] = [
             (Act::Next(1, 0), "WouldBlock"),
             (Act::Data(CALLBACK), "InvalidId"),
             (Act::Error, "Ok number 0"),
+        ],
+    },
+    // What is to be sent waits until it was, ready or not, and what arrived until an event is read of it. A descriptor without one waits
+    // for a message to come.
+    Run {
+        name: "so much waits",
+        first: &[],
+        entries: &[
+            (Act::Waiting, "Ok 0+0 0+0"),
+            (Act::Send(DISPLAY, 0, Some(7), NEW, &[]), "Ok 3@2 serial 1"),
+            (Act::Waiting, "Ok 0+0 12+0"),
+            (Act::Flush, "Ok"),
+            (Act::Send(DISPLAY, 0, Some(8), NEW, &[]), "Ok 3@3 serial 2"),
+            (Act::Waiting, "Ok 0+0 24+0"),
+            (Act::Sent(5), "Ok"),
+            (Act::Waiting, "Ok 0+0 19+0"),
+            (Act::Received(&[2, 0x000c0000], &[42]), "Ok"),
+            (Act::Waiting, "Ok 8+1 19+0"),
+            (Act::Next(1, 0), "WouldBlock"),
+            (Act::Received(&[5], &[]), "Ok"),
+            (Act::Waiting, "Ok 12+1 19+0"),
+            (
+                Act::Next(1, 0),
+                "Ok ends 1 has_data 1 data 7 arguments 1 by 3@2 (1: 5)",
+            ),
+            (Act::Waiting, "Ok 0+1 19+0"),
         ],
     },
     // Descriptors go out with requests and come in with events, each once. A request that is refused keeps none. One that came

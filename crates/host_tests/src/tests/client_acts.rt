@@ -5,7 +5,8 @@ use crate::tests::rows::{GATE, KNOT, NOTE, TABLE};
 use crate::tests::session::Session;
 use crate::tests::told::{
     NO_ARGUMENT, NOBODY, NOTHING, NULL, bytes_of, tell_counts, tell_descriptor, tell_kept,
-    tell_lent, tell_numbers, tell_object, tell_objects, told, told_extension, told_table,
+    tell_lent, tell_numbers, tell_object, tell_objects, tell_waiting, told, told_extension,
+    told_table,
 };
 use std::alloc::Global;
 use std::test::Fail;
@@ -70,6 +71,8 @@ pub enum Act {
     ToSend(usize),
     /// So many bytes were sent.
     Sent(u32),
+    /// How much waits.
+    Waiting,
     /// The session's error.
     Error,
     /// The next note.
@@ -317,6 +320,7 @@ fn on_objects(log: &mut String, client: &mut Client, act: &Act) -> Result<Status
         Act::Reclaim(id) => Ok(client.reclaim(id)),
         Act::At(number) => told(log, client.object_for_protocol_id(*number), tell_id),
         Act::PassOver(passes) => Ok(client.pass_over_unknown_senders(*passes)),
+        Act::Waiting => told(log, client.waiting(), tell_waiting),
         Act::Note => next_note(log, client),
         Act::Error => last_error(log, client),
         other => on_requests(log, client, other),

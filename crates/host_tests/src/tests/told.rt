@@ -4,7 +4,8 @@ use crate::tests::args::{arg, id};
 use std::alloc::Global;
 use std::test::Fail;
 use wl_host::{
-    Counts, ExtensionFault, FlatArgument, FlatClientId, FlatObjectId, Status, TableFault, fault,
+    Counts, ExtensionFault, FlatArgument, FlatClientId, FlatObjectId, Status, TableFault, Waiting,
+    fault,
 };
 
 /// The client of all objects of a client's session.
@@ -100,6 +101,16 @@ fn tell_descriptors(log: &mut String, descriptors: &[i32]) -> Result<(), Fail> {
         write!(log, " {descriptor}")?;
     }
     write!(log, " ]")?;
+    Ok(())
+}
+
+/// How much waits: bytes and descriptors that were received, and bytes and descriptors that are to be sent.
+pub fn tell_waiting(log: &mut String, waiting: Waiting) -> Result<(), Fail> {
+    let Waiting { received, to_send } = waiting;
+    let (bytes, descriptors) = (received.bytes, received.descriptors);
+    write!(log, " {bytes}+{descriptors}")?;
+    let (bytes, descriptors) = (to_send.bytes, to_send.descriptors);
+    write!(log, " {bytes}+{descriptors}")?;
     Ok(())
 }
 

@@ -73,6 +73,8 @@ enum Call {
     DefaultLimit,
     /// `set_client_max_buffer_size`.
     Limit,
+    /// `set_object_limit`.
+    ObjectLimit,
     /// `transport_mut`.
     Transport,
     /// `finish_bind`.
@@ -102,7 +104,7 @@ enum Call {
 }
 
 /// The calls, in order, each with its name if it is counted.
-static CALLS: [(&str, Call); 29] = [
+static CALLS: [(&str, Call); 30] = [
     ("control: insert_client", Call::Insert(&BINDS)),
     ("", Call::Insert(&BINDS)),
     ("", Call::Create),
@@ -114,6 +116,7 @@ static CALLS: [(&str, Call); 29] = [
     ("with_object_data", Call::LendData),
     ("set_default_max_buffer_size", Call::DefaultLimit),
     ("set_client_max_buffer_size", Call::Limit),
+    ("set_object_limit", Call::ObjectLimit),
     ("transport_mut", Call::Transport),
     ("finish_bind", Call::FinishBind),
     ("finish_bind of no action", Call::FinishNone),
@@ -205,6 +208,7 @@ fn is_looked_up(server: &Server) -> bool {
         && server.next_client_id().is_some()
         && server.get_client_data(&FIRST.id()).is_ok()
         && server.transport(&FIRST.id()).is_ok()
+        && server.waiting(&FIRST.id()).is_ok()
         && are_objects_looked_up(server)
         && is_global_looked_up(server)
 }
@@ -284,6 +288,10 @@ fn make_without(server: &mut Server, call: Call) -> bool {
         }
         Call::Limit => {
             server.set_client_max_buffer_size(&FIRST.id(), 8192);
+            true
+        }
+        Call::ObjectLimit => {
+            server.set_object_limit(Some(8));
             true
         }
         Call::Transport => server.transport_mut(&FIRST.id()).is_ok(),
