@@ -73,7 +73,6 @@ static void act(int i)
 static void read_from(int i)
 {
     size_t count;
-    uint32_t objects;
     ssize_t came = socket_receive(wait_for[i].fd, bytes, NB_MOST_BYTES, descriptors, &count);
     if (came == -EAGAIN)
         return;
@@ -89,9 +88,6 @@ static void read_from(int i)
         nb_server_kill_client(&server, &clients[i]);
     }
     act(i);
-    nb_server_objects(&server, &clients[i], NULL, 0, &objects);
-    if (objects > MOST_OBJECTS)
-        nb_server_kill_client(&server, &clients[i]);
 }
 
 /* Sends what waits. What the socket does not take now is sent when it can be written. */
@@ -133,7 +129,6 @@ static void settle(void)
 {
     nb_client_id id;
     nb_gone gone;
-    nb_note note;
     uint64_t i;
     int32_t descriptor;
     while (nb_server_next_writable(&server, &id) == NB_OK)
@@ -146,8 +141,6 @@ static void settle(void)
         close(wait_for[gone.data].fd);
         wait_for[gone.data].fd = -1;
     }
-    while (nb_server_next_note(&server, &note, bytes, sizeof bytes) == NB_OK)
-        ; /* no object has data that would have to be freed */
     while (nb_server_next_dropped(&server, &descriptor) == NB_OK)
         close(descriptor);
 }
@@ -159,6 +152,8 @@ int main(int argc, char **argv)
     nb_global_id output;
     must(nb_server_start(&server, &protocol, &fault));
     must(nb_server_refuse_nulls(&server, 1)); /* no request has a null that its interface forbids */
+    must(nb_server_keep_notes(&server, 0));   /* no object has data that would have to be freed */
+    must(nb_server_set_object_limit(&server, MOST_OBJECTS));
     must(nb_offer(&server, NB_WL_OUTPUT, 3, &output));
     if (getrlimit(RLIMIT_NOFILE, &files) == 0) {
         files.rlim_cur = files.rlim_max; /* all that clients may make this process hold */

@@ -48,7 +48,8 @@ static bool begin_parts(struct wl_display *display)
         wl_event_loop_add_fd(display->loop, display->wakeup, WL_EVENT_READABLE, wakes_up, NULL);
     return display->wakeup_source && nb_server_start(&display->core, &nothing, &fault) == NB_OK &&
            nb_server_set_default_max_buffer_size(&display->core, LIMIT) == NB_OK &&
-           nb_server_keep_global_names(&display->core, 1) == NB_OK;
+           nb_server_keep_global_names(&display->core, 1) == NB_OK &&
+           nb_server_keep_notes(&display->core, 0) == NB_OK; /* the program ends resources, not notes */
 }
 
 static void end_loop(struct wl_display *display)

@@ -139,15 +139,12 @@ void display_settle(struct wl_display *display)
 {
     int32_t descriptors[NB_MOST_DESCRIPTORS], dropped;
     nb_gone gone;
-    nb_note note;
     nb_server_cleanup(&display->core);
     while (nb_server_next_gone(&display->core, &gone, display->buffer, NB_MOST_WAITING, descriptors,
                                NB_MOST_DESCRIPTORS) == NB_OK) {
         give_back(client_of(gone.data), &gone, display->buffer, descriptors);
         close_all(descriptors, gone.waiting.descriptors);
     }
-    while (nb_server_next_note(&display->core, &note, display->buffer, NB_MOST_WAITING) == NB_OK)
-        continue; /* resources are ended by the program, not by notes */
     while (nb_server_next_dropped(&display->core, &dropped) == NB_OK)
         close(dropped);
 }
