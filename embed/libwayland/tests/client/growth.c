@@ -1,6 +1,6 @@
-/* What grows. Of objects whose numbers the server frees before the program destroys them, as it does for each event that
- * ends an object without a mark in the interface, nothing: their numbers are used again. Of queues that are destroyed a
- * little, since their numbers are not.
+/* What grows. Of objects whose numbers the server frees before the program destroys them, as it does for each event
+ * that ends an object without a mark in the interface, nothing: their numbers are used again. Of queues that are
+ * destroyed a little, since their numbers are not.
  *
  *   growth ROUNDS    the last lines are `N queues, K bytes each` and `N objects, the last number M, K bytes more` */
 #include "kinds.h"
