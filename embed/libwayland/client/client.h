@@ -109,6 +109,7 @@ struct wl_display {
     size_t own_queue;           /* of the errors of the display itself: they are handed out first */
     size_t errors;              /* the slot that they are for */
     struct proxies slots;       /* the program's proxies, by their slots */
+    size_t proxy_count;         /* how many those are */
     struct proxies numbers[2];  /* those of the client's numbers, and of the server's */
     int deleted;                /* how often the server has freed a number since events were dispatched */
     struct table table;

@@ -317,17 +317,9 @@ static void drop_unsent(struct wl_display *display)
 }
 
 /* Programs destroy proxies and queues after they have disconnected: so the display stays as long as there are any. */
-static bool has_any(const struct wl_display *display)
-{
-    for (size_t i = 0; i < display->slots.count; i++)
-        if (display->slots.at[i])
-            return true;
-    return !wl_list_empty(&display->made_queues);
-}
-
 void unlock(struct wl_display *display)
 {
-    const bool stays = !display->is_closed || has_any(display);
+    const bool stays = !display->is_closed || display->proxy_count > 0 || !wl_list_empty(&display->made_queues);
     pthread_mutex_unlock(&display->lock);
     if (stays)
         return;

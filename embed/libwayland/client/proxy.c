@@ -30,6 +30,7 @@ static struct wl_proxy *proxy_beside_locked(const struct wl_proxy *other)
     if (nb_queues_add(&display->queues, object_of_locked(other).queue, &slot) == NB_OK) {
         if (proxies_put(&display->slots, slot, NULL) && (proxy = calloc(1, sizeof *proxy))) {
             display->slots.at[slot] = proxy;
+            display->proxy_count++;
             proxy->display = display;
             proxy->slot = slot;
             return proxy;
@@ -81,8 +82,10 @@ void free_unused_locked(struct wl_display *display)
     size_t slot;
     while (nb_queues_next_unused(&display->queues, &slot) == NB_OK) {
         struct wl_proxy *unused = proxies_get(&display->slots, slot);
-        if (unused)
+        if (unused) {
             display->slots.at[slot] = NULL;
+            display->proxy_count--;
+        }
         free(unused);
     }
 }
