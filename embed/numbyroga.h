@@ -459,6 +459,34 @@ typedef struct {
         interface_length; /* of the error: the text has its message, and behind it the interface's name */
 } nb_note;
 
+/* What was wrong with a message for which a client was killed. The first five are malformed messages, which end the
+ * client without a word; for the others wl_display.error was sent. */
+enum {
+    NB_VIOLATION_UNKNOWN_SENDER = 1,   /* no object had the number */
+    NB_VIOLATION_UNKNOWN_OPCODE = 2,   /* the interface has no such request */
+    NB_VIOLATION_SHORT_HEADER = 3,     /* by its header the message had fewer than the 8 bytes of a header */
+    NB_VIOLATION_MISSING_BYTES = 4,    /* the message ended before the argument did */
+    NB_VIOLATION_UNENDED_STRING = 5,   /* the argument, a string, had no zero at its end, or another zero */
+    NB_VIOLATION_SINCE_LATER = 6,      /* the request is there since the version `wanted`, the object has `found` */
+    NB_VIOLATION_REFUSED_BIND = 7,     /* the global `number` could not be bound in the version `wanted` */
+    NB_VIOLATION_NULL_NAME = 8,        /* the same; the name of the interface was null */
+    NB_VIOLATION_INVALID_NEW_ID = 9,   /* the client could not make an object `number` */
+    NB_VIOLATION_UNKNOWN_ID = 10,      /* there was no object `number` */
+    NB_VIOLATION_WRONG_INTERFACE = 11, /* the object `number` was of the interface `found`, not `wanted` */
+    NB_VIOLATION_NULL_OBJECT = 12,     /* the object was null, and the table does not allow that */
+    NB_VIOLATION_TOO_MANY_OBJECTS = 13 /* an object at a number above the limit of objects, which is `wanted` */
+};
+
+/* How a client broke the protocol by a message: 32 bytes. What a kind does not name is 0. */
+typedef struct {
+    uint32_t kind;      /* one of those above */
+    uint32_t sender;    /* the number of the object that the message was sent to */
+    uint32_t interface; /* of that object; 0 if no object had the number */
+    uint32_t opcode;
+    uint32_t argument; /* its place, from 0 */
+    uint32_t number, wanted, found;
+} nb_violation;
+
 /* A client that is gone: 32 bytes. `data` is the client's; `waiting` is what is still to be sent. */
 typedef struct {
     nb_client_id client;
@@ -849,6 +877,11 @@ nb_status nb_server_sent(nb_server *place, const nb_client_id *client, uint32_t 
  * descriptors of bytes that nb_server_to_send copied are counted until nb_server_sent. A count above 4294967295 is told
  * as that. Statuses: NB_INVALID_ID. */
 nb_status nb_server_waiting(nb_server *place, const nb_client_id *client, nb_waiting *waiting);
+
+/* Writes how a client broke the protocol, if it was killed for a message, until nb_server_cleanup takes it out. Statuses:
+ * NB_INVALID_ID (no client has the id, or it is live, or it was killed for another reason, as for a null that
+ * nb_server_refuse_nulls refuses). */
+nb_status nb_server_violation(nb_server *place, const nb_client_id *client, nb_violation *violation);
 
 /* Takes the clients out that were killed: each comes once by nb_server_next_gone, and each of their objects with data
  * is noted. So is each object that nb_server_destroy_object, or an event that is a destructor, has ended since. Notes

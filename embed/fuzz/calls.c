@@ -500,6 +500,17 @@ static void call_of_server(void)
                 saw_client(&all[i]);
         if (see(nb_server_client_data(&server, &id, &number)) == NB_OK)
             saw(number);
+        nb_violation violation;
+        if (see(nb_server_violation(&server, &id, &violation)) == NB_OK) {
+            saw(violation.kind);
+            saw(violation.sender);
+            saw(violation.interface);
+            saw(violation.opcode);
+            saw(violation.argument);
+            saw(violation.number);
+            saw(violation.wanted);
+            saw(violation.found);
+        }
         see(nb_server_memory_refused(&server, &kept));
         saw(kept);
         break;

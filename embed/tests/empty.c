@@ -19,6 +19,7 @@ static void server_calls(void)
     nb_gone gone;
     nb_note note;
     nb_waiting waiting;
+    nb_violation violation;
     NONE(nb_server_end(&server));
     NONE(nb_server_extend(&server, &quad, &fault));
     NONE(nb_server_memory_refused(&server, &number));
@@ -66,6 +67,7 @@ static void server_calls(void)
     NONE(nb_server_to_send(&server, &id, bytes, 9, descriptors, NB_MOST_DESCRIPTORS, &counts));
     NONE(nb_server_sent(&server, &id, 1));
     NONE(nb_server_waiting(&server, &id, &waiting));
+    NONE(nb_server_violation(&server, &id, &violation));
     NONE(nb_server_cleanup(&server));
     NONE(nb_server_next_gone(&server, &gone, bytes, 9, descriptors, NB_MOST_DESCRIPTORS));
     NONE(nb_server_next_note(&server, &note, bytes, 9));

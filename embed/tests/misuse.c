@@ -79,6 +79,7 @@ static void unknown_client(const nb_client_id *id)
     uint32_t number = 0;
     nb_object_id object;
     nb_global_id global = { 1, 1 };
+    nb_violation violation;
     IS(nb_server_client_data(&server, id, &data), NB_INVALID_ID);
     OK(nb_server_set_max_buffer_size(&server, id, 1));
     IS(nb_server_set_room(&server, id, 1), NB_INVALID_ID);
@@ -90,6 +91,7 @@ static void unknown_client(const nb_client_id *id)
     IS(nb_server_receive_failed(&server, id, 5), NB_INVALID_ID);
     IS(nb_server_send_failed(&server, id), NB_INVALID_ID);
     IS(nb_server_next_action(&server, id, &action, arguments, 16, bytes, sizeof bytes), NB_INVALID_ID);
+    IS(nb_server_violation(&server, id, &violation), NB_INVALID_ID);
     IS(nb_server_finish_request(&server, id), NB_INVALID_ID);
     IS(nb_server_finish_request_with(&server, id, 1, &number), NB_INVALID_ID);
     IS(nb_server_finish_bind(&server, id, 1, &number), NB_INVALID_ID);

@@ -12,3 +12,4 @@ mod rows;
 mod server;
 mod session;
 mod told;
+mod violations;

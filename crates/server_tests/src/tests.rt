@@ -18,4 +18,5 @@ mod no_memory;
 mod notes;
 mod one_client;
 mod run;
+mod violations;
 mod walks;

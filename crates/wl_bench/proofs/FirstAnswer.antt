@@ -27,6 +27,9 @@ use Rattle.wl_link.proofs.Ids.StoreLaws.{held_empty, stored_here, stored_other}
 use Rattle.wl_server.specs.declared.error.ActionError.TheVariants.{Io}
 use Rattle.wl_server.specs.declared.objects.Kept.{Kept}
 use Rattle.wl_server.specs.declared.reading.action.Reading.{Reading}
+use Rattle.wl_server.specs.declared.reading.response.RequestFault.TheVariants as wrong
+use Rattle.wl_server.specs.declared.reading.violation.MessageFault.TheVariants as message
+use Rattle.wl_server.specs.declared.reading.violation.Violation.{Violation}
 use Rattle.wl_server.specs.Deeds.{Deed, notes_in}
 use Rattle.wl_server.specs.declared.error.ActionError.{ActionError}
 use Rattle.wl_server.specs.declared.error.InsertClientError.{InsertClientError}
@@ -42,11 +45,12 @@ use Rattle.wl_server.specs.Globals.{Offer, new_offer}
 use Rattle.wl_server.specs.Ids.{ClientParts, GlobalParts, same_client}
 use Rattle.wl_server.specs.Part.{Part, display_object, fresh_part, last_possible_serial}
 use Rattle.wl_server.specs.PartStep.{Call, Inserted, InsertedAs, OfClient, OnPart, PartCall, PartStep, Unfelt, World, around, over}
-use Rattle.wl_server.specs.Reading.{Around, NextAction, action_content, breaks, new_reading, request, row_in, server, syncs}
+use Rattle.wl_server.specs.Reading.{Around, NextAction, action_content, breaks, new_reading, request, row_in, sent_to, server, syncs}
 use Rattle.wl_server.specs.Requests.{is_valid_new}
 use Rattle.wl_server.specs.Server.{Seen, ServerState, new_server, seen}
 use Rattle.wl_server.specs.Steps.{Entry, IsRefused, offer_after}
 use Rattle.wl_server.specs.Telling.{Core, Told, core_of, objects_in, part_of, reader_part}
+use Rattle.wl_server.specs.Violations.{violation}
 use Rattle.wl_bench.specs.Sync.{HasAsked, WasSent, all_bytes, answer_bytes, bringing, one_argument, request_bytes}
 use Rattle.wl_server.proofs.OverRuns.Alone.IsolationLaw.{same_self}
 use Rattle.wl_server.proofs.OverRuns.Outcome.PartOutcome.{flushed_one, next_action_one}
@@ -197,11 +201,15 @@ module _ (U G C : Type 0) (views : G → ClientParts → C → GlobalParts → B
   abbrev verdict : Verdict (Core U C) (Told U)
   verdict = syncs place first_core 2
 
+  -- how the client would break the protocol if it might not
+  abbrev how : Violation
+  how = violation (sent_to {U = U} sync display_object) (message.WrongArgument 0 (wrong.InvalidNewId 2))
+
   verdict_is : verdict ≡ (server {U = U} place).handles first_core sync
   verdict_is =
       sym
       (ap (λ (o : Option (Object (Kept U))). request place first_core sync o (row_in fixed_rows o 0)) display_held
-      ∙ ap (λ (b : Bool). if b then verdict else breaks place first_core 0 (new_id_text 2)) may_be_made)
+      ∙ ap (λ (b : Bool). if b then verdict else breaks place first_core how 0 (new_id_text 2)) may_be_made)
 
   signature_is : Some sync_signature ≡ (server {U = U} place).signature first_core (sender_of request_bytes) (opcode_of request_bytes)
   signature_is = sym

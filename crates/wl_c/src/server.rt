@@ -9,6 +9,7 @@
 //! | `create_object_at`, `set_object_version`, `object_by_number`, `held_objects` | `chosen` |
 //! | `create_global`, `global_name`, .. | `globals` |
 //! | `set_object_limit` | `limits` |
+//! | `violation` | `violations` |
 //! | `next_writable`, `to_send`, `cleanup`, `next_gone`, .. | `sending` |
 //! | `waiting` | `waiting` |
 
@@ -22,6 +23,7 @@ mod objects;
 mod place;
 mod sending;
 mod session;
+mod violations;
 mod waiting;
 
 pub use place::ServerPlace;

@@ -9,8 +9,8 @@ use std::mem::size_of;
 use wl_host::{
     ArgumentRow, Counts, ExtensionFault, FlatAction, FlatArgument, FlatClientId, FlatError,
     FlatEvent, FlatGlobalId, FlatGlobalInfo, FlatHeldObject, FlatNote, FlatObjectId,
-    FlatObjectInfo, FlatQueuedEvent, FlatQueuedObject, FlatReaders, FlatRequest, FlatTurn, Gone,
-    InterfaceRow, MessageRow, TableFault, Waiting,
+    FlatObjectInfo, FlatQueuedEvent, FlatQueuedObject, FlatReaders, FlatRequest, FlatTurn,
+    FlatViolation, Gone, InterfaceRow, MessageRow, TableFault, Waiting,
 };
 
 const _: () = prove!(size_of::<ServerPlace>() == 16);
@@ -66,3 +66,5 @@ const _: () = prove!(size_of::<FlatQueuedObject>() == 16);
 const _: () = prove!(size_of::<FlatReaders>() == 24);
 
 const _: () = prove!(size_of::<FlatTurn>() == 16);
+
+const _: () = prove!(size_of::<FlatViolation>() == 32);

@@ -130,7 +130,7 @@ module _ {U : Type 0} where
     signature = λ c sender opcode. signature_by c.passes_over c.table c.store sender opcode;
     asks = λ c sender opcode. row_asks (row_in c.table (held c.store sender) opcode) || freed_asks c.keeps_freed sender opcode;
     handles = λ c m. verdict_of c m (handling_by c.passes_over c.table (objects_in c) m);
-    malformed = λ c. verdict c (Breaks (error_of c.table wrong.Malformed) (objects_in c));
+    malformed = λ c u. verdict c (Breaks (error_of c.table wrong.Malformed) (objects_in c));
     takes = λ c u. finish c c.error c.open_event u;
     broken = λ c f. fails_by c (Io f);
     faulted = faulted;

@@ -18,14 +18,17 @@ use Rattle.wl_server.specs.declared.objects.Kept.{Kept}
 use Rattle.wl_server.specs.declared.reading.action.OpenAction.{OpenAction}
 use Rattle.wl_server.specs.declared.reading.action.OpenAction.TheVariants as opened
 use Rattle.wl_server.specs.declared.reading.action.Reading.{Reading}
+use Rattle.wl_server.specs.declared.reading.violation.MessageFault.TheVariants as message
+use Rattle.wl_server.specs.declared.reading.violation.Violation.{Violation}
 use Rattle.wl_server.specs.Deeds as deeds
 use Rattle.wl_server.specs.Deeds.{Acted, Deed, Handed, Remembered}
 use Rattle.wl_server.specs.Errors.{since_text}
-use Rattle.wl_server.specs.Reading.{Around, NextAction, action_in, answered, breaks, converted, faulted, garbled, hands_out, other_request, reads_on, replies, server, stops_if}
+use Rattle.wl_server.specs.Reading.{Around, NextAction, action_in, answered, breaks, converted, faulted, garbled, hands_out, other_request, reads_on, replies, sent_to, server, stops_if}
 use Rattle.wl_server.specs.Globals.{global_at}
 use Rattle.wl_server.specs.Requests.{Outcome, Whole, Wrong, convert, made_id, start, with_made}
 use Rattle.wl_server.specs.Part.{Part}
 use Rattle.wl_server.specs.Telling.{Core, Did, Finish, Stops, Told, objects_in, reader_part, with_objects}
+use Rattle.wl_server.specs.Violations.{violation}
 use Rattle.wl_server.proofs.OverRuns.Announced.RequestCases.{request_case}
 use Rattle.wl_server.proofs.Plain.Base.{when_false}
 use Rattle.wl_host.specs.Actions.{kills}
@@ -84,8 +87,8 @@ module _ {U C : Type 0} where
   replies_form : (c : Core U C) (puts : List Said) (did : List (Deed U)) → AreQuiet did → Form (replies c puts did)
   replies_form c puts did quiet = inl (λ d. stopped did quiet d)
 
-  garbled_form : (c : Core U C) → Form (garbled c)
-  garbled_form c = inl (λ d. inl (λ rest. refl))
+  garbled_form : (c : Core U C) (w : Violation) → Form (garbled c w)
+  garbled_form c w = inl (λ d. inl (λ rest. refl))
 
   hands_out_form : (c : Core U C) (action : OpenAction) (h : Handed) → c.is_killed ≡ false → Form (hands_out c action h)
   hands_out_form c action h live = inr (record { puts = refl; asks = refl; live = live; ends = no_more c.is_killed })
@@ -95,22 +98,22 @@ module _ {U C : Type 0} where
       no_more false = refl
 
 module _ {U G C : Type 0} (a : Around G C) where
-  breaks_form : (c : Core U C) (code : ℕ) (text : List ℕ) → Form (breaks a c code text)
-  breaks_form c code text = inl (λ d. inl (λ rest. refl))
+  breaks_form : (c : Core U C) (w : Violation) (code : ℕ) (text : List ℕ) → Form (breaks a c w code text)
+  breaks_form c w code text = inl (λ d. inl (λ rest. refl))
 
   -- the verdicts of a live client
   module _ (c : Core U C) (live : c.is_killed ≡ false) where
     converted_form : (m : WireMessage) (receiver : Object (Kept U)) (row : MessageRow) (o : Outcome U) → Form (converted a c m receiver row o)
-    converted_form m receiver row (Wrong w objects) = breaks_form (with_objects c objects) 0 _
+    converted_form m receiver row (Wrong place w objects) = breaks_form (with_objects c objects) _ 0 _
     converted_form m receiver row (Whole d args) = hands_out_form (with_objects c d.objects) _ _ live
 
     other_form : (m : WireMessage) (receiver : Object (Kept U)) (row : MessageRow) → Form (other_request a c m receiver row)
     other_form m receiver row = by (nat_lt receiver.version row.since)
       where
         by : (b : Bool)
-            → Form (if b then breaks a c 1 (since_text m.opcode receiver.version row.since (name_of a.table receiver.interface.0) m.sender)
+            → Form (if b then breaks a c (violation (sent_to m receiver) (message.SinceLater receiver.version row.since)) 1 (since_text m.opcode receiver.version row.since (name_of a.table receiver.interface.0) m.sender)
             else converted a c m receiver row (convert a.client receiver.version (start (objects_in c) row) [] m.args))
-        by true = breaks_form c 1 _
+        by true = breaks_form c _ 1 _
         by false = converted_form m receiver row _
 
     handles_form : (m : WireMessage) → Form ((server a).handles c m)
@@ -228,7 +231,7 @@ module _ {T U G C : Type 0} (sends : T → Queue → Result ℕ IoFault → T �
       (λ alive. reads_say left mid turns rest after more alive killed) killed)
   reads_say left before (Unread es ∷ turns) out after (on, (v, link, first, lacked, mid, rest, (read, same, is), by, split, more)) live killed =
       subst Says (sym split)
-      (mutual_then v (subst (λ (w : Verdict (Core U C) (Told U)). Form w) (sym is) (garbled_form before.core)) link es first lacked mid rest left turns after by more
+      (mutual_then v (subst (λ (w : Verdict (Core U C) (Told U)). Form w) (sym is) (garbled_form before.core _)) link es first lacked mid rest left turns after by more
       (λ alive. reads_say left mid turns rest after more alive killed) killed)
 
   -- and so does a call that reads

@@ -73,3 +73,44 @@ slot_alive = 1
 
 abbrev pub slot_destroyed : ℕ
 slot_destroyed = 2
+
+-- ---- violations
+
+abbrev pub violation_unknown_sender : ℕ
+violation_unknown_sender = 1
+
+abbrev pub violation_unknown_opcode : ℕ
+violation_unknown_opcode = 2
+
+abbrev pub violation_short_header : ℕ
+violation_short_header = 3
+
+abbrev pub violation_missing_bytes : ℕ
+violation_missing_bytes = 4
+
+abbrev pub violation_unended_string : ℕ
+violation_unended_string = 5
+
+abbrev pub violation_since_later : ℕ
+violation_since_later = 6
+
+abbrev pub violation_refused_bind : ℕ
+violation_refused_bind = 7
+
+abbrev pub violation_null_name : ℕ
+violation_null_name = 8
+
+abbrev pub violation_invalid_new_id : ℕ
+violation_invalid_new_id = 9
+
+abbrev pub violation_unknown_id : ℕ
+violation_unknown_id = 10
+
+abbrev pub violation_wrong_interface : ℕ
+violation_wrong_interface = 11
+
+abbrev pub violation_null_object : ℕ
+violation_null_object = 12
+
+abbrev pub violation_too_many_objects : ℕ
+violation_too_many_objects = 13

@@ -32,5 +32,6 @@ pub mod Server
 pub mod Signatures
 pub mod Status
 pub mod Tables
+pub mod Violations
 pub mod Visibility
 pub mod Waiting

@@ -23,6 +23,7 @@
 //! | which file descriptor a token stands for | `descriptors` | `Descriptors` |
 //! | nulls that the table forbids | `nulls` | `Nulls` |
 //! | how much waits | `waiting` | `Waiting` |
+//! | how a client broke the protocol | `server::violations` | `Violations` |
 #![tactic(auto)]
 
 mod arguments;
@@ -56,6 +57,7 @@ pub use flat::{
 pub use laws::{a_forbidden_null_is_told, flat_arguments_come_back};
 pub use readers::{FlatReaders, FlatTurn};
 pub use rows::{ArgumentRow, InterfaceRow, MessageRow, Rows, TableFault, fault};
+pub use server::violations::{FlatViolation, violation};
 pub use server::{HostClient, HostGlobal, Server};
 pub use signatures::read_signature;
 pub use status::Status;

@@ -10,6 +10,7 @@
 //! | `set_object_limit` | `server::limits` |
 //! | what is to be sent, what waits, and clients that are gone | `server::sending`, `server::waiting`, `server::departures` |
 //! | notes, `keep_notes` | `server::notes` |
+//! | `violation` | `server::violations` |
 
 pub mod actions;
 pub mod arrivals;
@@ -29,6 +30,7 @@ pub mod refusals;
 pub mod seats;
 pub mod sending;
 pub mod slots;
+pub mod violations;
 pub mod waiting;
 
 ghost use Rattle.std.specs.Prelude.{[], ◌≡◌, IfErr, IfOk, true};

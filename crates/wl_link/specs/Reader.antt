@@ -11,10 +11,22 @@ use Rattle.wl_wire.specs.declared.error.MessageParseError.{MessageParseError}
 use Rattle.wl_wire.specs.declared.error.IoFault.TheVariants as fault
 use Rattle.wl_wire.specs.declared.error.MessageParseError.TheVariants as parse
 use Rattle.wl_wire.specs.Message.{WireMessage}
-use Rattle.wl_wire.specs.Parse.{IsThere, opcode_of, sender_of}
+use Rattle.wl_wire.specs.Parse.{IsThere, length_of, opcode_of, payload_of, sender_of}
 use Rattle.wl_link.specs.Exchange.{Queue, Sending, joined, nothing}
 use Rattle.wl_link.specs.Link.{FilledBy, FindsRoom, LinkState, ReadOne, ReceiveAsks, count_of, counted_answer}
 use Rattle.wl_link.specs.Puts.{FlushesOut, PutsOut, Said, lacks_memory}
+
+-- a malformed message: its header, and the bytes of its arguments, if there is a signature for them
+pub record Unreadable : Type 0 where
+  pub sender : ℕ
+  pub opcode : ℕ
+  pub size : ℕ
+  pub payload : List ℕ
+
+abbrev pub unreadable : Option (List ArgumentType) → List ℕ → Unreadable
+unreadable None raw = record { sender = sender_of raw; opcode = opcode_of raw; size = length_of raw; payload = [] }
+unreadable (Some signature) raw =
+    record { sender = sender_of raw; opcode = opcode_of raw; size = length_of raw; payload = payload_of raw }
 
 -- what a message, malformed bytes, or the end of what is open does
 pub record Verdict (Core Event : Type 0) : Type 0 where
@@ -38,7 +50,7 @@ pub record Reader (Core Event Finish : Type 0) : Type 0 where
   -- a message of that sender and opcode asks for memory before it is read
   pub asks : Core → ℕ → ℕ → Bool
   pub handles : Core → WireMessage → Verdict Core Event
-  pub malformed : Core → Verdict Core Event
+  pub malformed : Core → Unreadable → Verdict Core Event
   -- the verdict if what is open is ended with these data; `None` if it cannot be
   pub takes : Core → Finish → Option (Verdict Core Event)
   -- what the core becomes if a write failed, and if a receive failed
@@ -174,12 +186,17 @@ module _ {T Core Event Finish : Type 0} (sends : T → Queue → Result ℕ IoFa
       ((reader.asks p.core (sender_of p.link.incoming.bytes) (opcode_of p.link.incoming.bytes) ≡ true) × IsThereWhole p)
       ⊎ ReadsAs p (Err parse.OutOfMemory) p.link
 
+  -- the bytes at the front as a malformed message
+  abbrev pub unreadable_front : ReaderState T Core → Unreadable
+  unreadable_front p =
+      unreadable (reader.signature p.core (sender_of p.link.incoming.bytes) (opcode_of p.link.incoming.bytes)) p.link.incoming.bytes
+
   -- the message at the front is taken, and has this verdict; or the bytes there are malformed, and stay (`Leaves`)
   abbrev pub Takes : ReaderState T Core → Verdict Core Event → LinkState T → Type 0
   Takes p v link = (m : WireMessage) × ReadsAs p (Ok m) link × (v ≡ reader.handles p.core m)
 
   abbrev pub Leaves : ReaderState T Core → Verdict Core Event → LinkState T → Type 0
-  Leaves p v link = ReadsAs p (Err parse.Malformed) p.link × (link ≡ p.link) × (v ≡ reader.malformed p.core)
+  Leaves p v link = ReadsAs p (Err parse.Malformed) p.link × (link ≡ p.link) × (v ≡ reader.malformed p.core (unreadable_front p))
 
   -- no receive is left; or memory is refused, if the message at the front or a receive asks for some
   abbrev pub Halts : ℕ → ReaderState T Core → Gives Event → Type 0

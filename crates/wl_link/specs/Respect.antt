@@ -6,7 +6,7 @@ use Rattle.std.specs.Prelude.{map}
 use Rattle.wl_wire.specs.declared.error.IoFault.{IoFault}
 use Rattle.wl_wire.specs.Message.{WireMessage}
 use Rattle.wl_link.specs.Puts.{Said}
-use Rattle.wl_link.specs.Reader.{Given, HandedOut, Reader, Verdict, came_to, put_and_gave}
+use Rattle.wl_link.specs.Reader.{Given, HandedOut, Reader, Unreadable, Verdict, came_to, put_and_gave}
 
 -- The verdict keeps the relation, however it ends: its messages were put, a write failed, or memory was refused. If it has
 -- no messages, no write fails.
@@ -20,7 +20,7 @@ pub record RespectsReading {Core Event Finish : Type 0} (reader : Reader Core Ev
   pub same : (c : Core) → R c [] c
   pub joins : (c d e : Core) (g h : List (Given Event)) → R c g d → R d h e → R c (g ++ h) e
   pub handles : (c : Core) (m : WireMessage) → reader.reads_on c ≡ true → Keeps reader R c (reader.handles c m)
-  pub malformed : (c : Core) → reader.reads_on c ≡ true → Keeps reader R c (reader.malformed c)
+  pub malformed : (c : Core) (u : Unreadable) → reader.reads_on c ≡ true → Keeps reader R c (reader.malformed c u)
   pub faulted : (c : Core) (f : IoFault) → reader.reads_on c ≡ true → R c [] (reader.faulted c f)
 
 -- and so does the end of what is open
@@ -41,7 +41,7 @@ pub record RespectsCores {Core Event Finish : Type 0} (reader : Reader Core Even
   pub same : (c : Core) → R c c
   pub joins : (c d e : Core) → R c d → R d e → R c e
   pub handles : (c : Core) (m : WireMessage) → KeepsCore R c (reader.handles c m)
-  pub malformed : (c : Core) → KeepsCore R c (reader.malformed c)
+  pub malformed : (c : Core) (u : Unreadable) → KeepsCore R c (reader.malformed c u)
   pub takes : (c : Core) (u : Finish) (v : Verdict Core Event) → reader.takes c u ≡ Some v → KeepsCore R c v
   pub broken : (c : Core) (f : IoFault) → R c (reader.broken c f)
   pub faulted : (c : Core) (f : IoFault) → R c (reader.faulted c f)

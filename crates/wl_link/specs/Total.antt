@@ -5,7 +5,7 @@ use Rattle.wl_wire.specs.declared.error.IoFault.{IoFault}
 use Rattle.wl_wire.specs.Message.{WireMessage}
 use Rattle.wl_link.specs.Exchange.{Queue, Sending}
 use Rattle.wl_link.specs.Link.{LinkState}
-use Rattle.wl_link.specs.Reader.{CarriesOut, Given, ReaderState, Reader, Verdict, came_to}
+use Rattle.wl_link.specs.Reader.{CarriesOut, Given, ReaderState, Reader, Unreadable, Verdict, came_to}
 use Rattle.wl_link.specs.Served.{ServedFrom}
 use Rattle.wl_link.specs.Stretch.{IsOver}
 
@@ -21,8 +21,8 @@ module _ {T Core Event Finish : Type 0} (sends : T → Queue → Result ℕ IoFa
   -- each verdict of the reader can be carried out, and malformed bytes are the end of the reader
   pub record AlwaysGoesOn : Type 0 where
     pub handles : (c : Core) (m : WireMessage) (link : LinkState T) → Carried (reader.handles c m) link
-    pub malformed : (c : Core) (link : LinkState T) → Carried (reader.malformed c) link
-    pub over : (c : Core) (link : LinkState T) → IsOver reader (malformed c link).after.core
+    pub malformed : (c : Core) (u : Unreadable) (link : LinkState T) → Carried (reader.malformed c u) link
+    pub over : (c : Core) (u : Unreadable) (link : LinkState T) → IsOver reader (malformed c u link).after.core
     pub takes : (c : Core) (u : Finish) (v : Verdict Core Event) (link : LinkState T) → reader.takes c u ≡ Some v → Carried v link
 
   -- there is something that is served
@@ -31,4 +31,5 @@ module _ {T Core Event Finish : Type 0} (sends : T → Queue → Result ℕ IoFa
 
 -- malformed bytes are the end of the reader, whether a write fails or not
 abbrev pub EndsMalformed : {Core Event Finish : Type 0} → Reader Core Event Finish → Type 0
-EndsMalformed {Core = Core} reader = (c : Core) (wrote : Result (Unit {0}) IoFault) → IsOver reader (came_to reader (reader.malformed c) wrote)
+EndsMalformed {Core = Core} reader =
+    (c : Core) (u : Unreadable) (wrote : Result (Unit {0}) IoFault) → IsOver reader (came_to reader (reader.malformed c u) wrote)

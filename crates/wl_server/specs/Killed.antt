@@ -8,6 +8,7 @@ use Rattle.wl_server.specs.declared.error.ActionError.TheVariants.{ActionOpen, I
 use Rattle.wl_server.specs.declared.runs.step.Reply.TheVariants as reply
 use Rattle.wl_server.specs.declared.runs.step.Step.TheVariants as step
 use Rattle.wl_server.specs.Bounded.{receives_over}
+use Rattle.wl_server.specs.Broken.{SameViolation}
 use Rattle.wl_server.specs.Ids.{ClientParts, same_client}
 use Rattle.wl_server.specs.PartStep.{Asked, Call, World, share_of}
 use Rattle.wl_server.specs.Runs.{Leads}
@@ -49,7 +50,8 @@ module _ {T U G C : Type 0} where
   StaysOrIsTakenOut id (e ∷ run) after = TakesOut id e.call × AllAnswer id (Io fault.InvalidInput) run × (after.part ≡ None)
 
   -- The calls of a run that begins where the client is killed. As long as its action is open, each reading says that; then
-  -- each answers `Pipe`, until a cleanup takes the client out. No action is opened again, and nothing is received from it.
+  -- each answers `Pipe`, until a cleanup takes the client out. No action is opened again, nothing is received from it, and what
+  -- is kept of how it broke the protocol stays.
   pub record StaysKilled (id : ClientParts) (point : Seen T U C) (run : List (Entry T U G C)) (after : Seen T U C) : Type 0 where
     pub with_action : List (Entry T U G C)
     pub without_action : List (Entry T U G C)
@@ -60,6 +62,7 @@ module _ {T U G C : Type 0} where
     pub says_killed : AllAnswer id (Io fault.Pipe) without_action
     pub ends : StaysOrIsTakenOut id from_cleanup after
     pub receives : receives_over id run ≡ 0
+    pub violation : SameViolation point after
 
   -- so it is from each point of the run on at which a client is killed
   abbrev pub EachStaysKilled : World T G C → List InterfaceRow → List (Entry T U G C) → ServerState T U G C → Type 0

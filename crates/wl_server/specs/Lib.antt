@@ -4,6 +4,7 @@ pub mod Part
 pub mod Deeds
 pub mod Globals
 pub mod Telling
+pub mod Violations
 pub mod Errors
 pub mod Limited
 pub mod Objects
@@ -39,6 +40,7 @@ pub mod Stretches
 pub mod Room
 pub mod Bounded
 pub mod WithinLimit
+pub mod Broken
 pub mod Killed
 pub mod GivenOnce
 pub mod Accounts

@@ -11,6 +11,7 @@ use Rattle.wl_link.specs.Link.{LinkState}
 use Rattle.wl_link.specs.Store.{held}
 use Rattle.wl_server.specs.declared.ids.global_id.GlobalInfo.{GlobalInfo}
 use Rattle.wl_server.specs.declared.objects.Kept.{Kept}
+use Rattle.wl_server.specs.declared.reading.violation.Violation.{Violation}
 use Rattle.wl_server.specs.declared.globals.KeptGlobal.{KeptGlobal}
 use Rattle.wl_server.specs.Globals.{global_of, is_visible}
 use Rattle.wl_server.specs.Ids.{ClientParts, GlobalParts, IdParts}
@@ -87,6 +88,10 @@ module _ {T U G C : Type 0} (s : ServerState T U G C) where
   -- how many bytes and tokens of a client were received and not read, and how many for it were written and not sent
   abbrev pub waiting_of : ClientParts → Option (List ℕ)
   waiting_of id = option_map (λ p. waiting_in p.link) (client_of id)
+
+  -- how the client broke the protocol, if it was killed for a message
+  abbrev pub violation_of : ClientParts → Option Violation
+  violation_of id = and_then (client_of id) (λ p. p.violation)
 
   -- the id of the client's object that has the number, if it is of that interface
   abbrev pub object_for_number : ClientParts → InterfaceId → ℕ → Option IdParts

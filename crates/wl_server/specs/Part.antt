@@ -9,13 +9,15 @@ use Rattle.wl_link.specs.Link.{LinkState}
 use Rattle.wl_link.specs.Store.{Store, empty_store, stored}
 use Rattle.wl_server.specs.declared.reading.action.OpenAction.{OpenAction}
 use Rattle.wl_server.specs.declared.objects.Kept.{Kept}
+use Rattle.wl_server.specs.declared.reading.violation.Violation.{Violation}
 use Rattle.wl_server.specs.declared.notes.Happening.{Happening}
 use Rattle.wl_server.specs.declared.notes.Happening.TheVariants.{Destroyed}
 use Rattle.wl_server.specs.Ids.{ClientParts, IdParts}
 
 -- The link to the client, the program's data of it, its objects and the last serial given out, whether it was killed, the
 -- action that was handed out and not finished yet, the kept registries that were made for it, in order, and the notes that
--- wait for the next cleanup, in order. The client's id is not in here, since no step changes it.
+-- wait for the next cleanup, in order. If it was killed for a message, how that broke the protocol. The client's id is not in
+-- here, since no step changes it.
 pub record Part (T U C : Type 0) : Type 0 where
   pub link : LinkState T
   pub client_data : C
@@ -25,6 +27,7 @@ pub record Part (T U C : Type 0) : Type 0 where
   pub action : Option OpenAction
   pub registries : List Id
   pub waiting : List (Happening U)
+  pub violation : Option Violation
 
 -- the greatest serial
 abbrev pub last_possible_serial : ℕ
@@ -106,4 +109,5 @@ module _ {T U C : Type 0} where
     action = None;
     registries = [];
     waiting = [];
+    violation = None;
   }

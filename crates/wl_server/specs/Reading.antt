@@ -1,5 +1,5 @@
 -- A client of the server as a reader of messages (`Reader` of `wl_link`): what each request does.
-use Rattle.std.specs.Prelude.{◌≡◌, ℕ, ◌+◌, min, length, List, [], ◌∷◌, ◌++◌, map, Bool, false, not, ◌==◌, ◌&&◌, ◌||◌, nat_lt, nat_le, if◌then◌else◌, Option, None, Some, is_none, option_map, Result, Ok, Err, MatchOption, MatchBool}
+use Rattle.std.specs.Prelude.{◌≡◌, ℕ, ◌+◌, min, length, List, [], ◌∷◌, ◌++◌, map, Bool, false, not, ◌==◌, ◌&&◌, ◌||◌, nat_lt, nat_le, if◌then◌else◌, Option, None, Some, is_none, is_some, option_map, Result, Ok, Err, MatchOption, MatchBool}
 use Rattle.std.specs.Option.{option_map_or}
 use Rattle.std.specs.Str.{bytes_eq}
 use Rattle.wl_wire.specs.declared.argument.Argument.TheVariants as arg
@@ -13,9 +13,9 @@ use Rattle.wl_link.specs.declared.object.Object.{Object}
 use Rattle.wl_link.specs.Exchange.{Queue}
 use Rattle.wl_link.specs.Identity.{Id}
 use Rattle.wl_link.specs.Puts.{Said}
-use Rattle.wl_link.specs.Reader.{Given, Gives, Handled, HandedOut, Reader, Reads, Received, Turn, Unread, Verdict, handled_in}
+use Rattle.wl_link.specs.Reader.{Given, Gives, Handled, HandedOut, Reader, Reads, Received, Turn, Unread, Unreadable, Verdict, handled_in}
 use Rattle.wl_link.specs.Reader.{ReaderState}
-use Rattle.wl_link.specs.Store.{held, removed}
+use Rattle.wl_link.specs.Store.{Store, held, removed}
 use Rattle.wl_server.specs.declared.reading.action.Action.{Action}
 use Rattle.wl_server.specs.declared.reading.action.OpenAction.{OpenAction}
 use Rattle.wl_server.specs.declared.reading.action.OpenAction.TheVariants as opened
@@ -23,6 +23,9 @@ use Rattle.wl_server.specs.declared.reading.action.Reading.{Reading}
 use Rattle.wl_server.specs.declared.error.ActionError.{ActionError}
 use Rattle.wl_server.specs.declared.error.ActionError.TheVariants.{Io, ActionOpen}
 use Rattle.wl_server.specs.declared.objects.Kept.{Kept}
+use Rattle.wl_server.specs.declared.reading.response.RequestFault.TheVariants as wrong
+use Rattle.wl_server.specs.declared.reading.violation.MessageFault.TheVariants as message
+use Rattle.wl_server.specs.declared.reading.violation.Violation.{Violation}
 use Rattle.wl_server.specs.declared.globals.KeptGlobal.{KeptGlobal}
 use Rattle.wl_server.specs.Deeds.{Acted, Came, Deed, Handed, Remembered, Sent, handed}
 use Rattle.wl_server.specs.Deeds as deeds
@@ -34,6 +37,7 @@ use Rattle.wl_server.specs.Limited.{limit_passed}
 use Rattle.wl_server.specs.Part.{Part, display_of, id_at}
 use Rattle.wl_server.specs.Requests.{Outcome, Whole, Wrong, convert, is_valid_new, made_id, start, with_made}
 use Rattle.wl_server.specs.Telling.{Core, Did, Finish, Stops, Told, closed_down, deeds_of, deletions, done_message, introductions, objects_in, part_of, reader_part, tells, with_objects}
+use Rattle.wl_server.specs.Violations.{Addressed, addressed, interface_of, unread_fault, violation}
 
 -- what a reading looks at beside its own client: the table, the client's id, the globals, what a client may see of them, and the
 -- greatest number at which a request may make an object, if there is a limit
@@ -55,6 +59,16 @@ abbrev pub row_asks : Option MessageRow → Bool
 row_asks None = false
 row_asks (Some row) = creates row || nat_lt 4 (length row.signature)
 
+-- how a malformed message breaks the protocol
+abbrev pub unread : {U : Type 0} → List InterfaceRow → Store (Kept U) → Unreadable → Violation
+unread table store u =
+    let receiver = held store u.sender in
+    violation (addressed u.sender receiver u.opcode) (unread_fault receiver (row_in table receiver u.opcode) u.size u.payload)
+
+-- a request to an object as its violation names it
+abbrev pub sent_to : {U : Type 0} → WireMessage → Object (Kept U) → Addressed
+sent_to m receiver = addressed m.sender (Some receiver) m.opcode
+
 -- ---- forms of a verdict
 
 module _ {U C : Type 0} where
@@ -70,9 +84,13 @@ module _ {U C : Type 0} where
   abbrev pub hands_out : Core U C → OpenAction → Handed → Verdict (Core U C) (Told U)
   hands_out c action h = record (tells (record c { action = Some action }) []) { events = λ d. Did (Acted h) ∷ [] }
 
+  -- it is kept how the client broke the protocol
+  abbrev pub breaking : Core U C → Violation → Core U C
+  breaking c w = record c { violation = Some w }
+
   -- bytes that are no message: the connection is closed
-  abbrev pub garbled : Core U C → Verdict (Core U C) (Told U)
-  garbled c = record (tells (closed_down c) []) { events = λ d. Stops fault.Proto ∷ [] }
+  abbrev pub garbled : Core U C → Violation → Verdict (Core U C) (Told U)
+  garbled c w = record (tells (closed_down (breaking c w)) []) { events = λ d. Stops fault.Proto ∷ [] }
 
   -- a fault of the transport kills the client, unless more may be received later
   abbrev pub faulted : Core U C → IoFault → Core U C
@@ -90,12 +108,15 @@ module _ {U C : Type 0} where
 
 module _ {U G C : Type 0} (a : Around G C) where
   -- the client broke the protocol: an error is posted on the display
-  abbrev pub breaks : Core U C → ℕ → List ℕ → Verdict (Core U C) (Told U)
-  breaks c code text = record (posts a.table c (display_of a.client) code text) { events = λ d. Stops fault.Pipe ∷ [] }
+  abbrev pub breaks : Core U C → Violation → ℕ → List ℕ → Verdict (Core U C) (Told U)
+  breaks c w code text = record (posts a.table (breaking c w) (display_of a.client) code text) { events = λ d. Stops fault.Pipe ∷ [] }
 
-  -- an object is made at the number, if the client may use it
-  abbrev pub made_at : Core U C → ℕ → Verdict (Core U C) (Told U) → Verdict (Core U C) (Told U)
-  made_at c n v = if is_valid_new (objects_in c) n then v else breaks c 0 (new_id_text n)
+  -- an object is made at the number, which is the argument at that place, if the client may use it
+  abbrev pub made_at : Core U C → Addressed → ℕ → ℕ → Verdict (Core U C) (Told U) → Verdict (Core U C) (Told U)
+  made_at c to place n v =
+      if is_valid_new (objects_in c) n
+      then v
+      else breaks c (violation to (message.WrongArgument place (wrong.InvalidNewId n))) 0 (new_id_text n)
 
   -- ---- requests to a display
 
@@ -121,9 +142,9 @@ module _ {U G C : Type 0} (a : Around G C) where
       (Remembered (new_at c n) ∷ [])
 
   -- opcode 0 is `sync`, and 1 is `get_registry`
-  abbrev pub display_request : Core U C → ℕ → List WireArgument → Verdict (Core U C) (Told U)
-  display_request c opcode (arg.NewId n ∷ []) = made_at c n (if opcode == 0 then syncs c n else registers c n)
-  display_request c opcode _ = garbled c
+  abbrev pub display_request : Core U C → Addressed → ℕ → List WireArgument → Verdict (Core U C) (Told U)
+  display_request c to opcode (arg.NewId n ∷ []) = made_at c to 0 n (if opcode == 0 then syncs c n else registers c n)
+  display_request c to opcode _ = garbled c (violation to message.UnknownOpcode)
 
   -- ---- requests to a registry
 
@@ -141,24 +162,29 @@ module _ {U G C : Type 0} (a : Around G C) where
       let id = made_id a.client (objects_in c) n x.interface in
       hands_out (with_objects c (with_made (objects_in c) n x.interface version)) (opened.Bind id) (deeds.Bind (global_at g x) id)
 
-  abbrev pub binds_to : Core U C → ℕ → Option (List ℕ) → ℕ → ℕ → Option (Object (KeptGlobal G)) → Verdict (Core U C) (Told U)
-  binds_to c g name version n None = breaks c 0 (bind_text (option_map_or (λ t. t) name []) version g)
-  binds_to c g name version n (Some x) =
-      if may_bind c g name version x
-      then made_at c n (binds c g version n x)
-      else breaks c 0 (bind_text (option_map_or (λ t. t) name []) version g)
+  -- it may not be bound so
+  abbrev pub refuses_bind : Core U C → Addressed → ℕ → Option (List ℕ) → ℕ → Verdict (Core U C) (Told U)
+  refuses_bind c to g name version =
+      breaks c (violation to (message.RefusedBind g version (is_some name))) 0 (bind_text (option_map_or (λ t. t) name []) version g)
+
+  abbrev pub binds_to : Core U C → Addressed → ℕ → Option (List ℕ) → ℕ → ℕ → Option (Object (KeptGlobal G)) → Verdict (Core U C) (Told U)
+  binds_to c to g name version n None = refuses_bind c to g name version
+  binds_to c to g name version n (Some x) =
+      if may_bind c g name version x then made_at c to 3 n (binds c g version n x) else refuses_bind c to g name version
 
   -- its one request is `bind`
-  abbrev pub registry_request : Core U C → List WireArgument → Verdict (Core U C) (Told U)
-  registry_request c (arg.Uint g ∷ arg.Str name ∷ arg.Uint version ∷ arg.NewId n ∷ []) =
-      binds_to c g name version n (held a.globals.store g)
-  registry_request c _ = garbled c
+  abbrev pub registry_request : Core U C → Addressed → List WireArgument → Verdict (Core U C) (Told U)
+  registry_request c to (arg.Uint g ∷ arg.Str name ∷ arg.Uint version ∷ arg.NewId n ∷ []) =
+      binds_to c to g name version n (held a.globals.store g)
+  registry_request c to _ = garbled c (violation to message.UnknownOpcode)
 
   -- ---- other requests
 
   -- a request whose arguments were gone through
   abbrev pub converted : Core U C → WireMessage → Object (Kept U) → MessageRow → Outcome U → Verdict (Core U C) (Told U)
-  converted c m receiver row (Wrong w objects) = breaks (with_objects c objects) 0 (fault_text a.table receiver.interface row w)
+  converted c m receiver row (Wrong place w objects) =
+      breaks (with_objects c objects) (violation (sent_to m receiver) (message.WrongArgument place w)) 0
+      (fault_text a.table receiver.interface row w)
   converted c m receiver row (Whole d args) =
       let id = id_at a.client m.sender receiver in
       hands_out (with_objects c d.objects) (opened.Request id row.is_destructor d.created)
@@ -168,7 +194,8 @@ module _ {U G C : Type 0} (a : Around G C) where
   abbrev pub other_request : Core U C → WireMessage → Object (Kept U) → MessageRow → Verdict (Core U C) (Told U)
   other_request c m receiver row =
       if nat_lt receiver.version row.since
-      then breaks c 1 (since_text m.opcode receiver.version row.since (name_of a.table receiver.interface.0) m.sender)
+      then breaks c (violation (sent_to m receiver) (message.SinceLater receiver.version row.since)) 1
+      (since_text m.opcode receiver.version row.since (name_of a.table receiver.interface.0) m.sender)
       else converted c m receiver row (convert a.client receiver.version (start (objects_in c) row) [] m.args)
 
   -- ---- the reader
@@ -177,22 +204,24 @@ module _ {U G C : Type 0} (a : Around G C) where
   abbrev pub by_interface : Core U C → WireMessage → Object (Kept U) → MessageRow → Verdict (Core U C) (Told U)
   by_interface c m receiver row =
       if receiver.interface.0 == display_id.0
-      then display_request c m.opcode m.args
-      else (if receiver.interface.0 == registry_id.0 then registry_request c m.args else other_request c m receiver row)
+      then display_request c (sent_to m receiver) m.opcode m.args
+      else (if receiver.interface.0 == registry_id.0 then registry_request c (sent_to m receiver) m.args else other_request c m receiver row)
 
   -- a request that passed this limit is refused, with code 2 (`no_memory`); else it is this verdict
-  abbrev pub unless_passed : Core U C → Option ℕ → Verdict (Core U C) (Told U) → Verdict (Core U C) (Told U)
-  unless_passed c None v = v
-  unless_passed c (Some limit) v = breaks c 2 (limit_text limit)
+  abbrev pub unless_passed : Core U C → Addressed → Option ℕ → Verdict (Core U C) (Told U) → Verdict (Core U C) (Told U)
+  unless_passed c to None v = v
+  unless_passed c to (Some limit) v = breaks c (violation to (message.TooManyObjects limit)) 2 (limit_text limit)
 
   -- a request to a kept object; the limit is looked at before anything else of it
   abbrev pub request_to : Core U C → WireMessage → Object (Kept U) → MessageRow → Verdict (Core U C) (Told U)
-  request_to c m receiver row = unless_passed c (limit_passed a.object_limit m.args) (by_interface c m receiver row)
+  request_to c m receiver row =
+      unless_passed c (sent_to m receiver) (limit_passed a.object_limit m.args) (by_interface c m receiver row)
 
   -- what a request does
   abbrev pub request : Core U C → WireMessage → Option (Object (Kept U)) → Option MessageRow → Verdict (Core U C) (Told U)
   request c m (Some receiver) (Some row) = request_to c m receiver row
-  request c m _ _ = garbled c
+  request c m receiver row =
+      garbled c (violation (addressed m.sender receiver m.opcode) (unread_fault receiver row 0 []))
 
   -- a client of the server as a reader
   abbrev pub server : Reader (Core U C) (Told U) (Finish U)
@@ -201,7 +230,7 @@ module _ {U G C : Type 0} (a : Around G C) where
     signature = λ c sender opcode. option_map (λ row. row.signature) (row_in a.table (held c.store sender) opcode);
     asks = λ c sender opcode. row_asks (row_in a.table (held c.store sender) opcode);
     handles = λ c m. request c m (held c.store m.sender) (row_in a.table (held c.store m.sender) m.opcode);
-    malformed = garbled;
+    malformed = λ c u. garbled c (unread a.table c.store u);
     takes = takes a.client;
     broken = λ c f. closed_down c;
     faulted = faulted;

@@ -11,6 +11,7 @@ use Rattle.wl_wire.specs.declared.error.MessageParseError.TheVariants as parse
 use Rattle.wl_wire.specs.declared.interface.InterfaceId.{InterfaceId}
 use Rattle.wl_wire.specs.MessageRows.{creates, fits, next_interface, request_row, rest_of}
 use Rattle.wl_wire.specs.Message.{WireMessage}
+use Rattle.wl_wire.specs.Parse.{opcode_of, sender_of}
 use Rattle.wl_wire.specs.Table.{MessageRow, display_id, registry_id}
 use Rattle.wl_link.specs.declared.object.Object.{Object}
 use Rattle.wl_link.specs.Exchange.{Queue, Sending}
@@ -25,6 +26,7 @@ use Rattle.wl_server.specs.declared.objects.Kept.{Kept}
 use Rattle.wl_server.specs.declared.reading.action.Action.{Action}
 use Rattle.wl_server.specs.declared.reading.action.OpenAction.TheVariants as opened
 use Rattle.wl_server.specs.declared.reading.action.Reading.{Reading}
+use Rattle.wl_server.specs.declared.reading.violation.Violation.{Violation}
 use Rattle.wl_server.specs.Backend.{BackendState}
 use Rattle.wl_server.specs.Deeds.{Bind, Handed, Request, notes_in}
 use Rattle.wl_server.specs.Events.{wire_argument}
@@ -36,6 +38,7 @@ use Rattle.wl_server.specs.Reading.{Around, action_content, answered, may_bind, 
 use Rattle.wl_server.specs.Requests.{allows_null, kinds_after}
 use Rattle.wl_server.specs.Server.{seen}
 use Rattle.wl_server.specs.Telling.{Core, Told, end_deeds, part_of, reader_part}
+use Rattle.wl_server.specs.Violations.{interface_of}
 
 -- ---- the arguments of a request that is handed out
 
@@ -104,6 +107,28 @@ module _ {U C : Type 0} where
       × (((x.interface.0 ≡ display_id.0) × ((n : ℕ) → ¬ (m.args ≡ arg.NewId n ∷ [])))
       ⊎ ((x.interface.0 ≡ registry_id.0)
       × ((g version n : ℕ) (name : Option (List ℕ)) → ¬ (m.args ≡ arg.Uint g ∷ arg.Str name ∷ arg.Uint version ∷ arg.NewId n ∷ []))))
+
+-- ---- the violation of the message at the front
+
+module _ {T U C : Type 0} where
+  -- the violation has the number and the opcode of the header at the front of what waits, and the interface of the object that
+  -- has the number
+  pub record IsOfFront (before : ReaderState T (Core U C)) (w : Violation) : Type 0 where
+    pub sender_id : w.sender_id ≡ sender_of before.link.incoming.bytes
+    pub opcode : w.opcode ≡ opcode_of before.link.incoming.bytes
+    pub interface : w.interface ≡ interface_of (held before.core.store w.sender_id)
+
+  -- it is kept how the client broke the protocol by the message at the front
+  abbrev pub KeepsFront : ReaderState T (Core U C) → ReaderState T (Core U C) → Type 0
+  KeepsFront before end = (w : Violation) × (end.core.violation ≡ Some w) × IsOfFront before w
+
+  -- it is not kept that the client broke the protocol, if it was not before
+  abbrev pub KeepsNone : ReaderState T (Core U C) → ReaderState T (Core U C) → Type 0
+  KeepsNone start end = end.core.violation ≡ start.core.violation
+
+  -- the client broke the protocol by the message at the front; or its connection is closed, and nothing is kept that was not before
+  abbrev pub BrokeOrClosed : ReaderState T (Core U C) → ReaderState T (Core U C) → ReaderState T (Core U C) → Type 0
+  BrokeOrClosed start before end = KeepsFront before end ⊎ (KeepsNone start end × (end.core.ended ≡ Some ConnectionClosed))
 
 -- ---- how far the turns lead
 
@@ -192,11 +217,13 @@ module _ {T U G C : Type 0} (sends : T → Queue → Result ℕ IoFault → T �
 
   -- why a reading answers this fault if no receive failed so, with so many receives left
   abbrev pub StopsItself : IoFault → ReaderState T (Core U C) → List Turn → Bool → ℕ → ReaderState T (Core U C) → Type 0
-  StopsItself fault.WouldBlock start turns refused left end = (left ≡ 0) × Lacks sends (server a) end
+  StopsItself fault.WouldBlock start turns refused left end = (left ≡ 0) × Lacks sends (server a) end × KeepsNone start end
   StopsItself fault.OutOfMemory start turns refused left end =
-      (refused ≡ true) × (FrontAsks sends (server a) end ⊎ (Lacks sends (server a) end × ReceiveAsks end.link))
-  StopsItself fault.Proto start turns refused left end = OfLast (FoundNoMessage sends a) start turns × (end.core.ended ≡ Some ConnectionClosed)
-  StopsItself fault.Pipe start turns refused left end = OfLast (TookMessage sends a) start turns × IsSome end.core.ended
+      (refused ≡ true) × (FrontAsks sends (server a) end ⊎ (Lacks sends (server a) end × ReceiveAsks end.link)) × KeepsNone start end
+  StopsItself fault.Proto start turns refused left end =
+      OfLast (λ t before. FoundNoMessage sends a t before × KeepsFront before end) start turns × (end.core.ended ≡ Some ConnectionClosed)
+  StopsItself fault.Pipe start turns refused left end =
+      OfLast (λ t before. TookMessage sends a t before × BrokeOrClosed start before end) start turns × IsSome end.core.ended
   StopsItself _ start turns refused left end = ⊥
 
   -- The action comes of the message that the last turn found at the front: the turns before it led from the beginning to
@@ -208,10 +235,11 @@ module _ {T U G C : Type 0} (sends : T → Queue → Result ℕ IoFault → T �
 
   -- what a reading of a live client without an open action comes to: with these turns and this answer, it ends so
   abbrev pub ReadingEnds : ReaderState T (Core U C) → List Turn → Result Handed ActionError → Bool → ℕ → ReaderState T (Core U C) → Type 0
-  ReadingEnds start turns (Ok h) refused left end = (end.core.is_killed ≡ false) × (end.core.ended ≡ None) × ComesOfLast h start turns end
+  ReadingEnds start turns (Ok h) refused left end =
+      (end.core.is_killed ≡ false) × (end.core.ended ≡ None) × KeepsNone start end × ComesOfLast h start turns end
   ReadingEnds start turns (Err ActionOpen) refused left end = ⊥
   ReadingEnds start turns (Err (Io f)) refused left end =
-      (LastReceiveFailed f turns ⊎ StopsItself f start turns refused left end) × LeavesClient f end.core
+      ((LastReceiveFailed f turns × KeepsNone start end) ⊎ StopsItself f start turns refused left end) × LeavesClient f end.core
 
 -- ---- a reading of a server
 

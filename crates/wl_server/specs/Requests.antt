@@ -2,7 +2,7 @@
 --
 -- Its arguments go from left to right. The number of an object becomes the id of the object that holds it; each object
 -- argument takes the next of the table's interfaces. A new id makes an object.
-use Rattle.std.specs.Prelude.{ℕ, ◌+◌, List, [], ◌∷◌, ◌++◌, Bool, true, false, not, ◌==◌, ◌&&◌, if◌then◌else◌, Option, None, Some, Result, Ok, Err}
+use Rattle.std.specs.Prelude.{ℕ, ◌+◌, List, [], ◌∷◌, ◌++◌, Bool, true, false, not, ◌==◌, ◌&&◌, if◌then◌else◌, Option, None, Some, Result, Ok, Err, length}
 use Rattle.wl_wire.specs.declared.argument.AllowNull.TheVariants.{Yes}
 use Rattle.wl_wire.specs.declared.argument.Argument.{Argument}
 use Rattle.wl_wire.specs.declared.argument.Argument.TheVariants as arg
@@ -35,10 +35,10 @@ pub record Converting (U : Type 0) : Type 0 where
 abbrev pub Converted : Type 0 → Type 0
 Converted U = Result (Argument IdParts Token × Converting U) RequestFault
 
--- what the arguments became; or what is wrong with the first that is wrong, and the objects as they then are
+-- what the arguments became; or the place of the first that is wrong, what is wrong with it, and the objects as they then are
 pub data Outcome (U : Type 0) : Type 0 where
   Whole : Converting U → List (Argument IdParts Token) → Outcome U
-  Wrong : RequestFault → Objects (Kept U) → Outcome U
+  Wrong : ℕ → RequestFault → Objects (Kept U) → Outcome U
 
 -- null may stand at the next place
 abbrev pub allows_null : List ArgumentType → Bool
@@ -119,15 +119,15 @@ module _ {U : Type 0} where
   convert_one client version c (arg.Array bytes) = passed c (arg.Array bytes)
   convert_one client version c (arg.Fd token) = passed c (arg.Fd token)
 
-  abbrev pub going_on : Converted U → Objects (Kept U) → (Argument IdParts Token → Converting U → Outcome U) → Outcome U
-  going_on (Ok next) objects on = on next.0 next.1
-  going_on (Err wrong) objects on = Wrong wrong objects
+  abbrev pub going_on : Converted U → ℕ → Objects (Kept U) → (Argument IdParts Token → Converting U → Outcome U) → Outcome U
+  going_on (Ok next) place objects on = on next.0 next.1
+  going_on (Err wrong) place objects on = Wrong place wrong objects
 
   -- all arguments, from left to right, after those that were gone through
   abbrev pub convert : ClientParts → ℕ → Converting U → List (Argument IdParts Token) → List WireArgument → Outcome U
   convert client version c done [] = Whole c done
   convert client version c done (a ∷ args) =
-      going_on (convert_one client version c a) c.objects (λ b next. convert client version next (done ++ b ∷ []) args)
+      going_on (convert_one client version c a) (length done) c.objects (λ b next. convert client version next (done ++ b ∷ []) args)
 
   abbrev pub start : Objects (Kept U) → MessageRow → Converting U
   start objects row = record {

@@ -16,6 +16,7 @@ use Rattle.wl_link.specs.Reader.{ReaderState}
 use Rattle.wl_link.specs.Store.{Store, is_server_number}
 use Rattle.wl_server.specs.declared.reading.action.OpenAction.{OpenAction}
 use Rattle.wl_server.specs.declared.objects.Kept.{Kept}
+use Rattle.wl_server.specs.declared.reading.violation.Violation.{Violation}
 use Rattle.wl_server.specs.declared.notes.DisconnectReason.{DisconnectReason}
 use Rattle.wl_server.specs.declared.notes.DisconnectReason.TheVariants.{ConnectionClosed}
 use Rattle.wl_server.specs.declared.notes.Happening.{Happening}
@@ -72,7 +73,7 @@ removal_message name registry = by_object registry 1 (arg.Uint name ∷ [])
 
 -- ---- all of a client's part but its link
 
--- All that is held of a client but its link; and in `ended`, why it was killed in this call, if it was.
+-- All that is held of a client but its link, as `Part` has it; and in `ended`, why it was killed in this call, if it was.
 pub record Core (U C : Type 0) : Type 0 where
   pub client_data : C
   pub store : Store (Kept U)
@@ -81,6 +82,7 @@ pub record Core (U C : Type 0) : Type 0 where
   pub action : Option OpenAction
   pub registries : List Id
   pub waiting : List (Happening U)
+  pub violation : Option Violation
   pub ended : Option DisconnectReason
 
 -- what is handed out: a deed; or the reason for which nothing more is read
@@ -141,7 +143,7 @@ module _ {U C : Type 0} where
     signature = λ c sender opcode. None;
     asks = λ c sender opcode. false;
     handles = λ c m. tells c [];
-    malformed = λ c. tells c [];
+    malformed = λ c u. tells c [];
     takes = λ c u. None;
     broken = λ c f. closed_down c;
     faulted = λ c f. c;
@@ -162,6 +164,7 @@ module _ {T U C : Type 0} where
     action = p.action;
     registries = p.registries;
     waiting = p.waiting;
+    violation = p.violation;
     ended = None;
   }
 
@@ -179,6 +182,7 @@ module _ {T U C : Type 0} where
     action = p.core.action;
     registries = p.core.registries;
     waiting = p.core.waiting;
+    violation = p.core.violation;
   }
 
   -- A verdict is carried out over the link. `refused` says whether memory was refused in that, `did` are the deeds.

@@ -26,6 +26,7 @@ pub mod transport;
 use crate::notes::queues::{MadeNotes, WaitingNotes};
 use crate::objects::ClientObjects;
 use crate::reading::open_place::OpenPlace;
+use crate::reading::violation::Violation;
 use std::alloc::Global;
 use std::marker::Model;
 use wl_link::BufferedSocket;
@@ -46,6 +47,8 @@ pub struct Client<T, U, C> {
     pub objects: ClientObjects<U>,
     /// Whether it was killed. It is then kept until the next cleanup.
     pub is_killed: bool,
+    /// How it broke the protocol, if it was killed for a message.
+    pub violation: Option<Violation>,
     /// The action that was handed out and is not finished yet.
     pub action: OpenPlace,
     /// The notes that the next cleanup hands on.
@@ -77,6 +80,7 @@ impl<T, U, C> Model for Client<T, U, C> {
         action = c.action;
         registries = c.objects.registries.items;
         waiting = map (λ w. w.1) c.waiting.queue.items;
+        violation = c.violation;
       };
       made = map (λ m. m.1) c.made.queue.items;
       times = record { made = map (λ m. m.0) c.made.queue.items; waiting = map (λ w. w.0) c.waiting.queue.items };

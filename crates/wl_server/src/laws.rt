@@ -38,6 +38,7 @@ ghost use Rattle.wl_server.specs.Accounts.{AreAccountedFor, IsAccountedFor};
 ghost use Rattle.wl_server.specs.Announced.{EachAnnouncesShown};
 ghost use Rattle.wl_server.specs.Backend.{BackendState};
 ghost use Rattle.wl_server.specs.Bounded.{EachIsBounded, EachPartIsBounded, receives_over};
+ghost use Rattle.wl_server.specs.Broken.{LiveKeepNone, ReadingsAloneBreak};
 ghost use Rattle.wl_server.specs.Cutting.{EachIsServed, GoesOn, HistoriesAreCut, IsServed};
 ghost use Rattle.wl_server.specs.Dispatch.{EachIsDispatched, EndsDispatch, IsDispatched, answering};
 ghost use Rattle.wl_server.specs.Outcome.Dispatches.{DispatchesHaveOneOutcome, IsDeterministic, IsDeterministicIfSpared, ManyDispatchesHaveOneOutcome, ManySparedDispatchesHaveOneOutcome, SparedDispatchesHaveOneOutcome};
@@ -276,10 +277,22 @@ pub fn notes_come_in_the_order_of_time<T: Transport, U, G: GlobalHandler<C>, C>(
 /// Take any point of a run of a new server at which a client is stored and killed, and what comes after it. Nothing is
 /// received from the client. As long as its action is open, each reading of it returns `ActionOpen`; no action is opened
 /// again. Then each reading returns `Pipe`, until a cleanup takes the client out, which hands out its transport. From then
-/// on each reading returns `InvalidInput`, and the client is not stored again.
+/// on each reading returns `InvalidInput`, and the client is not stored again. What is kept of how it broke the protocol
+/// (`Backend::violation`) stays as long as it is stored.
 pub fn a_killed_client_stays_killed<T: Transport, U, G: GlobalHandler<C>, C>()
     ensures run { (table : List InterfaceRow) (run : List (Entry T U G C)) (after : ServerState T U G C) →
         Leads (over T.sends T.receives G.views) (new_server table) run after → EachStaysKilled (over T.sends T.receives G.views) table run after }
+{}
+
+/// The law of violations, over every transport: it is kept of killed clients alone how they broke the protocol.
+///
+/// After each run of a new server `Backend::violation` is `None` for each client that is live (clause `run`). Only a reading of a
+/// client changes it: any other call but its insertion leaves it as it is, as long as the client is stored, whether the call
+/// kills the client or not (clause `others`). What a reading leaves of it is said by [`each_reading_ends_for_a_reason`].
+pub fn only_a_killed_client_keeps_a_violation<T: Transport, U, G: GlobalHandler<C>, C>()
+    ensures run { (table : List InterfaceRow) (run : List (Entry T U G C)) (after : ServerState T U G C) →
+        Leads (over T.sends T.receives G.views) (new_server table) run after → LiveKeepNone after }
+    ensures others { ReadingsAloneBreak U (over {C = C} T.sends T.receives G.views) }
 {}
 
 /// The law of announcements, over every transport: a registry announces the globals that its client may see.
@@ -410,6 +423,11 @@ pub fn a_reading_receives_64_times()
 /// - `Pipe`: the last turn took a message, and the client was killed, for whatever reason.
 ///
 /// After `WouldBlock` and `OutOfMemory` the client lives on. After any other fault it was killed in this reading.
+///
+/// Of how the client broke the protocol (`Backend::violation`) this is kept: after `Proto` a violation with the number and the
+/// opcode in the header at the front of what the last turn found, and with the interface of the object that has the number;
+/// after `Pipe` such a one, or nothing, if the client was killed for the reason `ConnectionClosed`; else nothing.
+///
 /// Each reading carries this (clause `reason` of `Backend::next_action`).
 pub fn each_reading_ends_for_a_reason<T: Transport, U, G: GlobalHandler<C>, C>()
     ensures { (a : Around G C) (left : ℕ) (before : Part T U C) (turns : List Turn) (out : Gives (Told U)) (end : ReaderState T (Core U C)) →

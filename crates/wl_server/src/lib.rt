@@ -92,4 +92,6 @@ pub use lookups::walks::{AllClients, AllObjectsFor};
 pub use notes::{DisconnectReason, Note};
 pub use reading::action::{Action, Reading};
 pub use reading::next_action::READ_TURNS;
+pub use reading::response::RequestFault;
+pub use reading::violation::{MessageFault, Violation};
 pub use runs::step::{Reply, Step, Stopped};

@@ -1,7 +1,7 @@
 //! Look-ups of clients and objects. None of them changes the server.
 
 ghost use Rattle.std.specs.Prelude.{◌≡◌, MatchResult, None, Some, option_copied};
-ghost use Rattle.wl_server.specs.Lookups.{client_by, client_data_of, object_data_of, object_for_number, object_info_of, transport_of};
+ghost use Rattle.wl_server.specs.Lookups.{client_by, client_data_of, object_data_of, object_for_number, object_info_of, transport_of, violation_of};
 ghost use Rattle.wl_server.specs.Server.{client_at};
 
 /// Objects with their data: by number, and all of a client.
@@ -19,6 +19,7 @@ use crate::error::InvalidId;
 use crate::ids::client_id::ClientId;
 use crate::ids::object_id::ObjectId;
 use crate::objects::{Kept, id_at, named_in};
+use crate::reading::violation::Violation;
 use wl_link::Object;
 use wl_wire::{InterfaceId, ObjectInfo};
 
@@ -113,6 +114,18 @@ impl<T: Drop, U: Drop, G: Drop, C: Drop> Backend<T, U, G, C> {
             Some(client) => Ok(client.socket.transport()),
             None => Err(InvalidId),
         }
+    }
+
+    /// How the client broke the protocol, if it was killed for a message, until the next cleanup takes it out. The call
+    /// allocates no memory.
+    ///
+    /// It is `None` if the client was killed for another reason: by a call of the program, by a fault of its transport, or as
+    /// a write to it failed. It is `None`, too, if the client is live or not stored. libwayland has no such call: it writes a
+    /// line to its log, and sends the client `wl_display.error`.
+    pub fn violation(&self, id: &ClientId) -> Option<Violation>
+        ensures { result ≡ violation_of self.now.server id.now }
+    {
+        self.client(id)?.violation
     }
 
     /// The id of the client's object that has this number.

@@ -33,6 +33,8 @@ pub mod registry_request;
 pub mod request;
 /// How a client broke the protocol by a request, and what is left to do: to answer, or to kill the client.
 pub mod response;
+/// How a client broke the protocol by a message, which is kept where it is killed for that.
+pub mod violation;
 
 use crate::globals::KeptGlobal;
 use crate::ids::client_id::ClientId;

@@ -192,8 +192,10 @@ static void take_actions(struct wl_client *client)
         if (status != NB_OK)
             break;
     }
-    if (status != NB_OK && status != NB_WOULD_BLOCK)
+    if (status != NB_OK && status != NB_WOULD_BLOCK) {
+        log_violation(client);
         client_fail(client);
+    }
 }
 
 /* Receives once. NULL if nothing came, or all of it is with the session, or the client has an error and it is thrown

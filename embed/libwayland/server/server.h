@@ -194,6 +194,9 @@ static inline const nb_object_id *core_of(const struct wl_resource *resource)
 /* errors.c */
 void client_post_error(struct wl_client *client, uint32_t code, const char *format, ...) WL_PRINTF(3, 4);
 
+/* violation.c: what libwayland logs of the message for which the session has ended the client, if it was one. */
+void log_violation(struct wl_client *client);
+
 /* dispatch.c */
 void dispatch(struct wl_client *client, const nb_action *action, const nb_argument *arguments, uint8_t *text);
 

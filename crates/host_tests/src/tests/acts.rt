@@ -10,8 +10,8 @@ use crate::tests::told::{
 use std::alloc::Global;
 use std::test::Fail;
 use wl_host::{
-    FlatAction, FlatArgument, FlatClientId, FlatGlobalId, FlatNote, FlatObjectId, Gone, Rows,
-    Server, Status, TableFault,
+    FlatAction, FlatArgument, FlatClientId, FlatGlobalId, FlatNote, FlatObjectId, FlatViolation,
+    Gone, Rows, Server, Status, TableFault,
 };
 
 /// One call of the session.
@@ -64,6 +64,8 @@ pub enum Act {
     ToSend(FlatClientId),
     /// So many bytes were sent to the client.
     Sent(FlatClientId, u32),
+    /// How the client broke the protocol.
+    Violation(FlatClientId),
     /// The next client that is gone.
     Gone,
     /// The next note.
@@ -234,6 +236,23 @@ fn tell_note(log: &mut String, note: &FlatNote) -> Result<(), Fail> {
     tell_objects(log, &[("object", note.object)])
 }
 
+/// How a client broke the protocol.
+fn tell_violation(log: &mut String, violation: FlatViolation) -> Result<(), Fail> {
+    tell_numbers(
+        log,
+        &[
+            ("kind", u64::from(violation.kind)),
+            ("sender", u64::from(violation.sender)),
+            ("interface", u64::from(violation.interface)),
+            ("opcode", u64::from(violation.opcode)),
+            ("argument", u64::from(violation.argument)),
+            ("number", u64::from(violation.number)),
+            ("wanted", u64::from(violation.wanted)),
+            ("found", u64::from(violation.found)),
+        ],
+    )
+}
+
 /// The next note.
 fn next_note(log: &mut String, server: &mut Server) -> Result<Status, Fail> {
     let mut note = NO_NOTE;
@@ -314,6 +333,7 @@ impl Session for Server {
             Act::SendFailed(id) => Ok(self.send_failed(id)),
             Act::Kill(id) => Ok(self.kill_client(id)),
             Act::Cleanup => Ok(self.cleanup()),
+            Act::Violation(id) => told(log, self.violation(id), tell_violation),
             Act::Gone => next_gone(log, self),
             Act::Note => next_note(log, self),
             Act::Dropped => told(log, self.next_dropped(), tell_descriptor),

@@ -209,6 +209,7 @@ fn is_looked_up(server: &Server) -> bool {
         && server.get_client_data(&FIRST.id()).is_ok()
         && server.transport(&FIRST.id()).is_ok()
         && server.waiting(&FIRST.id()).is_ok()
+        && server.violation(&FIRST.id()).is_none()
         && are_objects_looked_up(server)
         && is_global_looked_up(server)
 }

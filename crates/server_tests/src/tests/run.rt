@@ -1,5 +1,6 @@
 //! The one owner of a server: it makes the calls of a run and looks at what they left.
 
+use super::violations::violation;
 use server_test_kit::steps::{Call, Made, arrive, steps};
 use server_test_kit::told::{action, done, object, reply};
 use server_test_kit::values::{Event, FIRST, Named, Shown, Thing, Who, message};
@@ -86,6 +87,8 @@ pub enum Look {
     Arrivals(Who),
     /// How many bytes each send took of a client.
     Lengths(Who),
+    /// How a client broke the protocol.
+    Violation(Who),
     /// The id that the next global gets.
     NextGlobal,
     /// The id that the next client gets.
@@ -671,6 +674,7 @@ fn look_at(alloc: Global, server: &Server, log: &mut String, at_what: Look) -> R
         Look::Name(of, who) => name(server, log, of, who),
         Look::Arrivals(who) => arrivals(server, log, who),
         Look::Lengths(who) => lengths(server, log, who),
+        Look::Violation(who) => violation(log, server.violation(&who.id())),
         Look::NextGlobal => next_global(server, log),
         Look::NextClient => next_client(server, log),
         Look::Clients => clients(server, log),

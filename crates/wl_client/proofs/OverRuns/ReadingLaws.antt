@@ -187,7 +187,7 @@ module _ {U : Type 0} (R : Core U → List (Given SessionMessage) → Core U →
       joins = sees.joins;
       handles = λ c m on. sees_handling c _ (handling_by c.passes_over c.table (objects_in c) m)
           (λ d. sees.handles c m (handling_by c.passes_over c.table (objects_in c) m) d refl);
-      malformed = λ c on. sees_handling c None (Breaks (error_of c.table wrong.Malformed) (objects_in c)) (sees.fails c);
+      malformed = λ c u on. sees_handling c None (Breaks (error_of c.table wrong.Malformed) (objects_in c)) (sees.fails c);
       faulted = λ c f on. faults c f;
     }
 

@@ -90,7 +90,7 @@ module _ {U : Type 0} where
     same = λ c tidy. tidy;
     joins = λ c d e g h first second tidy. second (first tidy);
     handles = λ c m on. handled_tidy c _ (handling_by c.passes_over c.table (objects_in c) m) (both_none c.error c.open_event on);
-    malformed = λ c on. handled_tidy c None (Breaks (error_of c.table wrong.Malformed) (objects_in c)) (both_none c.error c.open_event on);
+    malformed = λ c u on. handled_tidy c None (Breaks (error_of c.table wrong.Malformed) (objects_in c)) (both_none c.error c.open_event on);
     faulted = λ c f on tidy. inr (faulted_open c f ∙ (both_none c.error c.open_event on).1);
   }
 

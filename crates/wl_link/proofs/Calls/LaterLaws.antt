@@ -10,10 +10,17 @@ use Rattle.wl_wire.specs.declared.error.MessageParseError.{MessageParseError}
 use Rattle.wl_wire.specs.declared.error.MessageParseError.TheVariants as errors
 use Rattle.wl_wire.specs.Message.{WireMessage}
 use Rattle.wl_wire.specs.Parse.{ReadsMessage, RefusesMessage, fd_count, length_of, opcode_of, payload_of, sender_of}
-use Rattle.wl_wire.proofs.Spelling.FrontLaws.{behind_front, malformed_front, message_front, opcode_front, sender_front}
+use Rattle.wl_wire.proofs.Spelling.FrontLaws.{behind_front, length_front, malformed_front, message_front, opcode_front, payload_front, sender_front}
 use Rattle.wl_link.specs.Exchange.{Queue, joined}
 use Rattle.wl_link.specs.Link.{LacksBytes, LinkState, ReadFound, ReadOne, after_first, with_incoming}
+use Rattle.wl_link.specs.Reader.{Unreadable, unreadable}
 use Rattle.wl_link.proofs.Calls.ReadLaws.{reads_enough}
+
+-- malformed bytes are as many as their header says, or that says fewer than a header has
+front_there : (raw : List ℕ) (signature : List ArgumentType) (fds : List Token) → 8 ≤ length raw
+    → RefusesMessage raw signature fds errors.Malformed → length_of raw ≤ length raw
+front_there raw signature fds header (inl (counted, low)) = omega (arith, header, low)
+front_there raw signature fds header (inr ((whole, enough), none)) = whole.there
 
 -- what a read finds, or that it finds it malformed, is so for each link on which more waits behind
 module _ {T S : Type 0} (looks_up : ℕ → ℕ → Option (List ArgumentType) → Type 0) (before : LinkState T) (other : LinkState S) (more : Queue)
@@ -85,6 +92,33 @@ module _ {T S : Type 0} (looks_up : ℕ → ℕ → Option (List ArgumentType) �
 
       at : (nat_le 8 (length before.incoming.bytes) ≡ true) ⊎ (nat_le 8 (length before.incoming.bytes) ≡ false) → ReadOne looks_up other (Err errors.Malformed) other
       at (inl header) = let r = MatchBool-at_true _ _ header read in found r.0 (leb-true 8 (length before.incoming.bytes) header) r.1 r.2
+      at (inr short) = let r = MatchBool-at_false _ _ short read in let e = r.0 in absurd cc
+
+-- bytes that are malformed are the same malformed message where more wait behind
+module _ {T : Type 0} (signature_of : ℕ → ℕ → Option (List ArgumentType)) (before after : LinkState T) (more : List ℕ) where
+  abbrev of_bytes : List ℕ → Unreadable
+  of_bytes bytes = unreadable (signature_of (sender_of bytes) (opcode_of bytes)) bytes
+
+  pub unreadable_later : ReadOne (λ sender opcode found. found ≡ signature_of sender opcode) before (Err errors.Malformed) after
+      → of_bytes (before.incoming.bytes ++ more) ≡ of_bytes before.incoming.bytes
+  unreadable_later read = at (cases_Bool (nat_le 8 (length before.incoming.bytes)))
+    where
+      raw : List ℕ
+      raw = before.incoming.bytes
+
+      same : (f : Option (List ArgumentType)) → 8 ≤ length raw → ReadFound f before (Err errors.Malformed) after
+          → unreadable f (raw ++ more) ≡ unreadable f raw
+      same None header none = rw (sender_front raw more header, opcode_front raw more header, length_front raw more header) refl
+      same (Some signature) header under =
+          let there : length_of raw ≤ length raw = front_there raw signature before.incoming.tokens header under.0 in
+          rw (payload_front raw more header there, sender_front raw more header, opcode_front raw more header, length_front raw more header) refl
+
+      found : (f : Option (List ArgumentType)) → 8 ≤ length raw → f ≡ signature_of (sender_of raw) (opcode_of raw)
+          → ReadFound f before (Err errors.Malformed) after → of_bytes (raw ++ more) ≡ of_bytes raw
+      found f header looked read = rw (sender_front raw more header, opcode_front raw more header, ← looked) (same f header read)
+
+      at : (nat_le 8 (length raw) ≡ true) ⊎ (nat_le 8 (length raw) ≡ false) → of_bytes (raw ++ more) ≡ of_bytes raw
+      at (inl header) = let r = MatchBool-at_true _ _ header read in found r.0 (leb-true 8 (length raw) header) r.1 r.2
       at (inr short) = let r = MatchBool-at_false _ _ short read in let e = r.0 in absurd cc
 
 -- a refusal is that of each link on which the same waits

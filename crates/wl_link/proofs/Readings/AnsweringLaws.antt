@@ -313,10 +313,10 @@ module _ {S : Type 0} (sends : S → Queue → Result ℕ IoFault → S → Type
       goes_on ends = record {
         reads = read_holds;
         handles = λ c m link holds. (carry (reader.handles c m) link holds).so;
-        malformed = λ c link holds. (carry (reader.malformed c) link holds).so;
-        over = λ c link holds. (
-            let k = carry (reader.malformed c) link holds in
-            subst (λ (d : Core). IsOver reader d) (sym k.core) (ends c k.wrote)
+        malformed = λ c u link holds. (carry (reader.malformed c u) link holds).so;
+        over = λ c u link holds. (
+            let k = carry (reader.malformed c u) link holds in
+            subst (λ (d : Core). IsOver reader d) (sym k.core) (ends c u k.wrote)
             );
         takes = λ c u v link takes holds. (carry v link holds).so;
       }

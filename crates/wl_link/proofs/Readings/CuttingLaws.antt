@@ -11,7 +11,7 @@ use Rattle.wl_link.specs.Link.{LinkState, count_of, counted_answer, grown_capaci
 use Rattle.wl_link.specs.Puts.{lacks_memory}
 use Rattle.wl_link.specs.Reader.{AllFed, CarriesOut, Ends, Given, Gives, Halts, Handled, Leaves, ReaderState, Reader, Reads, ReadsAs, Received, Stops, Takes, Then, Turn, Unread, Verdict, received_in, sends_in, stops, with_link}
 use Rattle.wl_link.specs.Served.{Finds, GoesOnAs, Handles, Serves, ServesOne, TakesNext, link_as, state_as}
-use Rattle.wl_link.proofs.Calls.LaterLaws.{other_malformed, other_reads}
+use Rattle.wl_link.proofs.Calls.LaterLaws.{other_malformed, other_reads, unreadable_later}
 use Rattle.wl_link.proofs.Calls.Branches.{at_false, at_true}
 use Rattle.wl_link.proofs.Calls.QueueLaws.{chain_parts, joined_assoc}
 use Rattle.wl_link.proofs.Readings.PutsLaws.{flushes_there, puts_there}
@@ -69,7 +69,11 @@ module _ {T S Core Event Finish : Type 0} (sends : T → Queue → Result ℕ Io
       inl (m, subst (λ (l : LinkState S). ReadsAs others' reader (state_as p more answers) (Ok m) l) (sym left) r.1, is)
   finds_more p v link more answers (inr (malformed, same, is)) =
       let looks = λ (sender : ℕ) (opcode : ℕ) (found : Option (List ArgumentType)). found ≡ reader.signature p.core sender opcode in
-      inr (other_malformed looks p.link (link_as p.link more answers) more refl p.link malformed, ap (λ (l : LinkState T). link_as l more answers) same, is)
+      inr (
+        other_malformed looks p.link (link_as p.link more answers) more refl p.link malformed,
+        ap (λ (l : LinkState T). link_as l more answers) same,
+        is ∙ ap (reader.malformed p.core) (sym (unreadable_later (reader.signature p.core) p.link p.link more.bytes malformed)),
+      )
 
 module _ {T S Core Event Finish : Type 0} (sends : T → Queue → Result ℕ IoFault → T → Type 0) (receives : T → ℕ → Result Queue IoFault → T → Type 0)
     (others' : S → Queue → Result ℕ IoFault → S → Type 0) (reader : Reader Core Event Finish) where

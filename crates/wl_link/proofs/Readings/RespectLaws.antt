@@ -6,7 +6,7 @@ use Rattle.wl_wire.specs.declared.error.IoFault.TheVariants as fault
 use Rattle.wl_link.specs.Exchange.{Queue, Sending}
 use Rattle.wl_link.specs.Link.{LinkState, count_of, counted_answer}
 use Rattle.wl_link.specs.Puts.{PutsOut, Said, lacks_memory}
-use Rattle.wl_link.specs.Reader.{CarriesOut, Ends, Given, Gives, Halts, Handled, ReaderState, Reader, Reads, Received, Stops, Turn, Unread, Verdict, came_to, stops, with_link}
+use Rattle.wl_link.specs.Reader.{CarriesOut, Ends, Given, Gives, Halts, Handled, ReaderState, Reader, Reads, Received, Stops, Turn, Unread, Verdict, came_to, stops, unreadable_front, with_link}
 use Rattle.wl_link.proofs.Readings.PutsLaws.{puts_front}
 use Rattle.wl_link.specs.Respect.{Keeps, RespectsReading, Respects, KeepsCore, RespectsCores}
 
@@ -60,7 +60,7 @@ module _ {T Core Event Finish : Type 0} (sends : T → Queue → Result ℕ IoFa
       subst (λ (g : List (Given Event)). R p.core g after.core) (sym (ap given_in split))
       (respects.joins p.core mid.core after.core first rest.gave (carries_respect sends receives reader R p.core v link mid es first lacked keeps carried) (reads_respect left mid after turns rest more))
   reads_respect left p after (Unread es ∷ turns) out (on, (v, link, first, lacked, mid, rest, (malformed, same, is), carried, split, more)) =
-      let keeps = subst (λ (w : Verdict Core Event). Keeps reader R p.core w) (sym is) (respects.malformed p.core on) in
+      let keeps = subst (λ (w : Verdict Core Event). Keeps reader R p.core w) (sym is) (respects.malformed p.core (unreadable_front sends reader p) on) in
       subst (λ (g : List (Given Event)). R p.core g after.core) (sym (ap given_in split))
       (respects.joins p.core mid.core after.core first rest.gave (carries_respect sends receives reader R p.core v link mid es first lacked keeps carried) (reads_respect left mid after turns rest more))
 
@@ -86,7 +86,7 @@ module _ {Core Event Finish : Type 0} (reader : Reader Core Event Finish) (R : C
       same = respects.same;
       joins = λ c d e g h. respects.joins c d e;
       handles = λ c m on. keeps_all c (reader.handles c m) (respects.handles c m);
-      malformed = λ c on. keeps_all c (reader.malformed c) (respects.malformed c);
+      malformed = λ c u on. keeps_all c (reader.malformed c u) (respects.malformed c u);
       faulted = λ c f on. respects.faulted c f;
     };
     takes = λ c u v is. keeps_all c v (respects.takes c u v is);

@@ -6,7 +6,7 @@ use Rattle.wl_wire.specs.Message.{WireMessage}
 use Rattle.wl_link.specs.Exchange.{Queue}
 use Rattle.wl_link.specs.Link.{LinkState}
 use Rattle.wl_link.specs.Puts.{FlushesOut, PutsOut, Said}
-use Rattle.wl_link.specs.Reader.{Given, Lacks, ReaderState, Reader, ReadsAs, Verdict, put_and_gave}
+use Rattle.wl_link.specs.Reader.{Given, Lacks, ReaderState, Reader, ReadsAs, Unreadable, Verdict, put_and_gave, unreadable_front}
 use Rattle.wl_link.specs.Served.{NoneFits, Rests, ServesOne}
 use Rattle.wl_link.specs.Stretch.{IsOver}
 use Rattle.wl_link.proofs.Calls.FoundLaws.{Fronts, front_of}
@@ -47,8 +47,9 @@ module _ {T Core Event Finish : Type 0} (sends : T → Queue → Result ℕ IoFa
     pub record GoesOnSo : Type 0 where
       pub reads : (p : ReaderState T Core) (m : WireMessage) (link : LinkState T) → ReadsAs sends reader p (Ok m) link → Holds p.link → Holds link
       pub handles : (c : Core) (m : WireMessage) (link : LinkState T) → Holds link → CarriedSo (reader.handles c m) link
-      pub malformed : (c : Core) (link : LinkState T) → Holds link → CarriedSo (reader.malformed c) link
-      pub over : (c : Core) (link : LinkState T) (holds : Holds link) → IsOver reader (malformed c link holds).carried.after.core
+      pub malformed : (c : Core) (u : Unreadable) (link : LinkState T) → Holds link → CarriedSo (reader.malformed c u) link
+      pub over : (c : Core) (u : Unreadable) (link : LinkState T) (holds : Holds link)
+          → IsOver reader (malformed c u link holds).carried.after.core
       pub takes : (c : Core) (u : Finish) (v : Verdict Core Event) (link : LinkState T) → reader.takes c u ≡ Some v → Holds link → CarriedSo v link
 
   resting : (p : ReaderState T Core) (finishes : List Finish) → Rests sends reader p finishes → SomethingIsServed sends reader p finishes
@@ -88,10 +89,11 @@ module _ {T Core Event Finish : Type 0} (sends : T → Queue → Result ℕ IoFa
     by_front : reader.reads_on p.core ≡ true → Fronts (reader.signature p.core) p.link → SomethingIsServed sends reader p finishes
     by_front reads (inl lacks) = resting p finishes (at_true (NoneFits sends reader p.core finishes) (reader.reads_on p.core) reads lacks)
     by_front reads (inr (inl malformed)) =
-        let c = (goes.malformed p.core p.link holds).carried in
+        let u = unreadable_front sends reader p in
+        let c = (goes.malformed p.core u p.link holds).carried in
         turn_more p c.after finishes finishes c.gave
-        (serves_hearing sends reader p c.after finishes c.gave reads (reader.malformed p.core, p.link, c.sent, inr (malformed, refl, refl), c.carried))
-        (resting_over c.after finishes (goes.over p.core p.link holds))
+        (serves_hearing sends reader p c.after finishes c.gave reads (reader.malformed p.core u, p.link, c.sent, inr (malformed, refl, refl), c.carried))
+        (resting_over c.after finishes (goes.over p.core u p.link holds))
     by_front reads (inr (inr (m, link, read, shorter))) =
         let so = goes.handles p.core m link (goes.reads p m link read holds) in
         let c = so.carried in
@@ -117,7 +119,7 @@ module _ {T Core Event Finish : Type 0} (sends : T → Queue → Result ℕ IoFa
       always_served_so (λ (link : LinkState T). Unit {0}) (record {
         reads = λ p m link read holds. tt;
         handles = λ c m link holds. record { carried = goes.handles c m link; holds = tt };
-        malformed = λ c link holds. record { carried = goes.malformed c link; holds = tt };
-        over = λ c link holds. goes.over c link;
+        malformed = λ c u link holds. record { carried = goes.malformed c u link; holds = tt };
+        over = λ c u link holds. goes.over c u link;
         takes = λ c u v link takes holds. record { carried = goes.takes c u v link takes; holds = tt };
       }) p finishes tt

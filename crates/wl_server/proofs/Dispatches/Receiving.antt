@@ -31,7 +31,7 @@ use Rattle.wl_server.proofs.Dispatches.Waiting.{stops_left, unread_goes, unread_
 use Rattle.wl_server.proofs.OverRuns.Alone.IsolationLaw.{same_self}
 use Rattle.wl_server.proofs.OverRuns.Cut.RoomLaws.{no_more, none_sent, received, received_deeds}
 use Rattle.wl_server.proofs.OverRuns.Moves.BaseMoves.{Doings, Goes, Moves, followed, handed_out, notes_taken, moved, stayed, taken_out, unfelt, within}
-use Rattle.wl_server.proofs.OverRuns.Moves.BaseMovesLaw.{reads_of}
+use Rattle.wl_server.specs.Broken.{reads_of}
 
 -- ---- a call that does not read the client
 

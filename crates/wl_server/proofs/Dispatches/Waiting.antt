@@ -42,7 +42,8 @@ use Rattle.wl_server.specs.Telling.{Core, Finish, Stops, Told, core_of, reader_p
 use Rattle.wl_server.proofs.OverRuns.Alone.IsolationLaw.{same_self}
 use Rattle.wl_server.proofs.OverRuns.Ids.ReplyLaws.{own_step}
 use Rattle.wl_server.proofs.OverRuns.Moves.BaseMoves.{Doings, Goes, Kind, Moves, followed, handed_out, notes_taken, moved, stayed, taken_out, unfelt, within}
-use Rattle.wl_server.proofs.OverRuns.Moves.BaseMovesLaw.{AnyGoes, any_moves, reads_of}
+use Rattle.wl_server.proofs.OverRuns.Moves.BaseMovesLaw.{AnyGoes, any_moves}
+use Rattle.wl_server.specs.Broken.{reads_of}
 use Rattle.wl_server.proofs.OverRuns.Moves.MovesOfReadings.{gave_none}
 
 -- ---- what calls keep

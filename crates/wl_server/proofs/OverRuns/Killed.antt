@@ -1,2 +1,3 @@
--- How a killed client is read, until a cleanup takes it out, and after that.
+-- How a killed client is read, until a cleanup takes it out, and after that; and of which clients it is kept how they broke the protocol.
 pub mod KilledLaws
+pub mod ViolationLaws

@@ -23,7 +23,7 @@ use Rattle.wl_server.specs.PartStep.{Asked, World, around}
 use Rattle.wl_server.specs.Steps.{Makes}
 use Rattle.wl_server.specs.Plain.{client_in, object_in}
 use Rattle.wl_server.specs.Plain.Reading.{IsHandedOut, IsOld, OpenReadAs, ReadAs, ReadingMemory, ReadsClient, ReadsWithin}
-use Rattle.wl_server.specs.Reading.{Around, NextAction, action_content, answered, new_reading, read_on, binds, breaks, converted, garbled, other_request, server, registers, syncs}
+use Rattle.wl_server.specs.Reading.{Around, NextAction, action_content, answered, new_reading, read_on, binds, breaks, converted, garbled, other_request, server, registers, syncs, unread}
 use Rattle.wl_server.specs.ReadingEnds.{ComesOfLast, EndsForAReason, ReadingEnds}
 use Rattle.wl_server.specs.Server.{Seen, seen}
 use Rattle.wl_server.specs.Telling.{Core, end_deeds, part_of, reader_part, Told, closed_down, objects_in, core_of}
@@ -34,6 +34,7 @@ use Rattle.wl_wire.specs.Message.{WireMessage}
 use Rattle.wl_wire.specs.Table.{MessageRow, callback_id, registry_id}
 use Rattle.wl_link.specs.declared.object.Object.{Object}
 use Rattle.wl_server.specs.declared.objects.Kept.{Kept}
+use Rattle.wl_server.specs.declared.reading.violation.Violation.{Violation}
 use Rattle.wl_server.specs.Requests.{Outcome, convert, start, Whole, Wrong, is_valid_new, made_object, with_made}
 use Rattle.wl_server.proofs.OverRuns.Announced.RequestCases.{request_case}
 use Rattle.std.proofs.lemmas.Bool.{ne_eqb}
@@ -102,13 +103,13 @@ module _ {U G C : Type 0} (a : Around G C) (c : Core U C) where
   keeps_by o stay v core starved last =
       record { carried = λ put others wrote is written. (grind (arith, objects_in, closed_down)); starved = λ asks. (grind (arith, objects_in)) }
 
-  breaks_keeps : (code : ℕ) (text : List ℕ) → Keeps (breaks a c code text)
-  breaks_keeps code text = keeps_by (objects_in c) (ids_same (objects_in c)) (breaks a c code text) refl refl (λ d. refl)
+  breaks_keeps : (w : Violation) (code : ℕ) (text : List ℕ) → Keeps (breaks a c w code text)
+  breaks_keeps w code text = keeps_by (objects_in c) (ids_same (objects_in c)) (breaks a c w code text) refl refl (λ d. refl)
 
   converted_keeps : (m : WireMessage) (receiver : Object (Kept U)) (row : MessageRow) (o : Outcome U)
       → Came (λ ids objects. IdsStay (objects_in c) objects) o
       → Keeps (converted a c m receiver row o)
-  converted_keeps m receiver row (Wrong w objects) so = keeps_by objects so.1 _ refl refl (λ d. refl)
+  converted_keeps m receiver row (Wrong place w objects) so = keeps_by objects so.1 _ refl refl (λ d. refl)
   converted_keeps m receiver row (Whole d args) so = keeps_by d.objects so.0 _ refl refl (λ e. refl)
 
   other_keeps : (m : WireMessage) (receiver : Object (Kept U)) (row : MessageRow) → Keeps (other_request a c m receiver row)
@@ -118,10 +119,10 @@ module _ {U G C : Type 0} (a : Around G C) (c : Core U C) where
       (λ ids o n i valid so. (grind (arith, is_some, objects_in c, ids_by_new o n i receiver.version valid))) (λ ids o n x there so. so)
       (λ ids o so. so)
       (start (objects_in c) row) [] m.args (ids_same (objects_in c), λ id among. among)) in
-      either_request (nat_lt receiver.version row.since) Keeps (breaks_keeps 1 _) so
+      either_request (nat_lt receiver.version row.since) Keeps (breaks_keeps _ 1 _) so
 
-  garbled_keeps : Keeps (garbled c)
-  garbled_keeps = keeps_by (objects_in c) (ids_same (objects_in c)) (garbled c) refl refl (λ d. refl)
+  garbled_keeps : (w : Violation) → Keeps (garbled c w)
+  garbled_keeps w = keeps_by (objects_in c) (ids_same (objects_in c)) (garbled c w) refl refl (λ d. refl)
 
   handles_keeps : (m : WireMessage) → Keeps ((server a).handles c m)
   handles_keeps m =
@@ -143,7 +144,7 @@ module _ {T U G C : Type 0} (sends : T → Queue → Result ℕ IoFault → T �
         same = λ c. ids_same (objects_in c);
         joins = λ c d e gave others. (λ first second. grind (arith, is_some, objects_in c, objects_in d, objects_in e));
         handles = λ c m on. handles_keeps a c m;
-        malformed = λ c on. garbled_keeps a c;
+        malformed = λ c u on. garbled_keeps a c (unread a.table c.store u);
         faulted = λ c f on. (grind (arith, ids_same, objects_in));
       })
       left before end turns out reads

@@ -1,20 +1,22 @@
 -- How a reading ends, over its turns; and that only the end of its client is noted in it.
-use Rattle.std.proofs.Common.{◌≡◌, ℕ, List, [], ◌++◌, map, Result, refl, sym, ap, subst, ◌∙◌, arith, ◌⊎◌, Bool, true, false, not, cond, eqb, eqb-true, ◌&&◌, ◌∷◌, append-nil, append_assoc, Option, None, Some, is_none, is_some, Ok, Err, true≢false, MatchOption, ap₂}
+use Rattle.std.proofs.Common.{◌≡◌, ℕ, List, [], ◌++◌, map, Result, refl, sym, ap, subst, ◌∙◌, arith, ◌⊎◌, Bool, true, false, not, cond, eqb, eqb-true, ◌&&◌, ◌∷◌, append-nil, append_assoc, Option, None, Some, is_none, is_some, Ok, Err, true≢false, MatchOption, ap₂, length, is_ok}
 use Rattle.std.specs.Prelude.{nat_lt, IsSome, MatchOption, MatchResult, ◌||◌, option_map}
 use Rattle.wl_wire.specs.declared.error.IoFault.{IoFault}
 use Rattle.wl_wire.specs.Message.{WireMessage}
+use Rattle.wl_wire.specs.Parse.{opcode_of, sender_of}
 use Rattle.wl_wire.specs.Table.{MessageRow, display_id, registry_id, is_new_id}
 use Rattle.wl_link.specs.declared.object.Object.{Object}
 use Rattle.wl_link.specs.Exchange.{Queue, Sending}
 use Rattle.wl_link.specs.Puts.{Said, lacks_memory}
-use Rattle.wl_link.specs.Reader.{Gives, Reads, Turn, Verdict, came_to, put_and_gave, ReaderState, CarriesOut, Given, Handled, HandedOut, Halts, ReadsAs, Received, Unread, given_first, stops, with_link}
+use Rattle.wl_link.specs.Reader.{Gives, Reads, Turn, Verdict, came_to, put_and_gave, ReaderState, CarriesOut, Given, Handled, HandedOut, Halts, ReadsAs, Received, Unread, given_first, stops, unreadable, unreadable_front, with_link}
 use Rattle.wl_link.proofs.Readings.RespectLaws.{reads_respect}
 use Rattle.wl_link.specs.Respect.{Keeps}
 use Rattle.wl_server.specs.declared.objects.Kept.{Kept}
 use Rattle.wl_server.specs.Deeds.{Deed, Put, came_in, notes_in, Handed, Remembered}
-use Rattle.wl_server.specs.Reading.{Around, breaks, converted, exchanges_in, garbled, server, action_in, answered, binds, binds_to, by_interface, display_request, hands_out, may_bind, new_at, other_request, reads_on, registry_request, replies, request, row_in, stops_if, synced, with_registry, registers, syncs, unless_passed}
+use Rattle.wl_server.specs.Reading.{Around, breaks, converted, exchanges_in, garbled, server, action_in, answered, binds, binds_to, by_interface, display_request, hands_out, may_bind, new_at, other_request, reads_on, refuses_bind, registry_request, replies, request, row_in, sent_to, stops_if, synced, unless_passed, unread, with_registry, registers, syncs}
 use Rattle.wl_server.specs.Requests.{Outcome, Whole, Wrong, convert, start, is_valid_new, made_id, made_object, with_made, Converted, Converting, allows_null, convert_one, going_on, kinds_after, object_found, with_new_argument, with_object_argument}
 use Rattle.wl_server.specs.Telling.{Core, Told, deeds_in, deeds_of, end_deeds, objects_in, Did, deletions, done_message, introductions, reader_part, with_objects}
+use Rattle.wl_server.specs.Violations.{Addressed, interface_of, violation}
 use Rattle.wl_server.proofs.OverRuns.Announced.RequestCases.{request_case}
 use Rattle.wl_server.proofs.OverRuns.Moves.BaseMoves.{Doings}
 use Rattle.wl_server.proofs.OverRuns.Moves.DoingsLaws.{doings_in_both, told_deeds}
@@ -36,7 +38,7 @@ use Rattle.wl_server.specs.Limited.{limit_passed}
 use Rattle.wl_server.specs.Globals.{global_at, shown}
 use Rattle.wl_server.specs.Ids.{IdParts, ClientParts}
 use Rattle.wl_server.specs.Part.{Part, id_at, fresh_object, null_id}
-use Rattle.wl_server.specs.ReadingEnds.{ComesOfFront, FoundNoMessage, LastReceiveFailed, LeavesClient, MakesItsObject, ReadingEnds, StopsItself, TookMessage, TurnLeads, ObjectsFit, new_id_in}
+use Rattle.wl_server.specs.ReadingEnds.{BrokeOrClosed, ComesOfFront, FoundNoMessage, IsOfFront, KeepsFront, KeepsNone, LastReceiveFailed, LeavesClient, MakesItsObject, ReadingEnds, StopsItself, TookMessage, TurnLeads, ObjectsFit, new_id_in}
 use Rattle.wl_server.proofs.OverRuns.Moves.MovesOfRequests.{valid_new}
 use Rattle.wl_server.proofs.Plain.Base.{none_and_some, when_false, when_true}
 use Rattle.wl_server.proofs.Plain.Verdicts.{carried, no_flush}
@@ -56,6 +58,9 @@ use Rattle.wl_server.specs.declared.reading.action.OpenAction.TheVariants as ope
 use Rattle.wl_server.specs.Deeds as deeds
 use Rattle.wl_server.specs.Telling as telling
 use Rattle.wl_server.specs.declared.reading.response.RequestFault.TheVariants as wrong
+use Rattle.wl_server.specs.declared.reading.violation.MessageFault.{MessageFault}
+use Rattle.wl_server.specs.declared.reading.violation.MessageFault.TheVariants as message
+use Rattle.wl_server.specs.declared.reading.violation.Violation.{Violation}
 
 -- ---- what is noted in a reading
 
@@ -98,11 +103,11 @@ module _ {T U G C : Type 0} (sends : T → Queue → Result ℕ IoFault → T �
       (record {
         same = λ c. (refl, refl);
         joins = λ c d e gave others x y. subst Bare (sym (deeds_append gave others)) (bare_both (deeds_in gave) (deeds_in others) x y);
-        handles = λ c m on. verdict_bare c ((server a).handles c m) (request_case a c IsBare (λ d. (refl, refl)) (λ code text d. (refl, refl))
+        handles = λ c m on. verdict_bare c ((server a).handles c m) (request_case a c IsBare (λ w d. (refl, refl)) (λ w code text d. (refl, refl))
             (λ n valid. (λ d. grind (arith, told_deeds))) (λ n valid.
             (λ d. grind (arith, told_deeds))) (λ g version n x valid d. (refl, refl)) m
             (λ receiver row holds other. (grind (arith, nat_lt, breaks, converted, convert, start, objects_in, converted_bare))));
-        malformed = λ c on. verdict_bare c (garbled c) (λ d. (refl, refl));
+        malformed = λ c u on. verdict_bare c (garbled c (unread a.table c.store u)) (λ d. (refl, refl));
         faulted = λ c f on. (refl, refl);
       })
       left before end turns out reads
@@ -230,7 +235,7 @@ module _ {U : Type 0} (client : ClientParts) (version : ℕ) where
   Came d done args (Whole e all) =
       (more : List (Argument IdParts Token)) × (all ≡ done ++ more) × (map wire_argument more ≡ args) × Grown d.objects.store e.objects.store
       × ObjectsFit client e.objects.store d.kinds d.asked more × Making d e more
-  Came d done args (Wrong w objects) = Unit {0}
+  Came d done args (Wrong place w objects) = Unit {0}
 
   came_then : (d next : Converting U) (done : List (Argument IdParts Token)) (b : Argument IdParts Token) (x : WireArgument)
       (args : List WireArgument) → One d x (Ok (b, next))
@@ -243,11 +248,11 @@ module _ {U : Type 0} (client : ClientParts) (version : ℕ) where
     fit e.objects.store more grown' fits',
     makes e more grown' made,
   )
-  came_then d next done b x args so (Wrong w objects) h = tt
+  came_then d next done b x args so (Wrong place w objects) h = tt
 
   goes_on : (d : Converting U) (done : List (Argument IdParts Token)) (x : WireArgument) (args : List WireArgument) (r : Converted U) → One d x r
       → ((next : Converting U) (all : List (Argument IdParts Token)) → Came next all args (convert client version next all args))
-      → Came d done (x ∷ args) (going_on r d.objects (λ b next. convert client version next (done ++ b ∷ []) args))
+      → Came d done (x ∷ args) (going_on r (length done) d.objects (λ b next. convert client version next (done ++ b ∷ []) args))
   goes_on d done x args (Ok (b, next)) so rest =
       came_then d next done b x args so (convert client version next (done ++ b ∷ []) args) (rest next (done ++ b ∷ []))
   goes_on d done x args (Err w) so rest = tt
@@ -320,9 +325,10 @@ module _ {U G C : Type 0} (a : Around G C) (c : Core U C) (P : Verdict (Core U C
   abbrev AreUnbound : List WireArgument → Type 0
   AreUnbound args = (g version n : ℕ) (name : Option (List ℕ)) → ¬ (args ≡ arg.Uint g ∷ arg.Str name ∷ arg.Uint version ∷ arg.NewId n ∷ [])
 
-  bound_case : (args : List WireArgument) → (AreUnbound args → P (garbled c)) → ((code : ℕ) (text : List ℕ) → P (breaks a c code text)) → Bound args
-      → P (registry_request a c args)
-  bound_case args garbled' breaks' bound = grind (arith, args, held, binds_to, may_bind, is_valid_new, objects_in, true≢false)
+  bound_case : (to : Addressed) (args : List WireArgument) → (AreUnbound args → (f : MessageFault) → P (garbled c (violation to f)))
+      → ((f : MessageFault) (code : ℕ) (text : List ℕ) → P (breaks a c (violation to f) code text)) → Bound args
+      → P (registry_request a c to args)
+  bound_case to args garbled' breaks' bound = grind (arith, args, held, binds_to, refuses_bind, may_bind, is_valid_new, objects_in, true≢false)
 
   -- ---- a request to a display
 
@@ -330,33 +336,39 @@ module _ {U G C : Type 0} (a : Around G C) (c : Core U C) (P : Verdict (Core U C
   abbrev AreUnasked : List WireArgument → Type 0
   AreUnasked args = (n : ℕ) → ¬ (args ≡ arg.NewId n ∷ [])
 
-  asked_case : (opcode : ℕ) (args : List WireArgument) → (AreUnasked args → P (garbled c)) → ((code : ℕ) (text : List ℕ) → P (breaks a c code text))
-      → ((n : ℕ) → P (syncs a c n)) → ((n : ℕ) → P (registers a c n)) → P (display_request a c opcode args)
-  asked_case opcode args garbled' breaks' syncs' registers' = grind (arith, new_id_text, args, eqb opcode 0, objects_in c, true≢false)
+  asked_case : (to : Addressed) (opcode : ℕ) (args : List WireArgument)
+      → (AreUnasked args → (f : MessageFault) → P (garbled c (violation to f)))
+      → ((f : MessageFault) (code : ℕ) (text : List ℕ) → P (breaks a c (violation to f) code text))
+      → ((n : ℕ) → P (syncs a c n)) → ((n : ℕ) → P (registers a c n)) → P (display_request a c to opcode args)
+  asked_case to opcode args garbled' breaks' syncs' registers' = grind (arith, new_id_text, args, eqb opcode 0, objects_in c, true≢false)
 
 module _ {T U G C : Type 0} (sends : T → Queue → Result ℕ IoFault → T → Type 0) (receives : T → ℕ → Result Queue IoFault → T → Type 0)
     (a : Around G C) where
   -- what is answered at the end of a reading for what the message at the front came to in this turn
   abbrev pub Answers : Turn → ReaderState T (Core U C) → Result Handed ActionError → ReaderState T (Core U C) → Type 0
-  Answers t before (Ok h) end = (end.core.is_killed ≡ false) × (end.core.ended ≡ None) × TookOne t × ComesOfFront sends a h before end
+  Answers t before (Ok h) end =
+      (end.core.is_killed ≡ false) × (end.core.ended ≡ None) × KeepsNone before end × TookOne t × ComesOfFront sends a h before end
   Answers t before (Err (Io fault.Proto)) end =
-      FoundNoMessage sends a t before × (end.core.ended ≡ Some ConnectionClosed) × LeavesClient fault.Proto end.core
-  Answers t before (Err (Io fault.Pipe)) end = TookMessage sends a t before × IsSome end.core.ended × LeavesClient fault.Pipe end.core
+      FoundNoMessage sends a t before × KeepsFront before end × (end.core.ended ≡ Some ConnectionClosed) × LeavesClient fault.Proto end.core
+  Answers t before (Err (Io fault.Pipe)) end =
+      TookMessage sends a t before × BrokeOrClosed before before end × IsSome end.core.ended × LeavesClient fault.Pipe end.core
   Answers t before (Err e) end = ⊥
 
   answers_end : (t : Turn) (before : ReaderState T (Core U C)) (refused : Bool) (left : ℕ) (answer : Result Handed ActionError)
       (end : ReaderState T (Core U C)) → Answers t before answer end
       → ReadingEnds sends receives a before (t ∷ []) answer refused left end
-  answers_end t before refused left (Ok h) end (live, fresh, (es, is), comes) =
-      (live, fresh, ([], es, before, ap (λ (u : Turn). u ∷ []) is, refl, comes))
-  answers_end t before refused left (Err (Io fault.Proto)) end (found, is, leaves) = (inr (([], t, before, refl, refl, found), is), leaves)
-  answers_end t before refused left (Err (Io fault.Pipe)) end (took, is, leaves) = (inr (([], t, before, refl, refl, took), is), leaves)
+  answers_end t before refused left (Ok h) end (live, fresh, none, (es, is), comes) =
+      (live, fresh, none, ([], es, before, ap (λ (u : Turn). u ∷ []) is, refl, comes))
+  answers_end t before refused left (Err (Io fault.Proto)) end (found, front, is, leaves) =
+      (inr (([], t, before, refl, refl, (found, front)), is), leaves)
+  answers_end t before refused left (Err (Io fault.Pipe)) end (took, keeps, is, leaves) =
+      (inr (([], t, before, refl, refl, (took, keeps)), is), leaves)
   answers_end t before refused left _ end so = absurd so
 
   -- what a verdict came to: the client is read on, and nothing is answered; or this is answered
   abbrev pub Turned : Turn → ReaderState T (Core U C) → List (Given (Told U)) → Bool → ReaderState T (Core U C) → Type 0
   Turned t before first lacked mid =
-      (IsRead mid.core × Silent first × (lacked ≡ false))
+      (IsRead mid.core × Silent first × (lacked ≡ false) × KeepsNone before mid)
       ⊎ ((reads_on mid.core ≡ false) × (Answers t before (action_in first) mid × MemoryOf (action_in first) lacked))
 
   abbrev Turns : (List Sending → Turn) → ReaderState T (Core U C) → Verdict (Core U C) (Told U) → LinkState T → Type 0
@@ -371,10 +383,10 @@ module _ {T U G C : Type 0} (sends : T → Queue → Result ℕ IoFault → T �
 
   -- ---- bytes that are no message
 
-  pub garbled_turns : (turn : List Sending → Turn) (before : ReaderState T (Core U C)) (c : Core U C) → IsRead c
-      → ((es : List Sending) → FoundNoMessage sends a (turn es) before)
-      → (link : LinkState T) → Turns turn before (garbled c) link
-  garbled_turns turn before c h1 h2 link = grind (arith, true≢false, not_read, action_in, behind_puts, not, is_none, is_some, lacks_memory, no_flush)
+  pub garbled_turns : (turn : List Sending → Turn) (before : ReaderState T (Core U C)) (c : Core U C) (w : Violation) → IsOfFront before w
+      → IsRead c → ((es : List Sending) → FoundNoMessage sends a (turn es) before)
+      → (link : LinkState T) → Turns turn before (garbled c w) link
+  garbled_turns turn before c w front h1 h2 link = grind (arith, true≢false, not_read, action_in, behind_puts, not, is_none, is_some, lacks_memory, no_flush)
 
   -- ---- a client that broke the protocol
 
@@ -382,13 +394,14 @@ module _ {T U G C : Type 0} (sends : T → Queue → Result ℕ IoFault → T �
   Ended e = (e.is_killed ≡ true) × IsSome e.ended × (e.action ≡ None)
 
   ended_turned : (t : Turn) (before : ReaderState T (Core U C)) (first : List (Given (Told U))) (lacked : Bool) (mid : ReaderState T (Core U C))
-      → TookMessage sends a t before
+      → TookMessage sends a t before → BrokeOrClosed before before mid
       → action_in first ≡ Err (Io fault.Pipe) → Ended mid.core → Turned t before first lacked mid
-  ended_turned t before first lacked mid took is ended = grind (arith, not_read)
+  ended_turned t before first lacked mid took keeps is ended = grind (arith, not_read)
 
-  breaks_turns : (turn : List Sending → Turn) (before : ReaderState T (Core U C)) (m : Core U C) (code : ℕ) (text : List ℕ) → IsRead m
-      → ((es : List Sending) → TookMessage sends a (turn es) before) → (link : LinkState T) → Turns turn before (breaks a m code text) link
-  breaks_turns turn before m code text h1 h2 link = grind (arith, ended_turned, action_in, behind_puts, true≢false, is_some, not_read)
+  breaks_turns : (turn : List Sending → Turn) (before : ReaderState T (Core U C)) (m : Core U C) (w : Violation) → IsOfFront before w
+      → (code : ℕ) (text : List ℕ) → IsRead m
+      → ((es : List Sending) → TookMessage sends a (turn es) before) → (link : LinkState T) → Turns turn before (breaks a m w code text) link
+  breaks_turns turn before m w front code text h1 h2 link = grind (arith, ended_turned, action_in, behind_puts, true≢false, is_some, not_read)
 
   -- ---- a request that the server answers
 
@@ -404,23 +417,23 @@ module _ {T U G C : Type 0} (sends : T → Queue → Result ℕ IoFault → T �
   handed_both (e ∷ x) y = ap (λ (es : List (Given (Told U))). HandedOut e ∷ es) (handed_both x y)
 
   replies_turns : (turn : List Sending → Turn) (before : ReaderState T (Core U C)) (m : Core U C) (puts : List Said) (did : List (Deed U)) → Mute did
-      → IsRead m
+      → IsRead m → m.violation ≡ before.core.violation
       → ((es : List Sending) → TookMessage sends a (turn es) before) → (link : LinkState T) → Turns turn before (replies m puts did) link
-  replies_turns turn before m puts did h1 h2 h3 link = grind (arith, true≢false, is_some, put_and_gave, map, stops_if, stops_when, lacks_memory, no_flush, append-nil, append_assoc, behind_puts, came_to, server, replies, ended_turned, action_in, handed_both, not_read)
+  replies_turns turn before m puts did h1 h2 same h3 link = grind (arith, true≢false, is_some, put_and_gave, map, stops_if, stops_when, lacks_memory, no_flush, append-nil, append_assoc, behind_puts, came_to, server, replies, ended_turned, action_in, handed_both, not_read)
 
   -- ---- an action
 
   hands_out_turns : (before : ReaderState T (Core U C)) (m : Core U C) (action : OpenAction) (h : Handed) → m.is_killed ≡ false → m.ended ≡ None
-      → ((link : LinkState T) → ComesOfFront sends a h before (record { core = record m { action = Some action }; link = link }))
+      → m.violation ≡ before.core.violation → ((link : LinkState T) → ComesOfFront sends a h before (record { core = record m { action = Some action }; link = link }))
       → (link : LinkState T)
       → Turns Handled before (hands_out m action h) link
-  hands_out_turns before m action h live fresh comes link es first lacked mid by =
+  hands_out_turns before m action h live fresh same comes link es first lacked mid by =
       let (came, (put, given)) = carried (server a) (λ c f. refl) sends (hands_out m action h) link es first lacked mid by in
       let says : action_in first ≡ Ok h = ap action_in given ∙ behind_puts put _ in
       let core : mid.core ≡ record m { action = Some action } = grind (arith, came, true≢false) in
       let is : mid ≡ record { core = record m { action = Some action }; link = mid.link } = ap (λ (c : Core U C). let x : ReaderState T
       (Core U C) = record { core = c; link = mid.link } in x) core in
-      inr ((grind (arith, core, live)), rw says (((grind (arith, core)), (grind (arith, core)), (es, refl), rw is (comes mid.link)), (grind (arith, came))))
+      inr ((grind (arith, core, live)), rw says (((grind (arith, core)), (grind (arith, core)), ap (λ (c : Core U C). c.violation) core ∙ same, (es, refl), rw is (comes mid.link)), (grind (arith, came))))
 
   module _ (c : Core U C) (r : IsRead c) (from link : LinkState T) (m : WireMessage)
       (read : ReadsAs sends (server a) (record { core = c; link = from }) (Ok m) link) where
@@ -430,15 +443,25 @@ module _ {T U G C : Type 0} (sends : T → Queue → Result ℕ IoFault → T �
     took : (es : List Sending) → TookMessage sends a (Handled es) here
     took es = (m, link, read)
 
+    -- it has the header at the front
+    heads : (m.sender ≡ sender_of from.incoming.bytes) × (m.opcode ≡ opcode_of from.incoming.bytes)
+    heads = grind (arith, true≢false, is_ok)
+
+    -- so has a violation of it
+    front : (receiver : Object (Kept U)) → held c.store m.sender ≡ Some receiver → (f : MessageFault)
+        → IsOfFront here (violation (sent_to m receiver) f)
+    front receiver holds f = record { sender_id = heads.0; opcode = heads.1; interface = sym (ap (interface_of {U = U}) holds) }
+
     converted_turns : (receiver : Object (Kept U)) (row : MessageRow) → held c.store m.sender ≡ Some receiver
         → request_row a.table receiver.interface m.opcode ≡ Some row
         → (o : Outcome U)
         → Came a.client receiver.version (start (objects_in c) row) [] m.args o → Turns Handled here (converted a c m receiver row o) link
-    converted_turns receiver row holds has (Wrong w objects) came =
-        breaks_turns Handled here (with_objects c objects) 0 _ (record { live = r.live; idle = r.idle; fresh = r.fresh }) took link
+    converted_turns receiver row holds has (Wrong place w objects) came =
+        breaks_turns Handled here (with_objects c objects) _ (front receiver holds (message.WrongArgument place w)) 0 _
+        (record { live = r.live; idle = r.idle; fresh = r.fresh }) took link
     converted_turns receiver row holds has (Whole d args) (more, is, numbers, grown, fit, made) =
         hands_out_turns here (with_objects c d.objects) (opened.Request id row.is_destructor d.created)
-        (deeds.Request id m.opcode args row.is_destructor d.created) r.live r.fresh
+        (deeds.Request id m.opcode args row.is_destructor d.created) r.live r.fresh refl
         (λ l. (
           m,
           link,
@@ -460,7 +483,8 @@ module _ {T U G C : Type 0} (sends : T → Queue → Result ℕ IoFault → T �
         → request_row a.table receiver.interface m.opcode ≡ Some row
         → Turns Handled here (other_request a c m receiver row) link
     other_turns receiver row holds has =
-        either_request (nat_lt receiver.version row.since) (λ v. Turns Handled here v link) (breaks_turns Handled here c 1 _ r took link)
+        either_request (nat_lt receiver.version row.since) (λ v. Turns Handled here v link)
+        (breaks_turns Handled here c _ (front receiver holds (message.SinceLater receiver.version row.since)) 1 _ r took link)
         (converted_turns receiver row holds has (convert a.client receiver.version (start (objects_in c) row) [] m.args)
         (converts a.client receiver.version (start (objects_in c) row) [] m.args))
 
@@ -468,7 +492,7 @@ module _ {T U G C : Type 0} (sends : T → Queue → Result ℕ IoFault → T �
         → Bound a c (λ v. Turns Handled here v link) m.args
     binds_turns x holds registry g interface version n kept args there may valid =
         hands_out_turns here (with_objects c (with_made (objects_in c) n kept.interface version)) (opened.Bind (made_id a.client
-        (objects_in c) n kept.interface)) (deeds.Bind (global_at g kept) (made_id a.client (objects_in c) n kept.interface)) r.live r.fresh
+        (objects_in c) n kept.interface)) (deeds.Bind (global_at g kept) (made_id a.client (objects_in c) n kept.interface)) r.live r.fresh refl
         (λ l. (
           m,
           link,
@@ -497,60 +521,71 @@ module _ {T U G C : Type 0} (sends : T → Queue → Result ℕ IoFault → T �
         let (receiver, row, holds, has) = read_row sends a here m link read in
         subst (λ (o : Option (Object (Kept U))). P (request a c m o (row_in a.table o m.opcode))) (sym holds)
         (subst (λ (o : Option MessageRow). P (request a c m (Some receiver) o)) (sym has)
-        (limited (limit_passed a.object_limit m.args) (by_interface a c m receiver row)
+        (limited receiver holds (limit_passed a.object_limit m.args) (by_interface a c m receiver row)
         (go receiver row holds has (eqb receiver.interface.0 display_id.0) (eqb receiver.interface.0 registry_id.0) refl refl)))
       where
         P : Verdict (Core U C) (Told U) → Type 0
         P v = Turns Handled here v link
 
         -- a request that passed the limit breaks the protocol
-        limited : (passed : Option ℕ) (v : Verdict (Core U C) (Told U)) → P v → P (unless_passed a c passed v)
-        limited None v other = other
-        limited (Some limit) v other = breaks_turns Handled here c 2 (limit_text limit) r took link
+        limited : (receiver : Object (Kept U)) → held c.store m.sender ≡ Some receiver → (passed : Option ℕ) (v : Verdict (Core U C) (Told U)) → P v
+            → P (unless_passed a c (sent_to m receiver) passed v)
+        limited receiver holds None v other = other
+        limited receiver holds (Some limit) v other =
+            breaks_turns Handled here c _ (front receiver holds (message.TooManyObjects limit)) 2 (limit_text limit) r took link
 
         go : (receiver : Object (Kept U)) (row : MessageRow) → held c.store m.sender ≡ Some receiver
             → request_row a.table receiver.interface m.opcode ≡ Some row → (b t : Bool)
             → eqb receiver.interface.0 display_id.0 ≡ b → eqb receiver.interface.0 registry_id.0 ≡ t
-            → P (cond b (display_request a c m.opcode m.args) (cond t (registry_request a c m.args) (other_request a c m receiver row)))
+            → P (cond b (display_request a c (sent_to m receiver) m.opcode m.args)
+            (cond t (registry_request a c (sent_to m receiver) m.args) (other_request a c m receiver row)))
         go receiver row holds has true t display registry =
-            asked_case a c P m.opcode m.args
-            (λ unasked. garbled_turns Handled here c r
+            asked_case a c P (sent_to m receiver) m.opcode m.args
+            (λ unasked f. garbled_turns Handled here c _ (front receiver holds f) r
             (λ es. (m, link, read, (receiver, holds, inl (eqb-true receiver.interface.0 display_id.0 display, unasked)))) link)
-            (λ code text. breaks_turns Handled here c code text r took link)
+            (λ f code text. breaks_turns Handled here c _ (front receiver holds f) code text r took link)
             (λ n. replies_turns Handled here (synced a c n) (done_message (new_at a c n) ∷ deletions n) [] (λ rest. refl)
-            (record { live = r.live; idle = r.idle; fresh = r.fresh }) took link)
+            (record { live = r.live; idle = r.idle; fresh = r.fresh }) refl took link)
             (λ n. replies_turns Handled here (with_registry a c n)
-            (introductions a.table (new_at a c n) 0 (shown a.views a.globals a.client c.client_data)) (Remembered (new_at a c n) ∷ []) (λ rest. refl) (record { live = r.live; idle = r.idle; fresh = r.fresh }) took link)
+            (introductions a.table (new_at a c n) 0 (shown a.views a.globals a.client c.client_data)) (Remembered (new_at a c n) ∷ []) (λ rest. refl) (record { live = r.live; idle = r.idle; fresh = r.fresh }) refl took link)
         go receiver row holds has false true display registry =
-            bound_case a c P m.args
-            (λ unbound. garbled_turns Handled here c r
+            bound_case a c P (sent_to m receiver) m.args
+            (λ unbound f. garbled_turns Handled here c _ (front receiver holds f) r
             (λ es. (m, link, read, (receiver, holds, inr (eqb-true receiver.interface.0 registry_id.0 registry, unbound)))) link)
-            (λ code text. breaks_turns Handled here c code text r took link) (binds_turns receiver holds registry)
+            (λ f code text. breaks_turns Handled here c _ (front receiver holds f) code text r took link) (binds_turns receiver holds registry)
         go receiver row holds has false false display registry = other_turns receiver row holds has
 
   -- ---- over the turns
 
   itself_later : (f : IoFault) (t : Turn) (turns : List Turn) (lacked refused : Bool) (left : ℕ) (end start mid : ReaderState T (Core U C))
-      → TurnLeads sends receives a t start mid
+      → TurnLeads sends receives a t start mid → KeepsNone start mid
       → StopsItself sends receives a f mid turns refused left end → StopsItself sends receives a f start (t ∷ turns) (lacked || refused) left end
-  itself_later fault.OutOfMemory t turns lacked refused left end start mid leads (so, asks) = (or_true lacked refused so, asks)
-  itself_later fault.Proto t turns lacked refused left end start mid leads
+  itself_later fault.WouldBlock t turns lacked refused left end start mid leads same (none, lacks, keeps) = (none, lacks, keeps ∙ same)
+  itself_later fault.OutOfMemory t turns lacked refused left end start mid leads same
+      (so, asks, keeps) = (or_true lacked refused so, asks, keeps ∙ same)
+  itself_later fault.Proto t turns lacked refused left end start mid leads same
       (found, so) = ((t ∷ found.0, found.1, found.2, ap (λ (us : List Turn). t ∷ us) found.3, (mid, leads, found.4), found.5), so)
-  itself_later fault.Pipe t turns lacked refused left end start mid leads
-      (took, so) = ((t ∷ took.0, took.1, took.2, ap (λ (us : List Turn). t ∷ us) took.3, (mid, leads, took.4), took.5), so)
-  itself_later _ t turns lacked refused left end start mid leads so = so
+  itself_later fault.Pipe t turns lacked refused left end start mid leads same
+      ((earlier, u, before, split, led, (took, keeps)), so) =
+      ((t ∷ earlier, u, before, ap (λ (us : List Turn). t ∷ us) split, (mid, leads, led), (took, front_or_closed before keeps)), so)
+    where
+      front_or_closed : (before : ReaderState T (Core U C)) → BrokeOrClosed mid before end → BrokeOrClosed start before end
+      front_or_closed before (inl broke) = inl broke
+      front_or_closed before (inr (none, closed)) = inr (none ∙ same, closed)
+  itself_later _ t turns lacked refused left end start mid leads same so = so
 
   -- another turn stands before
   ends_later : (t : Turn) (turns : List Turn) (answer : Result Handed ActionError) (lacked refused : Bool) (left : ℕ) (end : ReaderState T (Core U C))
-      → (start mid : ReaderState T (Core U C)) → TurnLeads sends receives a t start mid
+      → (start mid : ReaderState T (Core U C)) → TurnLeads sends receives a t start mid → KeepsNone start mid
       → ReadingEnds sends receives a mid turns answer refused left end
       → ReadingEnds sends receives a start (t ∷ turns) answer (lacked || refused) left end
-  ends_later t turns (Ok h) lacked refused left end start mid leads (live, fresh, (earlier, es, before, split, led, comes)) =
-      (live, fresh, (t ∷ earlier, es, before, ap (λ (us : List Turn). t ∷ us) split, (mid, leads, led), comes))
-  ends_later t turns (Err ActionOpen) lacked refused left end start mid leads so = so
-  ends_later t turns (Err (Io f)) lacked refused left end start mid leads (inl last, leaves) = (inl (later_turn f t turns last), leaves)
-  ends_later t turns (Err (Io f)) lacked refused left end start mid leads (inr so, leaves) =
-      (inr (itself_later f t turns lacked refused left end start mid leads so), leaves)
+  ends_later t turns (Ok h) lacked refused left end start mid leads same (live, fresh, none, (earlier, es, before, split, led, comes)) =
+      (live, fresh, none ∙ same, (t ∷ earlier, es, before, ap (λ (us : List Turn). t ∷ us) split, (mid, leads, led), comes))
+  ends_later t turns (Err ActionOpen) lacked refused left end start mid leads same so = so
+  ends_later t turns (Err (Io f)) lacked refused left end start mid leads same (inl (last, none), leaves) =
+      (inl (later_turn f t turns last, none ∙ same), leaves)
+  ends_later t turns (Err (Io f)) lacked refused left end start mid leads same (inr so, leaves) =
+      (inr (itself_later f t turns lacked refused left end start mid leads same so), leaves)
 
   pub still_answered : (stopped : Option IoFault) (first gave : List (Given (Told U))) → Silent first
       → answered stopped (first ++ gave) ≡ answered stopped gave
@@ -566,9 +601,9 @@ module _ {T U G C : Type 0} (sends : T → Queue → Result ℕ IoFault → T �
   -- the reading stops here
   halts_end : (left : ℕ) (before : ReaderState T (Core U C)) (out : Gives (Told U)) → IsRead before.core → Halts sends (server a) left before out
       → Done before [] out before
-  halts_end left before out r (inl (lacks, none, is)) = rw is (inr (none, lacks), (r.live, r.fresh, r.idle))
-  halts_end left before out r (inr (inl (asks, is))) = rw is (inr (refl, inl asks), (r.live, r.fresh, r.idle))
-  halts_end left before out r (inr (inr (lacks, (n, one, is)))) = rw is (inr (refl, inr lacks), (r.live, r.fresh, r.idle))
+  halts_end left before out r (inl (lacks, none, is)) = rw is (inr (none, lacks, refl), (r.live, r.fresh, r.idle))
+  halts_end left before out r (inr (inl (asks, is))) = rw is (inr (refl, inl asks, refl), (r.live, r.fresh, r.idle))
+  halts_end left before out r (inr (inr (lacks, (n, one, is)))) = rw is (inr (refl, inr lacks, refl), (r.live, r.fresh, r.idle))
 
   -- an action or a reason is there, and nothing more is read
   no_more : (left : ℕ) (mid end : ReaderState T (Core U C)) (turns : List Turn) (rest : Gives (Told U)) → reads_on mid.core ≡ false
@@ -595,6 +630,17 @@ module _ {T U G C : Type 0} (sends : T → Queue → Result ℕ IoFault → T �
         → (IsRead mid.core → Done mid turns rest end × MemoryAt rest) → Done start (t ∷ turns) out end × MemoryAt out
     then_both split leads turned more on = (then_ends split leads turned more (λ r. (on r).0), then_memory split turned more (λ r. (on r).1))
 
+  -- the violation of malformed bytes is of the front
+  unread_front : (before : ReaderState T (Core U C)) → IsOfFront before (unread a.table before.core.store (unreadable_front sends (server a) before))
+  unread_front before = go ((server a).signature before.core (sender_of raw) (opcode_of raw))
+    where
+      raw : List ℕ
+      raw = before.link.incoming.bytes
+
+      go : (signature : Option (List ArgumentType)) → IsOfFront before (unread a.table before.core.store (unreadable signature raw))
+      go None = record { sender_id = refl; opcode = refl; interface = refl }
+      go (Some signature) = record { sender_id = refl; opcode = refl; interface = refl }
+
   pub read_ends : (left : ℕ) (before : ReaderState T (Core U C)) (turns : List Turn) (out : Gives (Told U)) (end : ReaderState T (Core U C))
       → IsRead before.core
       → Reads sends (server a) receives left before turns out end → Done before turns out end × MemoryAt out
@@ -604,7 +650,7 @@ module _ {T U G C : Type 0} (sends : T → Queue → Result ℕ IoFault → T �
         | inl (u, ok, more) ↦
             let (ends, memory) = read_ends n (with_link before link) turns out end r more in (
               ends_later (Received got) turns (answered out.stopped out.gave) false out.refused out.left end before (with_link before link)
-                  (link, subst (λ (c : Result (Unit {0}) IoFault). FilledBy receives before.link got c link) ok filled, refl) ends,
+                  (link, subst (λ (c : Result (Unit {0}) IoFault). FilledBy receives before.link got c link) ok filled, refl) refl ends,
               memory,
             )
         | inr (f, failed, (over, stopped, same)) ↦ grind (arith, true≢false, is_some, lacks_memory)
@@ -615,7 +661,7 @@ module _ {T U G C : Type 0} (sends : T → Queue → Result ℕ IoFault → T �
       (subst (λ (w : Verdict (Core U C) (Told U)). CarriesOut sends (server a) w link es first lacked mid) is by)) more (λ r'. read_ends left mid turns rest end r' more)
   read_ends left before (Unread es ∷ turns) out end r (on, (v, link, first, lacked, mid, rest, (read, same, is), by, split, more)) =
       then_both (Unread es) before mid end left turns first lacked rest out split (v, link, first, lacked, (read, same, is), by)
-      (grind (arith, garbled_turns, server)) more (λ r'. read_ends left mid turns rest end r' more)
+      (grind (arith, garbled_turns, server, unread_front)) more (λ r'. read_ends left mid turns rest end r' more)
 
   -- a reading of a live client without an open action
   pub reading_ends : (left : ℕ) (before : Part T U C) (turns : List Turn) (out : Gives (Told U)) (end : ReaderState T (Core U C))

@@ -1,5 +1,5 @@
 -- That a reading makes no object above the limit.
-use Rattle.std.proofs.Common.{◌≡◌, ◌≢◌, ◌<◌, ◌≤◌, ◌∙◌, ℕ, Bool, true, false, cond, eqb, List, [], ◌∷◌, ◌++◌, Option, None, Some, Result, Ok, Err, refl, sym, ap, subst, arith, ◌||◌}
+use Rattle.std.proofs.Common.{◌≡◌, ◌≢◌, ◌<◌, ◌≤◌, ◌∙◌, ℕ, Bool, true, false, cond, eqb, List, [], ◌∷◌, ◌++◌, Option, None, Some, Result, Ok, Err, refl, sym, ap, subst, arith, length, ◌||◌}
 use mathlib.Core.Logic.{inl, inr}
 use Rattle.std.specs.Prelude.{nat_lt}
 use Rattle.std.specs.List.{list_any}
@@ -27,17 +27,19 @@ use Rattle.wl_server.specs.declared.objects.Kept.{Kept}
 use Rattle.wl_server.specs.declared.error.ActionError.{ActionError}
 use Rattle.wl_server.specs.declared.reading.response.RequestFault.{RequestFault}
 use Rattle.wl_server.specs.declared.reading.action.Reading.{Reading}
+use Rattle.wl_server.specs.declared.reading.violation.Violation.{Violation}
 use Rattle.wl_server.specs.declared.runs.step.Step.TheVariants as step
 use Rattle.wl_server.specs.Deeds.{Deed, Handed}
 use Rattle.wl_server.specs.Ids.{ClientParts, IdParts}
 use Rattle.wl_server.specs.Limited.{is_new_above, limit_passed}
 use Rattle.wl_server.specs.Part.{Part}
 use Rattle.wl_server.specs.PartStep.{Asked, Call, ReadsFor, World, around}
-use Rattle.wl_server.specs.Reading.{Around, NextAction, binds, binds_to, breaks, by_interface, converted, display_request, faulted, garbled, may_bind, new_reading, other_request, registers, registry_request, request, row_in, server, syncs, unless_passed}
+use Rattle.wl_server.specs.Reading.{Around, NextAction, binds, binds_to, breaks, by_interface, converted, display_request, faulted, garbled, may_bind, new_reading, other_request, registers, registry_request, request, row_in, sent_to, server, syncs, unless_passed, unread}
 use Rattle.wl_server.specs.Requests.{Converted, Converting, Outcome, Whole, Wrong, convert, convert_one, going_on, is_valid_new, made_object, start, with_new_argument, with_object_argument}
 use Rattle.wl_server.specs.Server.{Seen, ServerState, seen}
 use Rattle.wl_server.specs.Steps.{Entry, OneStep}
 use Rattle.wl_server.specs.Telling.{Core, Told, closed_down, objects_in, reader_part}
+use Rattle.wl_server.specs.Violations.{Addressed}
 use Rattle.wl_server.specs.WithinLimit.{ReadsWithinLimit, SameAbove, StaysWithin}
 use Rattle.wl_server.proofs.Plain.Base.{none_and_some, one_value, own, part_of_call}
 use Rattle.wl_server.proofs.Plain.Reading.{comes_to, is_dead, is_open, is_read}
@@ -82,20 +84,20 @@ module _ {U : Type 0} (limit : ℕ) (before : Store (Kept U)) where
     -- and after all
     abbrev SameAll : Outcome U → Type 0
     SameAll (Whole d args) = Same d.objects.store
-    SameAll (Wrong w objects) = Same objects.store
+    SameAll (Wrong place w objects) = Same objects.store
 
-    same_on : (d : Converting U) (r : Converted U) (on : Argument IdParts Token → Converting U → Outcome U) → Same d.objects.store → SameOne r
+    same_on : (d : Converting U) (r : Converted U) (place : ℕ) (on : Argument IdParts Token → Converting U → Outcome U) → Same d.objects.store → SameOne r
         → ((b : Argument IdParts Token) (next : Converting U) → Same next.objects.store → SameAll (on b next))
-        → SameAll (going_on r d.objects on)
-    same_on d (Ok next) on same one more = more next.0 next.1 one
-    same_on d (Err w) on same one more = same
+        → SameAll (going_on r place d.objects on)
+    same_on d (Ok next) place on same one more = more next.0 next.1 one
+    same_on d (Err w) place on same one more = same
 
     same_convert : (d : Converting U) (done : List (Argument IdParts Token)) (args : List WireArgument) → list_any (is_new_above limit) args ≡ false
         → Same d.objects.store → SameAll (convert client version d done args)
     same_convert d done [] within same = same
     same_convert d done (x ∷ args) within same =
         let (first, others) = or_parts (is_new_above limit x) (list_any (is_new_above limit) args) within in
-        same_on d (convert_one client version d x) _ same (same_one d x first same)
+        same_on d (convert_one client version d x) (length done) _ same (same_one d x first same)
         (λ b next so. same_convert next (done ++ b ∷ []) args others so)
 
 -- ---- a verdict
@@ -119,11 +121,11 @@ module _ {U G C : Type 0} (a : Around G C) (limit : ℕ) (c : Core U C) where
       left (Err fault.OutOfMemory) = starved
       left (Err f) = last (closed_down v.core) ∙ core
 
-  keeps_breaks : (code : ℕ) (text : List ℕ) → Keeps (breaks a c code text)
-  keeps_breaks code text = keeps_by c.store (λ n above. refl) (breaks a c code text) refl refl (λ d. refl)
+  keeps_breaks : (w : Violation) (code : ℕ) (text : List ℕ) → Keeps (breaks a c w code text)
+  keeps_breaks w code text = keeps_by c.store (λ n above. refl) (breaks a c w code text) refl refl (λ d. refl)
 
-  keeps_garbled : Keeps (garbled c)
-  keeps_garbled = keeps_by c.store (λ n above. refl) (garbled c) refl refl (λ d. refl)
+  keeps_garbled : (w : Violation) → Keeps (garbled c w)
+  keeps_garbled w = keeps_by c.store (λ n above. refl) (garbled c w) refl refl (λ d. refl)
 
   -- ---- requests to a display and to a registry
 
@@ -146,35 +148,36 @@ module _ {U G C : Type 0} (a : Around G C) (limit : ℕ) (c : Core U C) where
   alone : (n : ℕ) → list_any (is_new_above limit) (arg.NewId n ∷ []) ≡ false → nat_lt limit n ≡ false
   alone n within = (or_parts (nat_lt limit n) false within).0
 
-  keeps_display : (opcode : ℕ) (args : List WireArgument) → list_any (is_new_above limit) args ≡ false → Keeps (display_request a c opcode args)
-  keeps_display opcode (arg.NewId n ∷ []) within =
+  keeps_display : (to : Addressed) (opcode : ℕ) (args : List WireArgument) → list_any (is_new_above limit) args ≡ false
+      → Keeps (display_request a c to opcode args)
+  keeps_display to opcode (arg.NewId n ∷ []) within =
       either_request (is_valid_new (objects_in c) n) Keeps
-      (either_request (eqb opcode 0) Keeps (keeps_syncs n (alone n within)) (keeps_registers n (alone n within))) (keeps_breaks 0 _)
-  keeps_display opcode _ within = keeps_garbled
+      (either_request (eqb opcode 0) Keeps (keeps_syncs n (alone n within)) (keeps_registers n (alone n within))) (keeps_breaks _ 0 _)
+  keeps_display to opcode _ within = keeps_garbled _
 
-  keeps_binds_to : (g : ℕ) (name : Option (List ℕ)) (version n : ℕ) (global : Option (Object (KeptGlobal G))) → nat_lt limit n ≡ false
-      → Keeps (binds_to a c g name version n global)
-  keeps_binds_to g name version n None within = keeps_breaks 0 _
-  keeps_binds_to g name version n (Some x) within =
+  keeps_binds_to : (to : Addressed) (g : ℕ) (name : Option (List ℕ)) (version n : ℕ) (global : Option (Object (KeptGlobal G))) → nat_lt limit n ≡ false
+      → Keeps (binds_to a c to g name version n global)
+  keeps_binds_to to g name version n None within = keeps_breaks _ 0 _
+  keeps_binds_to to g name version n (Some x) within =
       either_request (may_bind a c g name version x) Keeps
-      (either_request (is_valid_new (objects_in c) n) Keeps (keeps_binds g version n x within) (keeps_breaks 0 _)) (keeps_breaks 0 _)
+      (either_request (is_valid_new (objects_in c) n) Keeps (keeps_binds g version n x within) (keeps_breaks _ 0 _)) (keeps_breaks _ 0 _)
 
-  keeps_registry : (args : List WireArgument) → list_any (is_new_above limit) args ≡ false → Keeps (registry_request a c args)
-  keeps_registry (arg.Uint g ∷ arg.Str name ∷ arg.Uint version ∷ arg.NewId n ∷ []) within =
-      keeps_binds_to g name version n (held a.globals.store g) (alone n within)
-  keeps_registry _ within = keeps_garbled
+  keeps_registry : (to : Addressed) (args : List WireArgument) → list_any (is_new_above limit) args ≡ false → Keeps (registry_request a c to args)
+  keeps_registry to (arg.Uint g ∷ arg.Str name ∷ arg.Uint version ∷ arg.NewId n ∷ []) within =
+      keeps_binds_to to g name version n (held a.globals.store g) (alone n within)
+  keeps_registry to _ within = keeps_garbled _
 
   -- ---- other requests
 
   keeps_converted : (m : WireMessage) (receiver : Object (Kept U)) (row : MessageRow) (o : Outcome U) → SameAll limit c.store a.client receiver.version o
       → Keeps (converted a c m receiver row o)
-  keeps_converted m receiver row (Wrong w objects) same = keeps_by objects.store same _ refl refl (λ d. refl)
+  keeps_converted m receiver row (Wrong place w objects) same = keeps_by objects.store same _ refl refl (λ d. refl)
   keeps_converted m receiver row (Whole d args) same = keeps_by d.objects.store same _ refl refl (λ e. refl)
 
   keeps_other : (m : WireMessage) (receiver : Object (Kept U)) (row : MessageRow) → list_any (is_new_above limit) m.args ≡ false
       → Keeps (other_request a c m receiver row)
   keeps_other m receiver row within =
-      either_request (nat_lt receiver.version row.since) Keeps (keeps_breaks 1 _)
+      either_request (nat_lt receiver.version row.since) Keeps (keeps_breaks _ 1 _)
       (keeps_converted m receiver row (convert a.client receiver.version (start (objects_in c) row) [] m.args)
       (same_convert limit c.store a.client receiver.version (start (objects_in c) row) [] m.args within (λ n above. refl)))
 
@@ -184,21 +187,24 @@ module _ {U G C : Type 0} (a : Around G C) (limit : ℕ) (c : Core U C) where
     keeps_within : (m : WireMessage) (receiver : Object (Kept U)) (row : MessageRow) → list_any (is_new_above limit) m.args ≡ false
         → Keeps (by_interface a c m receiver row)
     keeps_within m receiver row within =
-        either_request (eqb receiver.interface.0 display_id.0) Keeps (keeps_display m.opcode m.args within)
-        (either_request (eqb receiver.interface.0 registry_id.0) Keeps (keeps_registry m.args within) (keeps_other m receiver row within))
+        either_request (eqb receiver.interface.0 display_id.0) Keeps (keeps_display (sent_to m receiver) m.opcode m.args within)
+        (either_request (eqb receiver.interface.0 registry_id.0) Keeps (keeps_registry (sent_to m receiver) m.args within)
+        (keeps_other m receiver row within))
 
     -- it passed the limit, or did not
-    keeps_limited : (args : List WireArgument) (v : Verdict (Core U C) (Told U)) (b : Bool) → list_any (is_new_above limit) args ≡ b
+    keeps_limited : (to : Addressed) (args : List WireArgument) (v : Verdict (Core U C) (Told U)) (b : Bool) → list_any (is_new_above limit) args ≡ b
         → (list_any (is_new_above limit) args ≡ false → Keeps v)
-        → Keeps (unless_passed a c (cond b (Some limit) None) v)
-    keeps_limited args v true is within = keeps_breaks 2 _
-    keeps_limited args v false is within = within is
+        → Keeps (unless_passed a c to (cond b (Some limit) None) v)
+    keeps_limited to args v true is within = keeps_breaks _ 2 _
+    keeps_limited to args v false is within = within is
 
     keeps_request : (m : WireMessage) (receiver : Option (Object (Kept U))) (row : Option MessageRow) → Keeps (request a c m receiver row)
     keeps_request m (Some receiver) (Some row) =
-        subst (λ (l : Option ℕ). Keeps (unless_passed a c (limit_passed l m.args) (by_interface a c m receiver row))) (sym limited)
-        (keeps_limited m.args (by_interface a c m receiver row) (list_any (is_new_above limit) m.args) refl (keeps_within m receiver row))
-    keeps_request m _ _ = keeps_garbled
+        subst (λ (l : Option ℕ). Keeps (unless_passed a c (sent_to m receiver) (limit_passed l m.args) (by_interface a c m receiver row))) (sym limited)
+        (keeps_limited (sent_to m receiver) m.args (by_interface a c m receiver row) (list_any (is_new_above limit) m.args) refl (keeps_within m receiver row))
+    keeps_request m None None = keeps_garbled _
+    keeps_request m None (Some row) = keeps_garbled _
+    keeps_request m (Some receiver) None = keeps_garbled _
 
     keeps_handles : (m : WireMessage) → Keeps ((server a).handles c m)
     keeps_handles m = keeps_request m (held c.store m.sender) (row_in a.table (held c.store m.sender) m.opcode)
@@ -220,7 +226,7 @@ module _ {T U G C : Type 0} (sends : T → Queue → Result ℕ IoFault → T �
         same = λ c n above. refl;
         joins = λ c d e gave others one more n above. more n above ∙ one n above;
         handles = λ c m on. keeps_handles a limit c limited m;
-        malformed = λ c on. keeps_garbled a limit c;
+        malformed = λ c u on. keeps_garbled a limit c (unread a.table c.store u);
         faulted = λ c f on. same_faulted c f;
       })
       left before end turns out reads

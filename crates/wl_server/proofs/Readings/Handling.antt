@@ -10,6 +10,7 @@ use Rattle.wl_link.specs.Reader.{Given, HandedOut, Queued, Verdict, came_to, put
 use Rattle.wl_server.specs.declared.reading.action.OpenAction.{OpenAction}
 use Rattle.wl_server.specs.declared.notes.DisconnectReason.TheVariants.{ConnectionClosed}
 use Rattle.wl_server.specs.declared.reading.action.NoAction.{NoAction}
+use Rattle.wl_server.specs.declared.reading.violation.Violation.{Violation}
 use Rattle.wl_server.specs.declared.reading.action.MessageEnd.{MessageEnd}
 use Rattle.wl_server.specs.declared.reading.action.MessageEnd.TheVariants as came
 use Rattle.wl_server.specs.Inside.Carried.{IsCarried, told_notes}
@@ -18,7 +19,7 @@ use Rattle.wl_server.specs.Deeds.{Deed, Handed}
 use Rattle.wl_server.specs.Errors.{posts}
 use Rattle.wl_server.specs.Part.{display_of}
 use Rattle.wl_server.specs.Inside.Puts.{Puts}
-use Rattle.wl_server.specs.Reading.{Around, action_in, breaks, garbled, hands_out, replies, stops_if}
+use Rattle.wl_server.specs.Reading.{Around, action_in, breaking, breaks, garbled, hands_out, replies, stops_if}
 use Rattle.wl_server.specs.Server.{Stored}
 use Rattle.wl_server.specs.Telling.{Core, Did, Kills, Stops, Told, closed_down, core_of, speaker, killed}
 use Rattle.wl_server.specs.Inside.ReadingLoop.{Acts, Ended, WentOn, IsHandled, Live, MessageResult, message_result, linked, Says}
@@ -72,33 +73,41 @@ module _ {T U C : Type 0} (sends : T → Queue → Result ℕ IoFault → T → 
     after_is = after_is ∙ rw none refl;
   }
 
-  pub garbled_handled : (s after : Stored T U C) → Does s (λ p did q. Kills p ConnectionClosed did q) after
-      → IsHandled sends (garbled (core_of s.part)) s (Ended (record { fault = fault.Proto; refused = false })) after
-  garbled_handled s after kills =
-      handled (garbled (core_of s.part)) s after (Ended (record { fault = fault.Proto; refused = false })) false (
-        closed_down (core_of s.part),
+  -- it is kept how the client broke the protocol
+  abbrev pub broken_by : Stored T U C → Violation → Stored T U C
+  broken_by s w = record s { part = record s.part { violation = Some w } }
+
+  pub garbled_handled : (s after : Stored T U C) (w : Violation) → Does (broken_by s w) (λ p did q. Kills p ConnectionClosed did q) after
+      → IsHandled sends (garbled (core_of s.part) w) s (Ended (record { fault = fault.Proto; refused = false })) after
+  garbled_handled s after w kills =
+      handled (garbled (core_of s.part) w) s after (Ended (record { fault = fault.Proto; refused = false })) false (
+        closed_down (breaking (core_of s.part) w),
         s.part.link,
         inl (Ok tt, s.part.link, [], false, puts_none sends s.part.link, (refl, refl, refl), refl, refl),
-        kills_is s after ConnectionClosed kills,
+        kills_is (broken_by s w) after ConnectionClosed kills,
       )
       refl (refl, refl, refl)
 
   -- ---- an error
 
-  pub broke : {G : Type 0} (a : Around G C) (s after : Stored T U C) (code : ℕ) (text : List ℕ) (refused : Bool)
-      → IsCarried sends (posts a.table (core_of s.part) (display_of a.client) code text) s refused after
-      → IsHandled sends (breaks a (core_of s.part) code text) s (Ended (broken_with refused)) after
-  broke a s after code text refused carried =
-      handled (breaks a (core_of s.part) code text) s after (Ended (broken_with refused)) refused carried refl
+  pub broke : {G : Type 0} (a : Around G C) (s after : Stored T U C) (w : Violation) (code : ℕ) (text : List ℕ) (refused : Bool)
+      → IsCarried sends (posts a.table (core_of (broken_by s w).part) (display_of a.client) code text) (broken_by s w) refused after
+      → IsHandled sends (breaks a (core_of s.part) w code text) s (Ended (broken_with refused)) after
+  broke a s after w code text refused carried =
+      handled (breaks a (core_of s.part) w code text) s after (Ended (broken_with refused)) refused carried refl
       (refl, grind (arith, came_to, speaker, posts, killed, closed_down, carried.2), refl)
 
   -- there was no memory for the text
-  pub broke_starved : {G : Type 0} (a : Around G C) (s after : Stored T U C) (code : ℕ) (text : List ℕ) → s.part.is_killed ≡ false
-      → Does s (λ p did q. Kills p ConnectionClosed did q) after
-      → IsHandled sends (breaks a (core_of s.part) code text) s (Ended (broken_with true)) after
-  broke_starved a s after code text live kills =
-      broke a s after code text true
-      (closed_down (core_of s.part), s.part.link, inr (ap not live, refl, refl, refl), kills_is s after ConnectionClosed kills)
+  pub broke_starved : {G : Type 0} (a : Around G C) (s after : Stored T U C) (w : Violation) (code : ℕ) (text : List ℕ)
+      → s.part.is_killed ≡ false → Does (broken_by s w) (λ p did q. Kills p ConnectionClosed did q) after
+      → IsHandled sends (breaks a (core_of s.part) w code text) s (Ended (broken_with true)) after
+  broke_starved a s after w code text live kills =
+      broke a s after w code text true (
+        closed_down (breaking (core_of s.part) w),
+        s.part.link,
+        inr (ap not live, refl, refl, refl),
+        kills_is (broken_by s w) after ConnectionClosed kills,
+      )
 
   -- ---- a reply, and an action
 

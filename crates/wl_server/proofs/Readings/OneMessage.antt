@@ -6,14 +6,16 @@ use Rattle.wl_wire.specs.declared.argument.Token.{Token}
 use Rattle.wl_wire.specs.declared.error.IoFault.{IoFault}
 use Rattle.wl_wire.specs.declared.error.IoFault.TheVariants as fault
 use Rattle.wl_wire.specs.declared.error.MessageParseError.{MessageParseError}
+use Rattle.wl_wire.specs.declared.interface.InterfaceId.{InterfaceId}
 use Rattle.wl_wire.specs.Message.{WireMessage}
+use Rattle.wl_wire.specs.Parse.{opcode_of, sender_of}
 use Rattle.wl_link.proofs.Calls.Branches.{at_false, at_true}
 use Rattle.wl_link.specs.Exchange.{Queue, Sending}
 use Rattle.wl_link.proofs.Streams.LengthLaws.{carries_stays}
 use Rattle.wl_link.specs.Link.{Filled, FindsRoom, LinkState, ReadOne, grown_capacity, FilledBy}
 use Rattle.wl_link.proofs.Readings.ReaderLoops.{room_found}
 use Rattle.wl_link.specs.Puts.{lacks_memory}
-use Rattle.wl_link.specs.Reader.{CarriesOut, Given, Gives, Halts, Handled, Leaves, Reads, Received, Takes, Turn, Unread, Verdict, given_first, handled_in, stops, ReaderState}
+use Rattle.wl_link.specs.Reader.{CarriesOut, Given, Gives, Halts, Handled, Leaves, Reads, Received, Takes, Turn, Unread, Verdict, given_first, handled_in, stops, unreadable_front, ReaderState}
 use Rattle.wl_link.specs.declared.object.Object.{Object}
 use Rattle.wl_link.specs.Store.{Store, held}
 use Rattle.wl_wire.specs.Table.{InterfaceRow, message_row}
@@ -28,14 +30,16 @@ use Rattle.wl_server.specs.declared.objects.ClientObjects.{ClientObjects}
 use Rattle.wl_server.specs.declared.objects.Kept.{Kept}
 use Rattle.wl_server.specs.declared.reading.front_request.FrontRequest.{FrontRequest}
 use Rattle.wl_server.specs.declared.reading.response.Response.{Response}
+use Rattle.wl_server.specs.declared.reading.violation.Violation.{Violation}
 use Rattle.wl_server.specs.Inside.Client.{Does}
 use Rattle.wl_server.specs.Ids.{IdParts}
-use Rattle.wl_server.specs.Inside.Responses.{TookRequest, core_with, response_to}
+use Rattle.wl_server.specs.Inside.Responses.{TookRequest, addressed_by, core_with, response_to}
 use Rattle.wl_server.specs.Deeds.{Deed, Handed, notes_in}
 use Rattle.wl_server.specs.Part.{Part}
-use Rattle.wl_server.specs.Reading.{Around, action_in, NextAction, answered, exchanges_in, faulted, read_on, reads_on, request, request_to, row_in, server}
+use Rattle.wl_server.specs.Reading.{Around, action_in, NextAction, answered, exchanges_in, faulted, garbled, read_on, reads_on, request, request_to, row_in, server, unread}
 use Rattle.wl_server.specs.Server.{Stored, untimed}
 use Rattle.wl_server.specs.Telling.{Core, Kills, Told, core_of, deeds_in, deeds_of, end_deeds, part_of, reader_part}
+use Rattle.wl_server.specs.Violations.{Addressed, addressed}
 use Rattle.wl_server.specs.Inside.ReadingLoop.{Acts, Ended, EndsAs, Fills, ReadsOn, WentOn, IsHandled, IsFront, LacksIn, LacksMore, Live, ReadsIn, MessageResult, HandlesMessage, answer_of, counted, linked, refused_of, stored_as}
 use Rattle.wl_server.proofs.Readings.Notes.{notes_append, notes_of_sends, made_end}
 use Rattle.wl_server.proofs.ObjectCalls.Posting.{kills_is}
@@ -70,6 +74,20 @@ module _ {T U : Type 0} (table : List InterfaceRow) (store : Store (Kept U)) (li
   pub row_read : (m : WireMessage) → ReadOne (λ _ _ f. f ≡ Some r.desc.now.signature.items) link (Ok m) after
       → row_in table (held store m.sender) m.opcode ≡ Some (message_row r.desc.now)
   row_read m read = grind (arith, true≢false, is_ok, front.row)
+
+  -- the message that was read is addressed as the request at the front
+  heads : (m : WireMessage) → ReadOne (λ _ _ f. f ≡ Some r.desc.now.signature.items) link (Ok m) after
+      → (m.sender ≡ sender_of link.incoming.bytes) × (m.opcode ≡ opcode_of link.incoming.bytes)
+  heads m read = grind (arith, true≢false, is_ok)
+
+  pub sent_as : (m : WireMessage) → ReadOne (λ _ _ f. f ≡ Some r.desc.now.signature.items) link (Ok m) after → (x : Object (Kept U))
+      → held store m.sender ≡ Some x → addressed m.sender (Some x) m.opcode ≡ addressed_by r
+  sent_as m read x holds =
+      let h = heads m read in
+      let from = front.sender x (ap (held store) (sym h.0) ∙ holds) in
+      let to : ℕ → InterfaceId → ℕ → Addressed = λ n i o. record { sender = n; interface = i; opcode = o } in
+      ap (λ n. to n x.interface m.opcode) (h.0 ∙ sym front.number)
+      ∙ (ap (λ i. to r.number i m.opcode) from.1 ∙ ap (λ o. to r.number r.sender.interface o) (h.1 ∙ sym front.opcode))
 
 module _ {T U G C : Type 0} (sends : T → Queue → Result ℕ IoFault → T → Type 0) (receives : T → ℕ → Result Queue IoFault → T → Type 0)
     (a : Around G C) where
@@ -198,13 +216,17 @@ module _ {T U G C : Type 0} (sends : T → Queue → Result ℕ IoFault → T �
         (λ es. read) to
         after handled fewer
 
+  -- how the bytes at the front break the protocol, if they are malformed
+  abbrev pub found_unread : Part T U C → Violation
+  found_unread p = unread a.table p.store (unreadable_front sends (server a) (reader_part p))
+
   -- malformed bytes stay, and the connection is closed
   pub message_unread : (s : Stored T U C) (r : Reading) (end : NoAction) (after : Stored T U C) → Live s.part → r.read ≤ most
-      → Leaves sends (server a) (reader_part s.part) ((server a).malformed (core_of s.part)) s.part.link
-      → IsHandled sends ((server a).malformed (core_of s.part)) s (Ended end) after → HandlesMessage sends receives a s r (Ended end) after r
+      → Leaves sends (server a) (reader_part s.part) (garbled (core_of s.part) (found_unread s.part)) s.part.link
+      → IsHandled sends (garbled (core_of s.part) (found_unread s.part)) s (Ended end) after → HandlesMessage sends receives a s r (Ended end) after r
   message_unread s r end after live within leaves i =
-      ends_so s r r live ((server a).malformed (core_of s.part)) s.part (λ es. Unread es)
-      (λ m es first lacked mid turns rest last carried reads. (on s r r live, ((server a).malformed (core_of s.part), s.part.link, first, lacked, mid, rest, leaves, carried, refl, reads)))
+      ends_so s r r live (garbled (core_of s.part) (found_unread s.part)) s.part (λ es. Unread es)
+      (λ m es first lacked mid turns rest last carried reads. (on s r r live, (garbled (core_of s.part) (found_unread s.part), s.part.link, first, lacked, mid, rest, leaves, carried, refl, reads)))
       refl (λ es. (omega (arith, within))) (Err end) (Ended end) after i i.says
 
   -- ---- where it halts
@@ -243,20 +265,20 @@ module _ {T U G C : Type 0} (sends : T → Queue → Result ℕ IoFault → T �
     times = s.times;
   }
 
-  pub message_taken : (s : Stored T U C) (r r' : Reading) (link : LinkState T) (objects objects' : ClientObjects U) (response : Response) (f : Found)
+  pub message_taken : (front : FrontRequest) (s : Stored T U C) (r r' : Reading) (link : LinkState T) (objects objects' : ClientObjects U) (response : Response) (f : Found)
       (args : List (Argument IdParts Token))
       (to : MessageResult) (after : Stored T U C)
       → Live s.part → core_with (core_of s.part) s.part.client_data objects ≡ core_of s.part
-      → TookRequest a s.part.client_data objects s.part.link (Ok response) f args objects' link
-      → IsHandled sends (response_to a (core_of (gone_through s link objects').part) response f args) (gone_through s link objects') to after
+      → TookRequest a s.part.client_data front objects s.part.link (Ok response) f args objects' link
+      → IsHandled sends (response_to a (core_of (gone_through s link objects').part) (addressed_by front) response f args) (gone_through s link objects') to after
       → length link.incoming.bytes < length s.part.link.incoming.bytes → r'.turns_left ≡ r.turns_left → r'.read ≡ counted r.read 1
       → HandlesMessage sends receives a s r to after r'
-  message_taken s r r' link objects objects' response f args to after live same (m, row, read, is, responds) handled fewer left count =
+  message_taken front s r r' link objects objects' response f args to after live same (m, row, read, is, responds) handled fewer left count =
       let store : objects.map.store ≡ s.part.store = ap (λ (core : Core U C). core.store) same in
       let (x, holds) : (x : Object (Kept U)) × (held objects.map.store m.sender ≡ Some x) = grind (arith, held objects.map.store m.sender) in
       let here : held s.part.store m.sender ≡ Some x = rw (← store) holds in
       let there : row_in a.table (held s.part.store m.sender) m.opcode ≡ Some row = rw (← store) is in
-      let v = response_to a (core_of (gone_through s link objects').part) response f args in
+      let v = response_to a (core_of (gone_through s link objects').part) (addressed_by front) response f args in
       let verdict : request_to a (core_of s.part) m x row ≡ v
       = subst (λ (core : Core U C). request_to a core m x row ≡ v) same (responds x (core_of s.part) holds) in
       message_handled s r r' live v (gone_through s link objects').part to after

@@ -251,7 +251,7 @@ module _ {U : Type 0} (client : ClientParts) (version : ℕ) (objects : Objects 
         (piece, f.0.1, fds, bytes_are, ap (λ (ts : List Token). ts ++ fds) (sym no_token), is_piece, reads),
         same ∙ no_fd,
         (λ l. both_make_none l a args (makes l) (none l)),
-        (left, ap (λ o. going_on o objects (λ b next. convert client version next (done ++ b ∷ []) args)) converts ∙ is),
+        (left, ap (λ o. going_on o (length done) objects (λ b next. convert client version next (done ++ b ∷ []) args)) converts ∙ is),
       )
 
   -- words that fit are found so

@@ -12,9 +12,12 @@ use Rattle.wl_server.specs.Deeds.{Remembered, Request, Left, Noted}
 use Rattle.wl_server.specs.Errors.{bind_text, error_of, fault_text, new_id_text, since_text, PostsError}
 use Rattle.wl_server.specs.Globals.{Globals, shown}
 use Rattle.wl_server.specs.Part.{display_of, fresh_object, Part, display_object, registries_without}
-use Rattle.wl_server.specs.Reading.{Around, binds_to, breaks, display_request, garbled, hands_out, may_bind, other_request, registry_request, replies, request, request_to, NextAction, new_reading, read_on}
+use Rattle.wl_server.specs.Reading.{Around, binds_to, breaking, breaks, display_request, garbled, hands_out, may_bind, other_request, registry_request, replies, request, request_to, NextAction, new_reading, read_on}
 use Rattle.wl_server.specs.Requests.{is_valid_new, Wrong, convert, object_argument, object_found, start}
 use Rattle.wl_server.specs.Telling.{Core, Stops, closed_down, delete_message, done_message, introductions, killed, objects_in, Kills, global_message, making, removal_message}
+use Rattle.wl_server.specs.Violations.{Addressed, violation}
+use Rattle.wl_server.specs.declared.reading.violation.MessageFault.TheVariants as broken
+use Rattle.wl_server.specs.declared.reading.violation.Violation.{Violation}
 use Rattle.wl_server.proofs.Worked.Messages.{at, client, destroy_row, id_in, link_row, make_row, quad, quad_global, quad_id, says, table, one, other}
 use Rattle.std.specs.FinMap.{entries}
 use Rattle.wl_wire.specs.declared.argument.Argument.{Argument}
@@ -56,17 +59,25 @@ module _ (globals : Globals ℕ) (c : Core ℕ Bool) where
   abbrev seeing : Bool → Core ℕ Bool
   seeing client_data = record c { client_data = client_data }
 
+  -- the object 7 and its request 0
+  abbrev seven : Addressed
+  seven = record { sender = 7; interface = quad_id; opcode = 0 }
+
+  -- the argument at that place may not be the new id
+  abbrev bad_new : Addressed → ℕ → ℕ → Violation
+  bad_new to place n = violation to (broken.WrongArgument place (wrong.InvalidNewId n))
+
   -- ---- requests to a display
 
   -- the callback is gone before anything else is read, its serial is used, and both messages are put
-  a_sync : is_valid_new (objects_in c) 2 ≡ true → display_request around c 0 (arg.NewId 2 ∷ [])
+  a_sync : is_valid_new (objects_in c) 2 ≡ true → display_request around c seven 0 (arg.NewId 2 ∷ [])
       ≡ replies (record c {
         store = removed (stored c.store 2 (fresh_object callback_id 1 (c.last_serial + 1) None)) 2;
         last_serial = c.last_serial + 1;
       }) (done_message (at 2 (c.last_serial + 1)) ∷ delete_message 2 ∷ []) []
   a_sync valid = rw valid refl
 
-  a_registry : is_valid_new (objects_in c) 2 ≡ true → display_request around c 1 (arg.NewId 2 ∷ [])
+  a_registry : is_valid_new (objects_in c) 2 ≡ true → display_request around c seven 1 (arg.NewId 2 ∷ [])
       ≡ replies (record c {
         store = stored c.store 2 (fresh_object registry_id 1 (c.last_serial + 1) None);
         last_serial = c.last_serial + 1;
@@ -75,12 +86,13 @@ module _ (globals : Globals ℕ) (c : Core ℕ Bool) where
   a_registry valid = rw valid refl
 
   -- a new id of the server's range is not free to the client
-  a_sync_of_the_servers_range : display_request around c 0 (arg.NewId 0xFF000000 ∷ []) ≡ breaks around c 0 (new_id_text 0xFF000000)
+  a_sync_of_the_servers_range : display_request around c seven 0 (arg.NewId 0xFF000000 ∷ [])
+      ≡ breaks around c (bad_new seven 0 0xFF000000) 0 (new_id_text 0xFF000000)
   a_sync_of_the_servers_range = refl
 
   -- a new id that is not the first unused one, while the others hold objects
   a_sync_of_a_number_too_far : is_valid_new (objects_in c) 5 ≡ false
-      → display_request around c 0 (arg.NewId 5 ∷ []) ≡ breaks around c 0 (new_id_text 5)
+      → display_request around c seven 0 (arg.NewId 5 ∷ []) ≡ breaks around c (bad_new seven 0 5) 0 (new_id_text 5)
   a_sync_of_a_number_too_far taken = rw taken refl
 
   -- ---- requests to a registry
@@ -99,14 +111,16 @@ module _ (globals : Globals ℕ) (c : Core ℕ Bool) where
   binds_that_may_not = (refl, refl, refl, refl, refl)
 
   -- the global is looked at before the new id is: no global, no name, the server's range
-  refused_binds : (binds_to around c 1 (Some (codes "quad")) 3 0xFF000000 None ≡ breaks around c 0 (bind_text (codes "quad") 3 1))
-      × (binds_to around c 1 None 1 0xFF000000 (Some (quad_global false)) ≡ breaks around c 0 (bind_text [] 1 1))
-      × (binds_to around (seeing true) 1 (Some (codes "quad")) 3 0xFF000000 (Some (quad_global false))
-      ≡ breaks around (seeing true) 0 (new_id_text 0xFF000000))
+  refused_binds : (binds_to around c seven 1 (Some (codes "quad")) 3 0xFF000000 None
+      ≡ breaks around c (violation seven (broken.RefusedBind 1 3 true)) 0 (bind_text (codes "quad") 3 1))
+      × (binds_to around c seven 1 None 1 0xFF000000 (Some (quad_global false))
+      ≡ breaks around c (violation seven (broken.RefusedBind 1 1 false)) 0 (bind_text [] 1 1))
+      × (binds_to around (seeing true) seven 1 (Some (codes "quad")) 3 0xFF000000 (Some (quad_global false))
+      ≡ breaks around (seeing true) (bad_new seven 3 0xFF000000) 0 (new_id_text 0xFF000000))
   refused_binds = (refl, refl, refl)
 
   -- a bound object has the version asked for, and no data yet
-  a_bind : is_valid_new (objects_in c) 3 ≡ true → binds_to around (seeing true) 1 (Some (codes "quad")) 2 3 (Some (quad_global true))
+  a_bind : is_valid_new (objects_in c) 3 ≡ true → binds_to around (seeing true) seven 1 (Some (codes "quad")) 2 3 (Some (quad_global true))
       ≡ hands_out (record (seeing true) {
         store = stored c.store 3 (fresh_object quad_id 2 (c.last_serial + 1) None);
         last_serial = c.last_serial + 1;
@@ -116,11 +130,15 @@ module _ (globals : Globals ℕ) (c : Core ℕ Bool) where
 
   -- ---- other requests
 
+  -- a request to the quad 3
+  abbrev to_quad : ℕ → Addressed
+  to_quad opcode = record { sender = 3; interface = quad_id; opcode = opcode }
+
   -- the version is looked at before the arguments: a make at version 1; and a link to null
   refused_requests : (other_request around c (message 3 1 (arg.NewId 0xFF000000 ∷ [])) old_quad make_row
-      ≡ breaks around c 1 (since_text 1 1 2 (codes "quad") 3))
+      ≡ breaks around c (violation (to_quad 1) (broken.SinceLater 1 2)) 1 (since_text 1 1 2 (codes "quad") 3))
       × (other_request around c (message 3 3 (arg.Object 0 ∷ arg.Object 0 ∷ [])) quad link_row
-      ≡ breaks around c 0 (fault_text table quad_id link_row wrong.NullObject))
+      ≡ breaks around c (violation (to_quad 3) (broken.WrongArgument 1 wrong.NullObject)) 0 (fault_text table quad_id link_row wrong.NullObject))
   refused_requests = (refl, refl)
 
   a_destroy : other_request around c (message 3 2 []) quad destroy_row
@@ -138,26 +156,34 @@ module _ (globals : Globals ℕ) (c : Core ℕ Bool) where
 
   -- each object of the display's interface is treated as a display, and each of the registry's as one, whatever its number
   requests_to : (request_to around c (message 7 0 (arg.NewId 2 ∷ [])) (fresh_object display_id 1 9 None) destroy_row
-      ≡ display_request around c 0 (arg.NewId 2 ∷ []))
-      × (request_to around c (message 7 0 []) (fresh_object registry_id 1 9 None) destroy_row ≡ registry_request around c [])
-      × (request around c (message 7 0 []) None None ≡ garbled c)
+      ≡ display_request around c (record { sender = 7; interface = display_id; opcode = 0 }) 0 (arg.NewId 2 ∷ []))
+      × (request_to around c (message 7 0 []) (fresh_object registry_id 1 9 None) destroy_row
+      ≡ registry_request around c (record { sender = 7; interface = registry_id; opcode = 0 }) [])
+      × (request around c (message 7 0 []) None None
+      ≡ garbled c (violation (record { sender = 7; interface = anonymous_id; opcode = 0 }) broken.UnknownSender))
   requests_to = (refl, refl, refl)
 
   -- ---- what a verdict says
 
   -- An error of a live client is put, unless the display is gone, which it never is; it is flushed; and the client is killed for it. Where there
   -- was no memory for a text, or for a message of the server's own, it is closed.
-  an_error_kills : ((breaks around c 0 []).last c ≡ killed c (BrokeProtocol (error_of table (display_of client) 0 [])))
-      × ((breaks around c 0 []).starved ≡ closed_down c) × ((replies c [] []).starved ≡ closed_down c)
-  an_error_kills = (refl, refl, refl)
+  an_error_kills : (w : Violation) → ((breaks around c w 0 []).last c ≡ killed c (BrokeProtocol (error_of table (display_of client) 0 [])))
+      × ((breaks around c w 0 []).starved ≡ closed_down (breaking c w)) × ((replies c [] []).starved ≡ closed_down c)
+  an_error_kills w = (refl, refl, refl)
 
   -- where it could not be put, the client was closed before
-  an_error_that_was_not_put : c.is_killed ≡ false → (((breaks around c 0 []).last (closed_down c)).ended ≡ Some ConnectionClosed)
-  an_error_that_was_not_put live = rw live refl
+  an_error_that_was_not_put : (w : Violation) → c.is_killed ≡ false → (((breaks around c w 0 []).last (closed_down c)).ended ≡ Some ConnectionClosed)
+  an_error_that_was_not_put w live = rw live refl
 
   -- malformed bytes answer by another fault than all else that kills
-  malformed_bytes : ((garbled c).events c ≡ Stops fault.Proto ∷ []) × ((garbled c).core ≡ closed_down c)
-  malformed_bytes = (refl, refl)
+  malformed_bytes : (w : Violation) → ((garbled c w).events c ≡ Stops fault.Proto ∷ []) × ((garbled c w).core ≡ closed_down (breaking c w))
+  malformed_bytes w = (refl, refl)
+
+  -- it is kept how the client broke the protocol, whatever becomes of the error
+  kept_violations : (w : Violation) → ((garbled c w).core.violation ≡ Some w) × ((breaks around c w 0 []).core.violation ≡ Some w)
+      × ((breaks around c w 0 []).starved.violation ≡ Some w)
+      × (((breaks around c w 0 []).last (breaks around c w 0 []).core).violation ≡ Some w)
+  kept_violations w = (refl, refl, refl, refl)
 
   -- only the first kill counts, and a killed client is read no more behind a reply
   of_the_killed : c.is_killed ≡ true → (killed c ConnectionClosed ≡ record c { is_killed = true })
@@ -205,8 +231,8 @@ module _ (store : Store (Kept ℕ)) where
   null_arguments = (refl, refl)
 
   -- two nulls: the first may stand, the second is refused; and a new id of the server's
-  refused_arguments : (convert client 3 (start objects link_row) [] (arg.Object 0 ∷ arg.Object 0 ∷ []) ≡ Wrong wrong.NullObject objects)
-      × (convert client 3 (start objects make_row) [] (arg.NewId 0xFF000000 ∷ []) ≡ Wrong (wrong.InvalidNewId 0xFF000000) objects)
+  refused_arguments : (convert client 3 (start objects link_row) [] (arg.Object 0 ∷ arg.Object 0 ∷ []) ≡ Wrong 1 wrong.NullObject objects)
+      × (convert client 3 (start objects make_row) [] (arg.NewId 0xFF000000 ∷ []) ≡ Wrong 0 (wrong.InvalidNewId 0xFF000000) objects)
   refused_arguments = (refl, refl)
 
   objects_found : (object_found {U = ℕ} client quad_id 9 None ≡ Err (wrong.UnknownId 9))

@@ -5,7 +5,10 @@ use Rattle.std.specs.Prelude.{codes}
 use Rattle.wl_wire.specs.declared.argument.Argument.TheVariants as arg
 use Rattle.wl_wire.specs.Argument.{WireArgument}
 use Rattle.wl_wire.specs.Message.{WireMessage, piece, size, word}
+use Rattle.wl_wire.specs.declared.interface.InterfaceId.{InterfaceId}
 use Rattle.wl_wire.specs.Table.{display_id}
+use Rattle.wl_server.specs.declared.reading.violation.MessageFault.TheVariants as fault
+use Rattle.wl_server.specs.declared.reading.violation.Violation.{Violation}
 use Rattle.wl_server.specs.declared.runs.step.Reply.TheVariants as reply
 use Rattle.wl_server.specs.declared.runs.step.Step.TheVariants as step
 use Rattle.wl_server.specs.Errors.{limit_text}
@@ -17,6 +20,7 @@ use Rattle.wl_server.specs.Reading.{Around, breaks, display_request, other_reque
 use Rattle.wl_server.specs.Server.{Seen}
 use Rattle.wl_server.specs.Steps.{offer_after}
 use Rattle.wl_server.specs.Telling.{Core, error_message}
+use Rattle.wl_server.specs.Violations.{Addressed, violation}
 use Rattle.wl_server.proofs.Worked.Messages.{client, make_row, quad, quad_id, says, table}
 
 -- ---- numbers
@@ -55,14 +59,22 @@ module _ (globals : Globals ℕ) (c : Core ℕ Bool) where
   abbrev limited : Around ℕ Bool
   limited = record { table = table; client = client; globals = globals; views = says; object_limit = Some 4 }
 
+  abbrev to : ℕ → InterfaceId → ℕ → Addressed
+  to sender interface opcode = record { sender = sender; interface = interface; opcode = opcode }
+
+  abbrev too_many : Addressed → Violation
+  too_many request = violation request (fault.TooManyObjects 4)
+
   -- a sync and another request that pass the limit are refused before anything else is looked at: the second is one that the object's
   -- version lacks
-  refused : (request_to limited c (message 1 0 (arg.NewId 5 ∷ [])) (fresh_object display_id 1 0 None) make_row ≡ breaks limited c 2 (limit_text 4))
-      × (request_to limited c (message 3 1 (arg.NewId 5 ∷ [])) (fresh_object quad_id 1 2 (Some 6)) make_row ≡ breaks limited c 2 (limit_text 4))
+  refused : (request_to limited c (message 1 0 (arg.NewId 5 ∷ [])) (fresh_object display_id 1 0 None) make_row
+      ≡ breaks limited c (too_many (to 1 display_id 0)) 2 (limit_text 4))
+      × (request_to limited c (message 3 1 (arg.NewId 5 ∷ [])) (fresh_object quad_id 1 2 (Some 6)) make_row
+      ≡ breaks limited c (too_many (to 3 quad_id 1)) 2 (limit_text 4))
   refused = (refl, refl)
 
   -- those that do not are as without a limit
   taken : (request_to limited c (message 1 0 (arg.NewId 4 ∷ [])) (fresh_object display_id 1 0 None) make_row
-      ≡ display_request limited c 0 (arg.NewId 4 ∷ []))
+      ≡ display_request limited c (to 1 display_id 0) 0 (arg.NewId 4 ∷ []))
       × (request_to limited c (message 3 1 (arg.NewId 4 ∷ [])) quad make_row ≡ other_request limited c (message 3 1 (arg.NewId 4 ∷ [])) quad make_row)
   taken = (refl, refl)

@@ -21,7 +21,11 @@ use Rattle.wl_server.specs.declared.notes.DisconnectReason.TheVariants.{Protocol
 use Rattle.wl_server.specs.Deeds.{Noted, Put, Sent, Left, Came}
 use Rattle.wl_server.specs.Globals.{Globals, Offer}
 use Rattle.wl_server.specs.Part.{Part, display_object, objects_of, fresh_object}
-use Rattle.wl_server.specs.Reading.{Around, NextAction, new_reading, server, exchanges_in}
+use Rattle.wl_server.specs.Reading.{Around, NextAction, breaking, new_reading, server, exchanges_in}
+use Rattle.wl_server.specs.declared.reading.response.RequestFault.TheVariants as wrong
+use Rattle.wl_server.specs.declared.reading.violation.MessageFault.TheVariants as breach
+use Rattle.wl_server.specs.declared.reading.violation.Violation.{Violation}
+use Rattle.wl_wire.specs.Table.{display_id}
 use Rattle.wl_server.specs.Requests.{is_valid_new}
 use Rattle.wl_server.specs.Telling.{Core, Stops, Told, core_of, delete_message, error_message, killed, deeds_of, reader_part}
 use Rattle.wl_server.proofs.Worked.Messages.{at, client, id_in, is_cons, quad, quad_id, says, table}
@@ -70,6 +74,10 @@ the_send = record { offer = record { bytes = spelling the_error.message; tokens 
 abbrev why : DisconnectReason
 why = BrokeProtocol (record { code = 0; object_id = 1; object_interface = codes "wl_display"; message = codes "Invalid new_id: 5." })
 
+-- the new id is the first argument
+abbrev how : Violation
+how = record { sender_id = 1; interface = display_id; opcode = 0; fault = breach.WrongArgument 0 (wrong.InvalidNewId 5) }
+
 -- a buffer that has room, or may not grow, stays as it is
 stays : (l : LinkState ℕ) (more : ℕ) → (Wants l.limit (needed l more) l.outgoing_capacity → ⊥) → Grown l more l
 stays l more fits = (record { times = 0; grown = omega arith; wanted = λ k less. absurd (omega (arith, less)); enough = fits }, refl)
@@ -87,10 +95,10 @@ module _ (sends : ℕ → Queue → Result ℕ IoFault → ℕ → Type 0) (rece
   before = record p { link = link_with 0 arrived []; is_killed = false; action = None }
 
   abbrev after : Part ℕ ℕ Bool
-  after = record p { link = link_with 1 [] []; is_killed = true; action = None }
+  after = record p { link = link_with 1 [] []; is_killed = true; action = None; violation = Some how }
 
   abbrev end : ReaderState ℕ (Core ℕ Bool)
-  end = record { core = killed (core_of before) why; link = link_with 1 [] [] }
+  end = record { core = killed (breaking (core_of before) how) why; link = link_with 1 [] [] }
 
   it_is_read : ReadsMessage arrived (kind.NewId ∷ []) [] (record { sender = 1; opcode = 0; args = arg.NewId 5 ∷ [] })
   unfolding word piece sender_of second_word word_at counted_at text_of argument_at arguments_at

@@ -1,5 +1,5 @@
 -- What the functions that go through the arguments of a request say to each other.
-use Rattle.std.specs.Prelude.{◌≡◌, ◌≢◌, ℕ, true, false, List, [], ◌∷◌, Option, None, Some, Result, Ok, Err}
+use Rattle.std.specs.Prelude.{◌≡◌, ◌≢◌, ℕ, true, false, List, [], ◌∷◌, Option, None, Some, Result, Ok, Err, length}
 use Rattle.std.specs.List.{list_any}
 use Rattle.wl_wire.specs.declared.argument.Argument.{Argument}
 use Rattle.wl_wire.specs.declared.argument.Argument.TheVariants as arg
@@ -67,9 +67,9 @@ module _ {U : Type 0} where
   abbrev pub Appends : ClientParts → ℕ → Converting U → List (Argument IdParts Token) → WireArgument → Result Unit RequestFault → Converting U → List (Argument IdParts Token) → Type 0
   Appends client version before done a (Ok _) after done' = convert client version before done (a ∷ []) ≡ Whole after done'
   Appends client version before done a (Err wrong) after done' =
-      convert client version before done (a ∷ []) ≡ Wrong wrong after.objects
+      convert client version before done (a ∷ []) ≡ Wrong (length done') wrong after.objects
 
   -- the arguments were gone through to their end, with this outcome
   abbrev pub EndsWhole : Outcome U → Objects (Kept U) → Option IdParts → List (Argument IdParts Token) → Type 0
   EndsWhole (Whole c args) objects created args' = (c.objects ≡ objects) × (c.created ≡ created) × (args ≡ args')
-  EndsWhole (Wrong _ _) objects created args' = ⊥
+  EndsWhole (Wrong _ _ _) objects created args' = ⊥

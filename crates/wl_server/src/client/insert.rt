@@ -102,6 +102,7 @@ impl<T: Drop, U: Drop, C: Drop> Client<T, U, C> {
                 registries: Vec::new(alloc),
             },
             is_killed: false,
+            violation: None,
             action: OpenPlace::new(),
             waiting: WaitingNotes::new(alloc),
             made,

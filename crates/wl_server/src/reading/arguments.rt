@@ -297,7 +297,7 @@ pub fn convert<U: Drop>(
         (convert client version (state objects.old progress.old) converted.old.items args.old)
         (objects_of objects.new) created converted.new.items)
         (λ wrong. convert client version (state objects.old progress.old) converted.old.items args.old
-        ≡ Wrong wrong (objects_of objects.new)) }
+        ≡ Wrong (length converted.new.items) wrong (objects_of objects.new)) }
 {
     for arg in args.iter_mut() {
         convert_one(client, version, objects, progress, arg, converted)?;

@@ -11,6 +11,7 @@ ghost use Rattle.wl_server.specs.Ids.{IdParts};
 ghost use Rattle.wl_server.specs.Reading.{display_request as request_verdict, made_at, registers, syncs};
 ghost use Rattle.wl_server.specs.Inside.Responses.{HasNames, core_with, only_new_id, response_to};
 ghost use Rattle.wl_server.specs.Telling.{Core};
+ghost use Rattle.wl_server.specs.Violations.{Addressed};
 ghost use Rattle.wl_server.specs.Inside.ReadingLoop.{around_of};
 
 use crate::globals::handler::GlobalHandler;
@@ -31,9 +32,9 @@ pub fn display_request<'p, 'm, U: Drop, G: GlobalHandler<C>, C>(
     requires can_make { list_any (λ x. is_new_id (type_of x)) message.now.args.items ≡ true → objects.old.map.reserved ≡ true }
     requires can_register { list_any (λ x. is_new_id (type_of x)) message.now.args.items ≡ true → vec_len objects.old.registries < vec_capacity objects.old.registries }
     ensures names { HasNames result }
-    ensures responds { (c : Core U C) (f : FoundOf) (args : List (Arg IdParts TokenParts))
-        → request_verdict (around_of G.views around.now) (core_with c client_data.now objects.old) message.now.opcode message.now.args.items
-        ≡ response_to (around_of G.views around.now) (core_with c client_data.now objects.new) result f args }
+    ensures responds { (c : Core U C) (to : Addressed) (f : FoundOf) (args : List (Arg IdParts TokenParts))
+        → request_verdict (around_of G.views around.now) (core_with c client_data.now objects.old) to message.now.opcode message.now.args.items
+        ≡ response_to (around_of G.views around.now) (core_with c client_data.now objects.new) to result f args }
 {
     let Some(number) = new_id_in(message) else {
         return Response::Malformed;
@@ -63,17 +64,17 @@ fn sync<'p, 'm, U: Drop, G: GlobalHandler<C>, C>(
 ) -> Response<'p, 'm>
     requires { objects.old.map.reserved ≡ true }
     ensures names { HasNames result }
-    ensures responds { (c : Core U C) (f : FoundOf) (args : List (Arg IdParts TokenParts))
+    ensures responds { (c : Core U C) (to : Addressed) (f : FoundOf) (args : List (Arg IdParts TokenParts))
         → (let before : Core U C = core_with c client_data.now objects.old in
-        made_at (around_of G.views around.now) before number (syncs (around_of G.views around.now) before number))
-        ≡ response_to (around_of G.views around.now) (core_with c client_data.now objects.new) result f args }
+        made_at (around_of G.views around.now) before to 0 number (syncs (around_of G.views around.now) before number))
+        ≡ response_to (around_of G.views around.now) (core_with c client_data.now objects.new) to result f args }
 {
     match make_object(around.client, objects, WL_CALLBACK_INTERFACE, 1, number) {
         Some(id) => {
             objects.map.remove(number);
             Response::Syncs(id)
         }
-        None => Response::Breaks(Breach::InvalidNewId(number)),
+        None => Response::Breaks(Breach::InvalidNewId(0, number)),
     }
 }
 
@@ -87,10 +88,10 @@ fn get_registry<'p, 'm, U: Drop, G: GlobalHandler<C>, C>(
     requires can_make { objects.old.map.reserved ≡ true }
     requires can_register { vec_len objects.old.registries < vec_capacity objects.old.registries }
     ensures names { HasNames result }
-    ensures responds { (c : Core U C) (f : FoundOf) (args : List (Arg IdParts TokenParts))
+    ensures responds { (c : Core U C) (to : Addressed) (f : FoundOf) (args : List (Arg IdParts TokenParts))
         → (let before : Core U C = core_with c client_data.now objects.old in
-        made_at (around_of G.views around.now) before number (registers (around_of G.views around.now) before number))
-        ≡ response_to (around_of G.views around.now) (core_with c client_data.now objects.new) result f args }
+        made_at (around_of G.views around.now) before to 0 number (registers (around_of G.views around.now) before number))
+        ≡ response_to (around_of G.views around.now) (core_with c client_data.now objects.new) to result f args }
 {
     match make_object(around.client, objects, WL_REGISTRY_INTERFACE, 1, number) {
         Some(id) => {
@@ -100,6 +101,6 @@ fn get_registry<'p, 'm, U: Drop, G: GlobalHandler<C>, C>(
                 .push_reserved(Registry { number, serial });
             Response::Registers(id)
         }
-        None => Response::Breaks(Breach::InvalidNewId(number)),
+        None => Response::Breaks(Breach::InvalidNewId(0, number)),
     }
 }

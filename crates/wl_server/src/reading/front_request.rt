@@ -7,8 +7,11 @@ ghost use Rattle.wl_link.specs.declared.object.Object.{Object as ObjectOf};
 ghost use Rattle.wl_server.specs.declared.objects.Kept.{Kept as KeptOf};
 ghost use Rattle.wl_server.specs.Reading.{row_in};
 ghost use Rattle.wl_server.specs.Inside.ReadingLoop.{IsFront, IsSenderOf, NotTaken};
+ghost use Rattle.wl_server.specs.Inside.Responses.{addressed_by};
+ghost use Rattle.wl_server.specs.Violations.{violation};
 
 use crate::objects::Kept;
+use crate::reading::violation::{MessageFault, Violation};
 use wl_link::{BufferedSocket, ObjectMap};
 use wl_wire::{InterfaceId, MessageDesc, MessageParseError, Protocol};
 
@@ -36,8 +39,22 @@ pub struct FrontRequest<'p> {
     pub desc: &'p MessageDesc,
 }
 
+impl FrontRequest<'_> {
+    /// The violation of the protocol that the request is, by what is wrong with it.
+    pub fn violation(&self, fault: MessageFault) -> Violation
+        ensures { result ≡ violation (addressed_by self.now) fault }
+    {
+        Violation {
+            sender_id: self.number,
+            interface: self.sender.interface,
+            opcode: self.opcode,
+            fault,
+        }
+    }
+}
+
 /// The request with this opcode of the object that has the number.
-fn find_request<'p, U: Drop>(
+pub fn find_request<'p, U: Drop>(
     protocol: &'p Protocol,
     objects: &ObjectMap<Kept<U>>,
     number: u32,

@@ -14,7 +14,7 @@ ghost use Rattle.wl_server.specs.Telling.{core_of};
 ghost use Rattle.wl_server.specs.declared.reading.action.Found.{Found as FoundOf};
 ghost use Rattle.wl_server.specs.declared.reading.action.MessageEnd.TheVariants as came;
 ghost use Rattle.wl_server.specs.declared.reading.action.Reading.{Reading as ReadingOf};
-ghost use Rattle.wl_server.specs.Inside.Responses.{HasNames, IsOther, TookRequest, response_to};
+ghost use Rattle.wl_server.specs.Inside.Responses.{HasNames, IsOther, TookRequest, addressed_by, response_to};
 ghost use Rattle.wl_server.specs.Inside.ReadingLoop.{HandlesMessage, IsFront, IsHandled, Live, NotTaken, around_of, found_with, message_result};
 
 use crate::client::Client;
@@ -27,6 +27,7 @@ use crate::reading::action::{Action, Finding, MessageEnd, NoAction, Reading};
 use crate::reading::front_request::{FrontRequest, front_request};
 use crate::reading::request::request;
 use crate::reading::response::Response;
+use crate::reading::violation::{MessageFault, unread};
 use wl_link::{BufferedSocket, Transport, clear_message};
 use wl_wire::{
     Args, INLINE_ARGS, IoFault, Message, MessageDesc, MessageParseError, OutOfMemory, Token,
@@ -85,7 +86,7 @@ fn take_request<'p, 'm, T: Drop, U: Drop, G: GlobalHandler<C> + Drop, C>(
     requires empty { finding.old.args.items ≡ [] }
     requires inline { INLINE_ARGS ≤ finding.old.args.capacity }
     requires place { INLINE_ARGS ≤ message.old.args.capacity }
-    ensures took { TookRequest (around_of G.views around.now) client_data.now objects.old socket.old result finding.new.found finding.new.args.items objects.new socket.new }
+    ensures took { TookRequest (around_of G.views around.now) client_data.now front.now objects.old socket.old result finding.new.found finding.new.args.items objects.new socket.new }
     ensures names { IfOk result HasNames }
     ensures fewer { OnOk result (length socket.new.incoming.bytes < length socket.old.incoming.bytes) }
 {
@@ -230,7 +231,7 @@ impl<T: Transport + Drop, U: Drop, C: Drop> Client<T, U, C> {
                 self.action.open_action(&finding.found);
                 MessageEnd::HandsOut
             }
-            other => self.respond(numbers, around, &other),
+            other => self.respond(numbers, around, front, &other),
         }
     }
 
@@ -239,20 +240,24 @@ impl<T: Transport + Drop, U: Drop, C: Drop> Client<T, U, C> {
         &mut self,
         numbers: &mut NoteNumbers,
         around: &Surroundings<'_, G>,
+        front: &FrontRequest<'_>,
         response: &Response<'_, '_>,
     ) -> MessageEnd
         requires live { Live self.old.part }
         requires names { HasNames response.now }
         requires other { IsOther response.now }
         ensures handled { (f : FoundOf) (args : List (Arg IdParts TokenParts)) (h : Handed) → IsHandled T.sends
-            (response_to (around_of G.views around.now) (core_of self.old.part) response.now f args) self.old (message_result result h) self.new }
+            (response_to (around_of G.views around.now) (core_of self.old.part) (addressed_by front.now) response.now f args) self.old (message_result result h) self.new }
         ensures in_time { NotesInTime self.old.times numbers.old self.new.times numbers.new }
         ensures numbered { IsNumbered (Some self.old) → IsNumbered (Some self.new) }
     {
         match response {
-            Response::Malformed => MessageEnd::Ends(self.kill_for_malformed(numbers)),
+            Response::Malformed => {
+                let violation = front.violation(MessageFault::UnknownOpcode);
+                MessageEnd::Ends(self.kill_for_malformed(numbers, violation))
+            }
             Response::Breaks(breach) => MessageEnd::Ends(self.kill_for_breach(
-                numbers, around, breach,
+                numbers, around, front, breach,
             )),
             Response::Registers(registry) => self.tell_globals(numbers, around, registry),
             Response::Syncs(_) | Response::HandsOut => unreachable!(),
@@ -275,7 +280,10 @@ impl<T: Transport + Drop, U: Drop, C: Drop> Client<T, U, C> {
     {
         match error {
             MessageParseError::MissingData | MessageParseError::MissingFD => MessageEnd::Lacks,
-            MessageParseError::Malformed => MessageEnd::Ends(self.kill_for_malformed(numbers)),
+            MessageParseError::Malformed => {
+                let violation = unread(around.protocol, &self.objects.map, &self.socket);
+                MessageEnd::Ends(self.kill_for_malformed(numbers, violation))
+            }
             MessageParseError::OutOfMemory => MessageEnd::Ends(NoAction {
                 fault: IoFault::OutOfMemory,
                 refused: true,

@@ -10,7 +10,7 @@ ghost use Rattle.wl_link.specs.declared.object.Object.{Object as ObjectOf};
 ghost use Rattle.wl_link.specs.Store.{held};
 ghost use Rattle.wl_server.specs.declared.objects.Kept.{Kept as KeptOf};
 ghost use Rattle.wl_server.specs.Inside.Conversion.{EndsWhole, objects_of};
-ghost use Rattle.wl_server.specs.Reading.{other_request as request_verdict};
+ghost use Rattle.wl_server.specs.Reading.{other_request as request_verdict, sent_to};
 ghost use Rattle.wl_server.specs.Requests.{Wrong, convert as outcome_of, start};
 ghost use Rattle.wl_server.specs.Inside.Responses.{HasNames, core_with, response_to};
 ghost use Rattle.wl_server.specs.Telling.{Core};
@@ -46,7 +46,7 @@ fn convert_request<U: Drop>(
         (λ created. EndsWhole (outcome_of client front.now.sender.version (start (objects_of objects.old) (message_row front.now.desc.now)) [] message.old.args.items)
         (objects_of objects.new) created args.new.items)
         (λ wrong. outcome_of client front.now.sender.version (start (objects_of objects.old) (message_row front.now.desc.now)) [] message.old.args.items
-        ≡ Wrong wrong (objects_of objects.new)) }
+        ≡ Wrong (length args.new.items) wrong (objects_of objects.new)) }
 {
     let desc = front.desc;
     let mut progress = Progress {
@@ -85,7 +85,7 @@ pub fn object_request<'p, 'm, U: Drop, G: GlobalHandler<C>, C>(
     ensures names { HasNames result }
     ensures responds { (x : ObjectOf (KeptOf U)) (c : Core U C) → held objects.old.map.store message.old.sender_id ≡ Some x
         → request_verdict (around_of G.views around.now) (core_with c client_data.now objects.old) (content message.old) x (message_row front.now.desc.now)
-        ≡ response_to (around_of G.views around.now) (core_with c client_data.now objects.new) result finding.new.found finding.new.args.items }
+        ≡ response_to (around_of G.views around.now) (core_with c client_data.now objects.new) (sent_to (content message.old) x) result finding.new.found finding.new.args.items }
 {
     let number = message.sender_id;
     let opcode = message.opcode;
@@ -104,6 +104,9 @@ pub fn object_request<'p, 'm, U: Drop, G: GlobalHandler<C>, C>(
             finding.found = Found::Request(sender, opcode, desc.is_destructor, created);
             Response::HandsOut
         }
-        Err(wrong) => Response::Breaks(Breach::WrongArgument(interface, desc, wrong)),
+        Err(wrong) => {
+            let place = finding.args.len();
+            Response::Breaks(Breach::WrongArgument(interface, desc, place, wrong))
+        }
     }
 }

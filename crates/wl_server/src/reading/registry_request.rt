@@ -11,6 +11,7 @@ ghost use Rattle.wl_server.specs.Ids.{IdParts};
 ghost use Rattle.wl_server.specs.Reading.{binds, binds_to, made_at, registry_request as request_verdict};
 ghost use Rattle.wl_server.specs.Inside.Responses.{HasNames, allows, bind_of, bind_parts, core_with, response_to};
 ghost use Rattle.wl_server.specs.Telling.{Core};
+ghost use Rattle.wl_server.specs.Violations.{Addressed};
 ghost use Rattle.wl_server.specs.Inside.ReadingLoop.{around_of};
 
 use crate::globals::KeptGlobal;
@@ -95,9 +96,9 @@ pub fn registry_request<'p, 'm, U: Drop, G: GlobalHandler<C> + Drop, C>(
 ) -> Response<'p, 'm>
     requires { list_any (λ x. is_new_id (type_of x)) message.now.args.items ≡ true → objects.old.map.reserved ≡ true }
     ensures names { HasNames result }
-    ensures responds { (c : Core U C) (args : List (Arg IdParts TokenParts))
-        → request_verdict (around_of G.views around.now) (core_with c client_data.now objects.old) message.now.args.items
-        ≡ response_to (around_of G.views around.now) (core_with c client_data.now objects.new) result found.new args }
+    ensures responds { (c : Core U C) (to : Addressed) (args : List (Arg IdParts TokenParts))
+        → request_verdict (around_of G.views around.now) (core_with c client_data.now objects.old) to message.now.args.items
+        ≡ response_to (around_of G.views around.now) (core_with c client_data.now objects.new) to result found.new args }
 {
     let Some(bind) = bind_in(message) else {
         return Response::Malformed;
@@ -115,9 +116,9 @@ fn bind_to<'p, 'm, U: Drop, G: GlobalHandler<C> + Drop, C>(
 ) -> Response<'p, 'm>
     requires { objects.old.map.reserved ≡ true }
     ensures names { HasNames result }
-    ensures responds { (c : Core U C) (args : List (Arg IdParts TokenParts))
-        → binds_to (around_of G.views around.now) (core_with c client_data.now objects.old) bind.now.global bind.now.interface.now bind.now.version bind.now.number (held around.now.globals.now.store bind.now.global)
-        ≡ response_to (around_of G.views around.now) (core_with c client_data.now objects.new) result found.new args }
+    ensures responds { (c : Core U C) (to : Addressed) (args : List (Arg IdParts TokenParts))
+        → binds_to (around_of G.views around.now) (core_with c client_data.now objects.old) to bind.now.global bind.now.interface.now bind.now.version bind.now.number (held around.now.globals.now.store bind.now.global)
+        ≡ response_to (around_of G.views around.now) (core_with c client_data.now objects.new) to result found.new args }
 {
     let refused = Response::Breaks(Breach::RefusedBind(bind.global, bind.version, bind.interface));
     let Some(global) = around.globals.find(bind.global) else {
@@ -140,10 +141,10 @@ fn make_bound<'p, 'm, U: Drop, G: GlobalHandler<C>, C>(
 ) -> Response<'p, 'm>
     requires { objects.old.map.reserved ≡ true }
     ensures names { HasNames result }
-    ensures responds { (c : Core U C) (args : List (Arg IdParts TokenParts))
+    ensures responds { (c : Core U C) (to : Addressed) (args : List (Arg IdParts TokenParts))
         → (let before : Core U C = core_with c client_data.now objects.old in
-        made_at (around_of G.views around.now) before bind.now.number (binds (around_of G.views around.now) before bind.now.global bind.now.version bind.now.number global.now))
-        ≡ response_to (around_of G.views around.now) (core_with c client_data.now objects.new) result found.new args }
+        made_at (around_of G.views around.now) before to 3 bind.now.number (binds (around_of G.views around.now) before bind.now.global bind.now.version bind.now.number global.now))
+        ≡ response_to (around_of G.views around.now) (core_with c client_data.now objects.new) to result found.new args }
 {
     let number = bind.number;
     match make_object(
@@ -158,6 +159,6 @@ fn make_bound<'p, 'm, U: Drop, G: GlobalHandler<C>, C>(
             *found = Found::Bind(id, object);
             Response::HandsOut
         }
-        None => Response::Breaks(Breach::InvalidNewId(number)),
+        None => Response::Breaks(Breach::InvalidNewId(3, number)),
     }
 }

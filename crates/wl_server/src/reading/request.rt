@@ -9,7 +9,7 @@ ghost use Rattle.wl_wire.specs.Table.{holds_zero, message_row};
 ghost use Rattle.wl_link.specs.declared.object.Object.{Object as ObjectOf};
 ghost use Rattle.wl_link.specs.Store.{held};
 ghost use Rattle.wl_server.specs.declared.objects.Kept.{Kept as KeptOf};
-ghost use Rattle.wl_server.specs.Reading.{by_interface, request_to};
+ghost use Rattle.wl_server.specs.Reading.{by_interface, request_to, sent_to};
 ghost use Rattle.wl_server.specs.Inside.Responses.{HasNames, core_with, response_to};
 ghost use Rattle.wl_server.specs.Telling.{Core};
 ghost use Rattle.wl_server.specs.Inside.ReadingLoop.{IsSenderOf, around_of};
@@ -47,7 +47,7 @@ pub fn request<'p, 'm, U: Drop, G: GlobalHandler<C> + Drop, C>(
     ensures names { HasNames result }
     ensures responds { (x : ObjectOf (KeptOf U)) (c : Core U C) → held objects.old.map.store message.old.sender_id ≡ Some x
         → request_to (around_of G.views around.now) (core_with c client_data.now objects.old) (content message.old) x (message_row front.now.desc.now)
-        ≡ response_to (around_of G.views around.now) (core_with c client_data.now objects.new) result finding.new.found finding.new.args.items }
+        ≡ response_to (around_of G.views around.now) (core_with c client_data.now objects.new) (sent_to (content message.old) x) result finding.new.found finding.new.args.items }
 {
     if let Some(limit) = limit_passed(around.object_limit, message.args.as_slice()) {
         return Response::Breaks(Breach::TooManyObjects(limit));
@@ -74,7 +74,7 @@ fn request_within<'p, 'm, U: Drop, G: GlobalHandler<C> + Drop, C>(
     ensures names { HasNames result }
     ensures responds { (x : ObjectOf (KeptOf U)) (c : Core U C) → held objects.old.map.store message.old.sender_id ≡ Some x
         → by_interface (around_of G.views around.now) (core_with c client_data.now objects.old) (content message.old) x (message_row front.now.desc.now)
-        ≡ response_to (around_of G.views around.now) (core_with c client_data.now objects.new) result finding.new.found finding.new.args.items }
+        ≡ response_to (around_of G.views around.now) (core_with c client_data.now objects.new) (sent_to (content message.old) x) result finding.new.found finding.new.args.items }
 {
     let interface = front.sender.interface;
     if interface == WL_DISPLAY_INTERFACE {

@@ -11,7 +11,8 @@ ghost use Rattle.wl_server.specs.Deeds.{Handed, Remembered};
 ghost use Rattle.wl_server.specs.Globals.{shown};
 ghost use Rattle.wl_server.specs.Part.{id_of};
 ghost use Rattle.wl_server.specs.Reading.{breaks, garbled, replies};
-ghost use Rattle.wl_server.specs.Inside.Responses.{HasName, code_of, text_of};
+ghost use Rattle.wl_server.specs.Inside.Responses.{HasName, addressed_by, code_of, fault_of, text_of};
+ghost use Rattle.wl_server.specs.Violations.{violation};
 ghost use Rattle.wl_server.specs.Telling.{Kills, core_of, deletions, done_message, introductions};
 ghost use Rattle.wl_server.specs.Inside.ReadingLoop.{Ended, IsHandled, Live, around_of, message_result};
 
@@ -25,6 +26,8 @@ use crate::notes::queues::NoteNumbers;
 use crate::posted_errors::{bind_text, fault_text, limit_text, new_id_text, since_text};
 use crate::reading::Surroundings;
 use crate::reading::action::{MessageEnd, NoAction};
+use crate::reading::front_request::FrontRequest;
+use crate::reading::violation::{MessageFault, Violation};
 use std::alloc::Global;
 use wl_link::Transport;
 use wl_wire::{
@@ -33,7 +36,7 @@ use wl_wire::{
 };
 
 /// Why an argument of a request is wrong. The client is killed for it.
-#[derive(Drop)]
+#[derive(Clone, Copy, Debug)]
 pub enum RequestFault {
     /// The client may not make an object with the number of a new id.
     InvalidNewId(u32),
@@ -48,8 +51,8 @@ pub enum RequestFault {
 /// How a client broke the protocol by a request.
 #[derive(Drop)]
 pub enum Breach<'p, 'm> {
-    /// It may not make an object with this number.
-    InvalidNewId(u32),
+    /// It may not make an object with this number, which is the argument at this place.
+    InvalidNewId(usize, u32),
     /// The client may not bind the global of this name in this way. The other two values are the version and the name of
     /// the interface that were asked for.
     RefusedBind(u32, u32, &'m Option<CString>),
@@ -58,8 +61,31 @@ pub enum Breach<'p, 'm> {
     SinceLater(u16, u32, u32, InterfaceId, u32),
     /// It would make an object at a number above this limit.
     TooManyObjects(u32),
-    /// An argument of a request of this interface is wrong.
-    WrongArgument(InterfaceId, &'p MessageDesc, RequestFault),
+    /// The argument at this place of a request of this interface is wrong.
+    WrongArgument(InterfaceId, &'p MessageDesc, usize, RequestFault),
+}
+
+impl Breach<'_, '_> {
+    /// What was wrong with the message.
+    fn fault(&self) -> MessageFault
+        ensures { result ≡ fault_of self.now }
+    {
+        match self {
+            Breach::InvalidNewId(place, number) => {
+                MessageFault::WrongArgument(*place, RequestFault::InvalidNewId(*number))
+            }
+            Breach::RefusedBind(global, version, interface) => {
+                MessageFault::RefusedBind(*global, *version, interface.is_some())
+            }
+            Breach::SinceLater(_, version, since, _, _) => MessageFault::SinceLater(
+                *version, *since,
+            ),
+            Breach::TooManyObjects(limit) => MessageFault::TooManyObjects(*limit),
+            Breach::WrongArgument(_, _, place, fault) => MessageFault::WrongArgument(
+                *place, *fault,
+            ),
+        }
+    }
 }
 
 /// What is still to be done for a request after it changed the client's objects.
@@ -90,7 +116,7 @@ fn breach_error(
     ensures text { IfOk result (λ error. error.1 ≡ text_of protocol.now breach.now) }
 {
     match breach {
-        Breach::InvalidNewId(number) => Ok((0, new_id_text(alloc, *number)?)),
+        Breach::InvalidNewId(_, number) => Ok((0, new_id_text(alloc, *number)?)),
         Breach::RefusedBind(global, version, interface) => {
             Ok((0, bind_text(alloc, interface, *version, *global)?))
         }
@@ -101,21 +127,27 @@ fn breach_error(
             Ok((1, text))
         }
         Breach::TooManyObjects(limit) => Ok((2, limit_text(alloc, *limit)?)),
-        Breach::WrongArgument(interface, desc, wrong) => {
+        Breach::WrongArgument(interface, desc, _, wrong) => {
             Ok((0, fault_text(alloc, protocol, *interface, desc, wrong)?))
         }
     }
 }
 
 impl<T: Transport + Drop, U: Drop, C: Drop> Client<T, U, C> {
-    /// Kills the client with the reason `ConnectionClosed`, because it sent bytes that are no message that it may send.
+    /// Kills the client with the reason `ConnectionClosed`, because it sent bytes that are no message that it may send. How
+    /// they broke the protocol is kept.
     #[cold]
     #[inline(never)]
-    pub fn kill_for_malformed(&mut self, numbers: &mut NoteNumbers) -> NoAction
-        ensures handled { IsHandled T.sends (garbled (core_of self.old.part)) self.old (Ended result) self.new }
+    pub fn kill_for_malformed(
+        &mut self,
+        numbers: &mut NoteNumbers,
+        violation: Violation,
+    ) -> NoAction
+        ensures handled { IsHandled T.sends (garbled (core_of self.old.part) violation) self.old (Ended result) self.new }
         ensures in_time { NotesInTime self.old.times numbers.old self.new.times numbers.new }
         ensures numbered { IsNumbered (Some self.old) → IsNumbered (Some self.new) }
     {
+        self.violation = Some(violation);
         self.kill(numbers, DisconnectReason::ConnectionClosed);
         NoAction {
             fault: IoFault::Proto,
@@ -123,22 +155,24 @@ impl<T: Transport + Drop, U: Drop, C: Drop> Client<T, U, C> {
         }
     }
 
-    /// Kills a live client that broke the protocol: posts the breach as an error on its display. If there is no memory
-    /// for the text, the client is killed with the reason `ConnectionClosed`.
+    /// Kills a live client that broke the protocol by a request to this object: keeps how it did so, and posts that as an
+    /// error on its display. If there is no memory for the text, the client is killed with the reason `ConnectionClosed`.
     #[cold]
     #[inline(never)]
     pub fn kill_for_breach<G: GlobalHandler<C>>(
         &mut self,
         numbers: &mut NoteNumbers,
         around: &Surroundings<'_, G>,
+        front: &FrontRequest<'_>,
         breach: &Breach<'_, '_>,
     ) -> NoAction
         requires live { self.old.part.is_killed ≡ false }
         requires name { HasName breach.now }
-        ensures handled { IsHandled T.sends (breaks (around_of G.views around.now) (core_of self.old.part) (code_of breach.now) (text_of around.now.protocol.now breach.now)) self.old (Ended result) self.new }
+        ensures handled { IsHandled T.sends (breaks (around_of G.views around.now) (core_of self.old.part) (violation (addressed_by front.now) (fault_of breach.now)) (code_of breach.now) (text_of around.now.protocol.now breach.now)) self.old (Ended result) self.new }
         ensures in_time { NotesInTime self.old.times numbers.old self.new.times numbers.new }
         ensures numbered { IsNumbered (Some self.old) → IsNumbered (Some self.new) }
     {
+        self.violation = Some(front.violation(breach.fault()));
         let alloc = self.alloc();
         let Ok((code, text)) = breach_error(alloc, around.protocol, breach) else {
             let refused = self.kill_unless_written(numbers, Err(IoFault::OutOfMemory));

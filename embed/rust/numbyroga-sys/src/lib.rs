@@ -532,6 +532,55 @@ plain! {
     }
 }
 
+/// A violation, malformed: no object had the number.
+pub const NB_VIOLATION_UNKNOWN_SENDER: u32 = 1;
+/// A violation, malformed: the interface has no such request.
+pub const NB_VIOLATION_UNKNOWN_OPCODE: u32 = 2;
+/// A violation, malformed: by its header the message had fewer bytes than a header.
+pub const NB_VIOLATION_SHORT_HEADER: u32 = 3;
+/// A violation, malformed: the message ended before the argument did.
+pub const NB_VIOLATION_MISSING_BYTES: u32 = 4;
+/// A violation, malformed: the argument, a string, had no zero at its end, or another zero.
+pub const NB_VIOLATION_UNENDED_STRING: u32 = 5;
+/// A violation, the request is there since the version `wanted`, the object has `found`.
+pub const NB_VIOLATION_SINCE_LATER: u32 = 6;
+/// A violation, the global `number` could not be bound in the version `wanted`.
+pub const NB_VIOLATION_REFUSED_BIND: u32 = 7;
+/// A violation, the same; the name of the interface was null.
+pub const NB_VIOLATION_NULL_NAME: u32 = 8;
+/// A violation, the client could not make an object `number`.
+pub const NB_VIOLATION_INVALID_NEW_ID: u32 = 9;
+/// A violation, there was no object `number`.
+pub const NB_VIOLATION_UNKNOWN_ID: u32 = 10;
+/// A violation, the object `number` was of the interface `found`, not `wanted`.
+pub const NB_VIOLATION_WRONG_INTERFACE: u32 = 11;
+/// A violation, the object was null, and the table does not allow that.
+pub const NB_VIOLATION_NULL_OBJECT: u32 = 12;
+/// A violation, an object at a number above the limit of objects, which is `wanted`.
+pub const NB_VIOLATION_TOO_MANY_OBJECTS: u32 = 13;
+
+plain! {
+    /// How a client broke the protocol by a message. What a kind does not name is 0.
+    nb_violation: 32, 4 {
+        /// What was wrong: [`NB_VIOLATION_UNKNOWN_SENDER`], ..
+        kind: u32 = 0,
+        /// The number of the object that the message was sent to.
+        sender: u32 = 4,
+        /// The interface of that object; 0 if no object had the number.
+        interface: u32 = 8,
+        /// The opcode.
+        opcode: u32 = 12,
+        /// The place of the argument, from 0.
+        argument: u32 = 16,
+        /// An object, or a global.
+        number: u32 = 20,
+        /// A version, an interface, or the limit of objects.
+        wanted: u32 = 24,
+        /// A version or an interface.
+        found: u32 = 28,
+    }
+}
+
 plain! {
     /// A client that is gone.
     nb_gone: 32, 8 {
@@ -954,6 +1003,12 @@ unsafe extern "C" {
         place: &mut nb_server,
         client: &nb_client_id,
         waiting: &mut nb_waiting,
+    ) -> nb_status;
+    /// How a client broke the protocol, if it was killed for a message.
+    pub safe fn nb_server_violation(
+        place: &mut nb_server,
+        client: &nb_client_id,
+        violation: &mut nb_violation,
     ) -> nb_status;
     /// Takes the clients out that were killed.
     pub safe fn nb_server_cleanup(place: &mut nb_server) -> nb_status;

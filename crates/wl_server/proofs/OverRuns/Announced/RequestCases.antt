@@ -1,6 +1,6 @@
 -- What a request may come to: one of a few verdicts, whatever is asked of them.
-use Rattle.std.proofs.Common.{◌≡◌, ℕ, true, false, eqb, List, Option, None, Some, refl, arith}
-use Rattle.std.specs.Option.{option_map_or}
+use Rattle.std.proofs.Common.{◌≡◌, ℕ, Bool, true, false, cond, eqb, List, [], ◌∷◌, Option, None, Some, refl, arith}
+use Rattle.wl_wire.specs.declared.argument.Argument.TheVariants as arg
 use Rattle.wl_wire.specs.Argument.{WireArgument}
 use Rattle.wl_wire.specs.Message.{WireMessage}
 use Rattle.wl_wire.specs.Table.{MessageRow, display_id, registry_id}
@@ -9,29 +9,63 @@ use Rattle.wl_link.specs.Reader.{Verdict}
 use Rattle.wl_link.specs.Store.{held}
 use Rattle.wl_server.specs.declared.objects.Kept.{Kept}
 use Rattle.wl_server.specs.declared.globals.KeptGlobal.{KeptGlobal}
-use Rattle.wl_server.specs.Errors.{limit_text}
-use Rattle.wl_server.specs.Reading.{Around, binds, breaks, by_interface, display_request, garbled, made_at, may_bind, other_request, registers, request, row_in, server, syncs, unless_passed}
+use Rattle.wl_server.specs.declared.reading.violation.Violation.{Violation}
 use Rattle.wl_server.specs.Limited.{limit_passed}
+use Rattle.wl_server.specs.Reading.{Around, binds, binds_to, breaks, by_interface, display_request, garbled, may_bind, other_request, refuses_bind, registers, registry_request, request, row_in, sent_to, server, syncs, unless_passed}
 use Rattle.wl_server.specs.Requests.{is_valid_new}
 use Rattle.wl_server.specs.Telling.{Core, Told, objects_in}
+use Rattle.wl_server.specs.Violations.{Addressed, violation}
+use Rattle.wl_server.specs.Errors.{limit_text, new_id_text}
+use Rattle.wl_server.specs.declared.reading.response.RequestFault.TheVariants as wrong
+use Rattle.wl_server.specs.declared.reading.violation.MessageFault.TheVariants as message
 
-module _ {U G C : Type 0} (a : Around G C) (c : Core U C) (P : Verdict (Core U C) (Told U) → Type 0) (garbled' : P (garbled c))
-    (breaks' : (code : ℕ) (text : List ℕ) → P (breaks a c code text)) where
+module _ {U G C : Type 0} (a : Around G C) (c : Core U C) (P : Verdict (Core U C) (Told U) → Type 0)
+    (garbled' : (w : Violation) → P (garbled c w)) (breaks' : (w : Violation) (code : ℕ) (text : List ℕ) → P (breaks a c w code text)) where
   module _ (syncs' : (n : ℕ) → is_valid_new (objects_in c) n ≡ true → P (syncs a c n))
       (registers' : (n : ℕ) → is_valid_new (objects_in c) n ≡ true → P (registers a c n)) where
-    pub display_case : (opcode : ℕ) (args : List WireArgument) → P (display_request a c opcode args)
-    display_case opcode h2 = grind (arith, breaks, eqb)
+    pub display_case : (to : Addressed) (opcode : ℕ) (args : List WireArgument) → P (display_request a c to opcode args)
+    display_case to opcode h2 = grind (arith, breaks, eqb)
 
-    -- a request to this object, of whatever kind, that did not pass the limit
-    kind_case : ((g version n : ℕ) (x : Object (KeptGlobal G)) → is_valid_new (objects_in c) n ≡ true → P (binds a c g version n x)) → (m : WireMessage)
-        → (receiver : Object (Kept U)) (row : MessageRow)
-        → (eqb receiver.interface.0 registry_id.0 ≡ false → P (other_request a c m receiver row))
-        → P (by_interface a c m receiver row)
-    kind_case binds' m receiver row other = grind (arith, eqb, display_id, registry_id, display_case, may_bind, made_at, binds, breaks, option_map_or)
+  -- a bind to the global that has the name, and any other request to a registry
+  module _ (binds' : (g version n : ℕ) (x : Object (KeptGlobal G)) → is_valid_new (objects_in c) n ≡ true → P (binds a c g version n x)) where
+    bound_case : (to : Addressed) (g : ℕ) (name : Option (List ℕ)) (version n : ℕ) (kept : Option (Object (KeptGlobal G)))
+        → P (binds_to a c to g name version n kept)
+    bound_case to g name version n None = breaks' _ 0 _
+    bound_case to g name version n (Some x) = by (may_bind a c g name version x) (is_valid_new (objects_in c) n) refl
+      where
+        by : (may valid : Bool) → is_valid_new (objects_in c) n ≡ valid
+            → P (cond may
+            (cond valid (binds a c g version n x) (breaks a c (violation to (message.WrongArgument 3 (wrong.InvalidNewId n))) 0 (new_id_text n)))
+            (refuses_bind a c to g name version))
+        by true true is = binds' g version n x is
+        by true false is = breaks' _ 0 _
+        by false valid is = breaks' _ 0 _
 
-  limit_case : (limit : Option ℕ) (v : Verdict (Core U C) (Told U)) → P v → P (unless_passed a c limit v)
-  limit_case None v h = h
-  limit_case (Some limit) v h = breaks' 2 (limit_text limit)
+    registry_case : (to : Addressed) (args : List WireArgument) → P (registry_request a c to args)
+    registry_case to (arg.Uint g ∷ arg.Str name ∷ arg.Uint version ∷ arg.NewId n ∷ []) =
+        bound_case to g name version n (held a.globals.store g)
+    registry_case to _ = garbled' _
+
+  -- a request to this object, of whatever kind, that did not pass the limit
+  kind_case : ((n : ℕ) → is_valid_new (objects_in c) n ≡ true → P (syncs a c n))
+      → ((n : ℕ) → is_valid_new (objects_in c) n ≡ true → P (registers a c n))
+      → ((g version n : ℕ) (x : Object (KeptGlobal G)) → is_valid_new (objects_in c) n ≡ true → P (binds a c g version n x)) → (m : WireMessage)
+      → (receiver : Object (Kept U)) (row : MessageRow)
+      → (eqb receiver.interface.0 registry_id.0 ≡ false → P (other_request a c m receiver row))
+      → P (by_interface a c m receiver row)
+  kind_case syncs' registers' binds' m receiver row other =
+      by (eqb receiver.interface.0 display_id.0) (eqb receiver.interface.0 registry_id.0) refl
+    where
+      by : (b t : Bool) → eqb receiver.interface.0 registry_id.0 ≡ t
+          → P (cond b (display_request a c (sent_to m receiver) m.opcode m.args)
+          (cond t (registry_request a c (sent_to m receiver) m.args) (other_request a c m receiver row)))
+      by true t is = display_case syncs' registers' (sent_to m receiver) m.opcode m.args
+      by false true is = registry_case binds' (sent_to m receiver) m.args
+      by false false is = other is
+
+  limit_case : (to : Addressed) (limit : Option ℕ) (v : Verdict (Core U C) (Told U)) → P v → P (unless_passed a c to limit v)
+  limit_case to None v h = h
+  limit_case to (Some limit) v h = breaks' _ 2 (limit_text limit)
 
   -- a message, of whatever kind
   pub request_case : ((n : ℕ) → is_valid_new (objects_in c) n ≡ true → P (syncs a c n))
@@ -40,14 +74,12 @@ module _ {U G C : Type 0} (a : Around G C) (c : Core U C) (P : Verdict (Core U C
       → ((receiver : Object (Kept U)) (row : MessageRow) → held c.store m.sender ≡ Some receiver → eqb receiver.interface.0 registry_id.0 ≡ false
       → P (other_request a c m receiver row))
       → P ((server a).handles c m)
-  request_case syncs' registers' binds' m others = by (held c.store m.sender) refl
+  request_case syncs' registers' binds' m others = at (held c.store m.sender) (row_in a.table (held c.store m.sender) m.opcode) refl
     where
-      of : (receiver : Object (Kept U)) → held c.store m.sender ≡ Some receiver → (row : Option MessageRow) → P (request a c m (Some receiver) row)
-      of receiver at None = garbled'
-      of receiver at (Some row) =
-          limit_case (limit_passed a.object_limit m.args) (by_interface a c m receiver row)
-          (kind_case syncs' registers' binds' m receiver row (others receiver row at))
-
-      by : (o : Option (Object (Kept U))) → held c.store m.sender ≡ o → P (request a c m o (row_in a.table o m.opcode))
-      by None at = garbled'
-      by (Some receiver) at = of receiver at (row_in a.table (Some receiver) m.opcode)
+      at : (o : Option (Object (Kept U))) (r : Option MessageRow) → held c.store m.sender ≡ o → P (request a c m o r)
+      at None None is = garbled' _
+      at None (Some row) is = garbled' _
+      at (Some x) None is = garbled' _
+      at (Some x) (Some row) is =
+          limit_case (sent_to m x) (limit_passed a.object_limit m.args) (by_interface a c m x row)
+          (kind_case syncs' registers' binds' m x row (others x row is))

@@ -20,6 +20,7 @@ use Rattle.wl_server.specs.declared.reading.action.Reading.{Reading}
 use Rattle.wl_server.specs.declared.error.ActionError.{ActionError}
 use Rattle.wl_server.specs.declared.objects.Kept.{Kept}
 use Rattle.wl_server.specs.declared.globals.KeptGlobal.{KeptGlobal}
+use Rattle.wl_server.specs.declared.reading.violation.Violation.{Violation}
 use Rattle.wl_server.proofs.OverRuns.Announced.AnnouncementLaws.{AreOfOthers}
 use Rattle.wl_server.specs.Deeds.{Deed, Handed, Remembered, log_of, registries_in}
 use Rattle.wl_server.specs.Deeds as deeds
@@ -29,10 +30,12 @@ use Rattle.wl_server.specs.Ids.{ClientParts, GlobalParts, IdParts}
 use Rattle.wl_server.proofs.OverRuns.Moves.MovesOfReadings.{gave_none}
 use Rattle.wl_server.proofs.OverRuns.Moves.MovesOfRequests.{Came, converts, valid_new}
 use Rattle.wl_server.specs.Part.{Part, id_at, id_of}
-use Rattle.wl_server.specs.Reading.{Around, NextAction, binds, breaks, converted, faulted, garbled, hands_out, new_at, other_request, replies, server, stops_if, synced, syncs, with_registry}
+use Rattle.wl_server.specs.Reading.{Around, NextAction, binds, breaks, converted, faulted, garbled, hands_out, new_at, other_request, replies, sent_to, server, stops_if, synced, syncs, with_registry}
 use Rattle.wl_server.proofs.OverRuns.Announced.RequestCases.{request_case}
 use Rattle.wl_server.specs.Requests.{Outcome, Whole, Wrong, convert, is_valid_new, made_id, made_object, start, with_made}
 use Rattle.wl_server.specs.Telling.{Core, Told, deeds_in, delete_message, deletions, done_message, objects_in, reader_part, with_objects}
+use Rattle.wl_server.specs.Violations.{violation}
+use Rattle.wl_server.specs.declared.reading.violation.MessageFault.TheVariants as message
 use Rattle.wl_server.proofs.OverRuns.Announced.WatchedVerdicts.{CoreLives, Forms, Leads, PartLives, carried_to, log_both, registries_both, turned, verdict_lives, told_replies}
 use Rattle.wl_server.proofs.OverRuns.Announced.Watching.{Goes, Scene, born_goes, goes_then, kept_other, others_goes, part_scene, registers_goes, scene_of, set_action_goes, steady_same, went_goes, goes_not, goes_on, goes_so, steady}
 use Rattle.wl_server.proofs.Readings.OneMessage.{deeds_append}
@@ -60,11 +63,12 @@ module _ {G C : Type 0} (views : G → ClientParts → C → GlobalParts → Boo
 
   -- ---- verdicts that end the client
 
-  garbled_handles : (c : Core U C) → Handles c (garbled c)
-  garbled_handles c = grind (arith, goes_not, scene_of)
+  garbled_handles : (c : Core U C) (w : Violation) → Handles c (garbled c w)
+  garbled_handles c w = grind (arith, goes_not, scene_of)
 
-  breaks_handles : (c m : Core U C) (code : ℕ) (text : List ℕ) → Handles c (breaks (around_of views client offer) m code text)
-  breaks_handles c m code text = grind (arith, goes_not, scene_of)
+  breaks_handles : (c m : Core U C) (w : Violation) (code : ℕ) (text : List ℕ)
+      → Handles c (breaks (around_of views client offer) m w code text)
+  breaks_handles c m w code text = grind (arith, goes_not, scene_of)
 
   -- ---- verdicts that answer
 
@@ -131,7 +135,8 @@ module _ {G C : Type 0} (views : G → ClientParts → C → GlobalParts → Boo
     -- the action is open, and then the arguments make their objects
     converted_handles : (outcome : Outcome U) → ((e : Core U C) → Came (Over e (objects_in c)) outcome)
         → Handles c (converted (around_of views client offer) c m receiver row outcome)
-    converted_handles (Wrong w objects) came = breaks_handles c (with_objects c objects) 0 (fault_text offer.table receiver.interface row w)
+    converted_handles (Wrong place w objects) came =
+        breaks_handles c (with_objects c objects) _ 0 (fault_text offer.table receiver.interface row w)
     converted_handles (Whole d args) came =
         let opening : Core U C = record c { action = Some (opened.Request id row.is_destructor d.created) } in
         hands_out_handles c (with_objects c d.objects) (opened.Request id row.is_destructor d.created) _
@@ -142,10 +147,10 @@ module _ {G C : Type 0} (views : G → ClientParts → C → GlobalParts → Boo
     other_handles = go (nat_lt receiver.version row.since)
       where
         go : (b : Bool) → Handles c (cond b
-            (breaks (around_of views client offer) c 1
+            (breaks (around_of views client offer) c (violation (sent_to m receiver) (message.SinceLater receiver.version row.since)) 1
             (since_text m.opcode receiver.version row.since (name_of offer.table receiver.interface.0) m.sender))
             (converted (around_of views client offer) c m receiver row (convert client receiver.version (start (objects_in c) row) [] m.args)))
-        go true = breaks_handles c c 1 _
+        go true = breaks_handles c c _ 1 _
         go false =
             converted_handles (convert client receiver.version (start (objects_in c) row) [] m.args)
             (λ e. converts client receiver.version (Over e (objects_in c))
@@ -156,7 +161,7 @@ module _ {G C : Type 0} (views : G → ClientParts → C → GlobalParts → Boo
 
   handles : (c : Core U C) (m : WireMessage) → Handles c ((server (around_of views client offer)).handles c m)
   handles c m =
-      request_case (around_of views client offer) c (Handles c) (garbled_handles c) (λ code text. breaks_handles c c code text) (syncs_handles c)
+      request_case (around_of views client offer) c (Handles c) (garbled_handles c) (λ w code text. breaks_handles c c w code text) (syncs_handles c)
       (λ n valid. replies_handles c (with_registry (around_of views client offer) c n) _ (Remembered (new_at (around_of views client offer) c n) ∷ []) refl
       (registers_goes views client r offer (scene_of c) n (made_object (objects_in c) registry_id 1) (valid_new (objects_in c) n valid).0 refl refl))
       (binds_handles c) m

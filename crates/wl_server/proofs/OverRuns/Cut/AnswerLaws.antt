@@ -19,6 +19,7 @@ use Rattle.wl_server.specs.declared.error.ActionError.TheVariants.{Io}
 use Rattle.wl_server.specs.declared.objects.Kept.{Kept}
 use Rattle.wl_server.specs.declared.notes.DisconnectReason.{DisconnectReason}
 use Rattle.wl_server.specs.declared.notes.Happening.TheVariants.{Disconnected}
+use Rattle.wl_server.specs.declared.reading.violation.Violation.{Violation}
 use Rattle.wl_server.specs.Deeds.{Acted, Came, Deed, Handed, Noted, Put, Sent}
 use Rattle.wl_server.proofs.OverRuns.Announced.RequestCases.{request_case}
 use Rattle.wl_server.proofs.OverRuns.Moves.DoingsLaws.{deeds_given}
@@ -131,11 +132,11 @@ module _ {U G C : Type 0} (a : Around G C) where
     whole : Says (map HandedOut (v.events (v.last v.core))) (v.last v.core)
     broken : (v.puts ≢ []) → Says (map HandedOut (v.events (v.last (closed_down v.core)))) (v.last (closed_down v.core))
 
-  stops_speaks : (c : Core U C) (code : ℕ) (text : List ℕ) → IsReady c → Speaks (breaks a c code text)
-  stops_speaks c code text r = grind (arith, sound_killed, says_stops, closed_down)
+  stops_speaks : (c : Core U C) (w : Violation) (code : ℕ) (text : List ℕ) → IsReady c → Speaks (breaks a c w code text)
+  stops_speaks c w code text r = grind (arith, sound_killed, says_stops, closed_down)
 
-  garbled_speaks : (c : Core U C) → IsReady c → Speaks (garbled c)
-  garbled_speaks c r = grind (arith, sound_killed, says_stops, closed_down)
+  garbled_speaks : (c : Core U C) (w : Violation) → IsReady c → Speaks (garbled c w)
+  garbled_speaks c w r = grind (arith, sound_killed, says_stops, closed_down)
 
   action_speaks : (c : Core U C) (action : OpenAction) (h : Handed) → IsReady c → Speaks (hands_out c action h)
   action_speaks c action h r = grind (arith)
@@ -147,7 +148,7 @@ module _ {U G C : Type 0} (a : Around G C) where
   -- a message, of whatever kind
   handles_speaks : (c : Core U C) (m : WireMessage) → IsReady c → Speaks ((server a).handles c m)
   handles_speaks c m r =
-      request_case a c Speaks (garbled_speaks c r) (λ code text. stops_speaks c code text r) (λ n new. (grind (arith, on_of, sound_killed, synced)))
+      request_case a c Speaks (λ w. garbled_speaks c w r) (λ w code text. stops_speaks c w code text r) (λ n new. (grind (arith, on_of, sound_killed, synced)))
       (λ n new. (grind (arith, on_of, sound_killed, with_registry))) (λ g version n x new. action_speaks _ _ _ r) m
       (λ receiver row holds other. other_speaks c m receiver row r)
 

@@ -8,6 +8,7 @@ use Rattle.wl_link.proofs.Calls.Branches.{either_option, either_bool}
 use Rattle.wl_server.specs.declared.error.ActionError.TheVariants.{ActionOpen, Io}
 use Rattle.wl_server.specs.declared.reading.action.OpenAction.{OpenAction}
 use Rattle.wl_server.specs.Bounded.{receives_in, receives_over}
+use Rattle.wl_server.specs.Broken.{SameViolation}
 use Rattle.wl_server.specs.Ids.{ClientParts, same_client}
 use Rattle.wl_server.specs.Killed.{AllAnswer, EachStaysKilled, HasNoAction, ReadingAnswers, StaysOrIsTakenOut, TakesOut, StaysKilled}
 use Rattle.wl_server.specs.Part.{Part}
@@ -34,7 +35,7 @@ use Rattle.wl_server.proofs.OverRuns.Moves.BaseMovesLaw.{call_goes, call_moves}
 use Rattle.wl_wire.specs.declared.error.IoFault.{IoFault}
 use Rattle.wl_link.specs.Exchange.{Queue}
 
--- ---- that a killed client stays killed, and opens no action, over the base moves of whatever is done with its part
+-- ---- that a killed client stays killed, opens no action and broke the protocol as before, over the base moves of whatever is done with its part
 
 pub when_killed : {P : Type 0} (Q : Type 0) (b : Bool) → b ≡ true → MatchBool b P Q → P
 when_killed h1 h2 is h = grind (arith, true≢false)
@@ -43,6 +44,7 @@ when_killed h1 h2 is h = grind (arith, true≢false)
 pub record Remains {T U C : Type 0} (p q : Part T U C) : Type 0 where
   pub killed : q.is_killed ≡ true
   pub closed : p.action ≡ None → q.action ≡ None
+  pub violation : q.violation ≡ p.violation
 
 module _ {T U C : Type 0} (p : Part T U C) (killed : p.is_killed ≡ true) where
   pub remains : (q : Part T U C) → q ≡ p → Remains p q
@@ -181,14 +183,32 @@ module _ {T U G C : Type 0} (w : World T G C) (id : ClientParts) where
   -- ---- a killed client
 
   -- a client whose action stands so was killed
+  abbrev Point : Part T U C → Option OpenAction → Seen T U C
+  Point p action = record { part = Some (record p { action = action }); made = [] }
+
   abbrev DeadOver : Part T U C → Option OpenAction → List (Entry T U G C) → Seen T U C → Type 0
-  DeadOver p action run after = StaysKilled id (record { part = Some (record p { action = action }); made = [] }) run after
+  DeadOver p action run after = StaysKilled id (Point p action) run after
+
+  -- what is kept of a client that stayed so, and of one that is out
+  kept_there : (p q : Part T U C) (action : Option OpenAction) (after : Seen T U C) → after.part ≡ Some q → q.violation ≡ p.violation
+      → SameViolation (Point p action) after
+  kept_there p q action after there same p' q' is is' =
+      ap (λ (x : Part T U C). x.violation) (same_Some q' q (sym is' ∙ there))
+      ∙ (same ∙ ap (λ (x : Part T U C). x.violation) (same_Some (record p { action = action }) p' is))
+
+  kept_later : (p q : Part T U C) (action : Option OpenAction) (after : Seen T U C) → q.violation ≡ p.violation
+      → SameViolation (Point q q.action) after → SameViolation (Point p action) after
+  kept_later p q action after same kept p' q' is is' =
+      kept (record q { action = q.action }) q' refl is' ∙ (same ∙ ap (λ (x : Part T U C). x.violation) (same_Some (record p { action = action }) p' is))
+
+  kept_out : (p : Part T U C) (action : Option OpenAction) (after : Seen T U C) → after.part ≡ None → SameViolation (Point p action) after
+  kept_out p action after none p' q' is is' = absurd (none-some q' (sym none ∙ is'))
 
   -- it is killed to the end, or the next call is the cleanup that takes it out
   ends_here : (p : Part T U C) (action : Option OpenAction) (run : List (Entry T U G C)) (after : Seen T U C) → StaysOrIsTakenOut id run after
-      → receives_over id run ≡ 0
+      → receives_over id run ≡ 0 → SameViolation (Point p action) after
       → DeadOver p action run after
-  ends_here p action run after ends silent = record {
+  ends_here p action run after ends silent same = record {
     with_action = [];
     without_action = [];
     from_cleanup = run;
@@ -198,13 +218,15 @@ module _ {T U G C : Type 0} (w : World T G C) (id : ClientParts) where
     says_killed = tt;
     ends = ends;
     receives = silent;
+    violation = same;
   }
 
   -- one more call: the action is open, or none is and none was opened by the call
   one_more : (p q : Part T U C) (action : Option OpenAction) (e : Entry T U G C) (run : List (Entry T U G C)) (after : Seen T U C)
       → ReadingAnswers id (refusal_with action) e.call
-      → receives_in (e.did id) ≡ 0 → (action ≡ None → q.action ≡ None) → DeadOver q q.action run after → DeadOver p action (e ∷ run) after
-  one_more p q (Some a) e run after says silent closed rest = record {
+      → receives_in (e.did id) ≡ 0 → (action ≡ None → q.action ≡ None) → q.violation ≡ p.violation → DeadOver q q.action run after
+      → DeadOver p action (e ∷ run) after
+  one_more p q (Some a) e run after says silent closed same rest = record {
     with_action = e ∷ rest.with_action;
     without_action = rest.without_action;
     from_cleanup = rest.from_cleanup;
@@ -214,8 +236,9 @@ module _ {T U G C : Type 0} (w : World T G C) (id : ClientParts) where
     says_killed = rest.says_killed;
     ends = rest.ends;
     receives = (let more = rest.receives in omega (arith, silent, more));
+    violation = kept_later p q (Some a) after same rest.violation;
   }
-  one_more p q None e run after says silent closed rest = record {
+  one_more p q None e run after says silent closed same rest = record {
     with_action = [];
     without_action = e ∷ rest.without_action;
     from_cleanup = rest.from_cleanup;
@@ -226,12 +249,15 @@ module _ {T U G C : Type 0} (w : World T G C) (id : ClientParts) where
     says_killed = (says, rest.says_killed);
     ends = rest.ends;
     receives = (let more = rest.receives in omega (arith, silent, more));
+    violation = kept_later p q None after same rest.violation;
   }
 
   dead_run : (before after : ServerState T U G C) (run : List (Entry T U G C)) → id.serial ≤ before.last_client → (p : Part T U C)
       → (seen id before).part ≡ Some p
       → p.is_killed ≡ true → Leads w before run after → DeadOver p p.action run (seen id after)
-  dead_run before after [] born p there killed same = ends_here p p.action [] (seen id after) (grind (arith, seen)) refl
+  dead_run before after [] born p there killed same =
+      ends_here p p.action [] (seen id after) (grind (arith, seen)) refl
+      (kept_there p p p.action (seen id after) (ap (λ (s : ServerState T U G C). (seen id s).part) same ∙ there) refl)
   dead_run before after (e ∷ run) born p there killed (mid, by, leads) =
       let grown = by.last in
       let silent = ap length (dead_silent w id before.offer (seen id before) p there killed (e.lacks id) (e.did id) (seen id mid) e.call
@@ -241,11 +267,18 @@ module _ {T U G C : Type 0} (w : World T G C) (id : ClientParts) where
         | inl (q, is, remains) ↦
             one_more p q p.action e run (seen id after)
             (dead_says w id before.offer (seen id before) p there killed (e.lacks id) (e.did id) (seen id mid) e.call (by.each id))
-            silent remains.closed (dead_run mid after run (omega (arith, born, grown)) q is remains.killed leads)
+            silent remains.closed remains.violation (dead_run mid after run (omega (arith, born, grown)) q is remains.killed leads)
         | inr (takes, none) ↦
             let rest = out_run mid after run (omega (arith, born, grown)) none leads in
-            let more = rest.receives in ends_here p p.action (e ∷ run) (seen id after) (takes, rest.says, rest.none) (omega (arith, silent, more))
+            let more = rest.receives in
+            ends_here p p.action (e ∷ run) (seen id after) (takes, rest.says, rest.none) (omega (arith, silent, more))
+            (kept_out p p.action (seen id after) rest.none)
       ]
+
+  kept_from : (s : Seen T U C) (p : Part T U C) (after : Seen T U C) → s.part ≡ Some p → SameViolation (Point p p.action) after
+      → SameViolation s after
+  kept_from s p after there kept p' q' is is' =
+      kept (record p { action = p.action }) q' refl is' ∙ ap (λ (x : Part T U C). x.violation) (same_Some p p' (sym there ∙ is))
 
   has_none : (s : Seen T U C) (p : Part T U C) → s.part ≡ Some p → HasNoAction s → p.action ≡ None
   has_none s p there none = subst (λ (o : Option (Part T U C)). HasNoAction (record { part = o; made = s.made })) there none
@@ -261,5 +294,16 @@ module _ {T U G C : Type 0} where
         | inl (none, nothing) ↦ absurd nothing
         | inr (p, there, dead) ↦
             let over = dead_run w id point after later (known_before w table done point first id p there) p there dead others in
-            grind (arith, has_none, seen)
+            record {
+              with_action = over.with_action;
+              without_action = over.without_action;
+              from_cleanup = over.from_cleanup;
+              split = over.split;
+              opened = λ none. over.opened (has_none w id (seen id point) p there none);
+              says_open = over.says_open;
+              says_killed = over.says_killed;
+              ends = over.ends;
+              receives = over.receives;
+              violation = kept_from w id (seen id point) p (seen id after) there over.violation;
+            }
       ]

@@ -21,6 +21,7 @@ use Rattle.wl_server.specs.declared.notes.Happening.TheVariants.{Disconnected}
 use Rattle.wl_server.specs.declared.runs.step.Reply.TheVariants as reply
 use Rattle.wl_server.specs.declared.runs.step.Step.TheVariants as step
 use Rattle.wl_server.specs.Chosen.{with_version}
+use Rattle.wl_server.specs.declared.reading.violation.Violation.{Violation}
 use Rattle.wl_server.specs.HandedIds.{action_ids, made_ids}
 use Rattle.wl_server.specs.Deeds.{Acted, Bind, Deed, Handed, IsAmong, Request, came_in, left_in, log_of, notes_in, registries_in, sends_of, taken_in}
 use Rattle.wl_server.specs.Errors.{error_of}
@@ -179,6 +180,8 @@ pub data Move {T U C : Type 0} (kind : Kind) (sends : T → Queue → Result ℕ
   -- the client is killed, which is noted if it was not
   ended : (reason : DisconnectReason) → kind.kills reason → d ≡ noting (end_notes p.is_killed reason)
       → q ≡ record p { is_killed = true } → Move kind sends receives client p d q
+  -- it is kept how the client broke the protocol
+  broke : (w : Violation) → kind.reads ≡ true → d ≡ nothing_done → q ≡ record p { violation = Some w } → Move kind sends receives client p d q
   -- an object takes a free number and the next serial, and its id is made; an id is made of an object, or of none; an
   -- object gets user data, or another version; an object leaves
   born : (n : ℕ) (x : Object (Kept U)) → held p.store n ≡ None → n ≢ 0 → x.value.serial ≡ p.last_serial + 1

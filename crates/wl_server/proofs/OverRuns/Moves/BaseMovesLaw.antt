@@ -25,6 +25,7 @@ use Rattle.wl_server.specs.declared.runs.step.Reply.{Reply}
 use Rattle.wl_server.specs.declared.runs.step.Reply.TheVariants as reply
 use Rattle.wl_server.specs.declared.runs.step.Step.{Step}
 use Rattle.wl_server.specs.declared.runs.step.Step.TheVariants as step
+use Rattle.wl_server.specs.Broken.{reads_of}
 use Rattle.wl_server.specs.HandedIds.{made_ids}
 use Rattle.wl_server.proofs.OverRuns.Moves.BaseMoves.{Doings, Goes, Kind, MayRead, cleaned, doings_of, flushed, followed, handed_by, joined, left_by, left_id, moved, nothing_done, notes_taken, noting, relinked, stayed, taken_out, unfelt, went, within, any, sending}
 use Rattle.wl_server.specs.Deeds.{Deed, Noted, NoteTaken, left_if, notes_in, Sent}
@@ -164,12 +165,6 @@ gathers_in _ = false
 abbrev pub hands_in : {T U G C : Type 0} → Call T U G C → Bool
 hands_in (Asked step.TakeNotes (reply.TakeNotes (Ok out))) = true
 hands_in _ = false
-
--- the call reads this client
-abbrev pub reads_of : {T U G C : Type 0} → ClientParts → Call T U G C → Bool
-reads_of id (Asked (step.NextAction target) answer) = same_client target id
-reads_of id (Asked (step.NextActionWithin target r) answer) = same_client target id
-reads_of id _ = false
 
 -- the call ends the action of this client
 abbrev pub finishes_of : {T U G C : Type 0} → ClientParts → Call T U G C → Bool

@@ -95,7 +95,7 @@ module _ {T U G C : Type 0} (kind : Kind) (sends : T → Queue → Result ℕ Io
       (λ unended. reads_moves may left mid turns rest after unended more)
   reads_moves may left before (Unread es ∷ turns) out after none (on, (v, link, first, lacked, mid, rest, (read, same, is), by, split, more)) =
       turn_moves may left before link v (ap (λ (l : LinkState T). l.outgoing) same) (ap (λ (l : LinkState T). l.outgoing_capacity) same)
-      (rw is (garbled_comes kind sends receives a before.core none)) none es first lacked mid after turns rest out by split more
+      (rw is (garbled_comes kind sends receives a may before.core _ none)) none es first lacked mid after turns rest out by split more
       (λ unended. reads_moves may left mid turns rest after unended more)
 
   -- ---- a reading

@@ -1,5 +1,5 @@
 -- That what a request comes to is a chain of base moves.
-use Rattle.std.proofs.Common.{◌≡◌, ◌≢◌, ◌⊎◌, ℕ, Bool, true, false, cond, eqb, List, [], ◌∷◌, ◌++◌, Option, None, Some, is_some, Result, Ok, Err, refl, sym, ap, append-nil, true≢false, arith}
+use Rattle.std.proofs.Common.{◌≡◌, ◌≢◌, ◌⊎◌, ℕ, Bool, true, false, cond, eqb, List, [], ◌∷◌, ◌++◌, Option, None, Some, is_some, Result, Ok, Err, refl, sym, ap, append-nil, true≢false, arith, length}
 use mathlib.Core.Logic.{inl, inr}
 use Rattle.std.specs.Prelude.{nat_lt}
 use Rattle.wl_wire.specs.declared.argument.Argument.{Argument}
@@ -24,18 +24,19 @@ use Rattle.wl_server.specs.declared.globals.KeptGlobal.{KeptGlobal}
 use Rattle.wl_server.specs.declared.notes.DisconnectReason.TheVariants.{ConnectionClosed, ProtocolError as BrokeProtocol}
 use Rattle.wl_server.specs.declared.notes.Happening.{Happening}
 use Rattle.wl_server.specs.declared.reading.response.RequestFault.TheVariants as wrong
+use Rattle.wl_server.specs.declared.reading.violation.Violation.{Violation}
 use Rattle.wl_server.proofs.OverRuns.Ids.AmongLaws.{among_both, among_first, among_later}
 use Rattle.wl_server.specs.HandedIds.{created_ids}
 use Rattle.wl_server.specs.Deeds.{IsAmong, Acted, Deed, Handed, Remembered}
-use Rattle.wl_server.proofs.OverRuns.Moves.BaseMoves.{Doings, Kind, MayRead, all_action_ids, born, followed, found, found_none, handed_out, handing, moved, opens, remembered, stayed, went}
+use Rattle.wl_server.proofs.OverRuns.Moves.BaseMoves.{Doings, Kind, MayRead, all_action_ids, born, broke, followed, found, found_none, handed_out, handing, moved, opens, remembered, stayed, went}
 use Rattle.wl_server.specs.Deeds as deeds
-use Rattle.wl_server.proofs.OverRuns.Moves.DoingsLaws.{IsQuiet, told_stops, told_did}
+use Rattle.wl_server.proofs.OverRuns.Moves.DoingsLaws.{IsQuiet, joined_none, told_stops, told_did}
 use Rattle.wl_server.specs.Errors.{error_of, fault_text}
 use Rattle.wl_server.specs.Globals.{global_at}
 use Rattle.wl_server.specs.Ids.{ClientParts, IdParts}
 use Rattle.wl_server.proofs.OverRuns.Moves.MovesOfVerdicts.{Comes, Go, Lands, at, lands_at, lands_not, lands_killed, comes_silently}
 use Rattle.wl_server.specs.Part.{Part, display_of, id_at, last_possible_serial, null_id}
-use Rattle.wl_server.specs.Reading.{Around, binds, breaks, converted, garbled, hands_out, new_at, other_request, replies, server, stops_if, synced, with_registry}
+use Rattle.wl_server.specs.Reading.{Around, binds, breaking, breaks, converted, garbled, hands_out, new_at, other_request, replies, server, stops_if, synced, with_registry}
 use Rattle.wl_server.proofs.OverRuns.Announced.RequestCases.{request_case}
 use Rattle.wl_server.specs.Requests.{Converted, Converting, Outcome, Whole, Wrong, allows_null, convert, convert_one, going_on, is_valid_new, kinds_after, made_id, made_object, object_found, start, with_made, with_new_argument, with_object_argument}
 use Rattle.wl_server.specs.Telling.{Core, Told, objects_in, with_objects}
@@ -68,7 +69,7 @@ module _ {U : Type 0} (P : List (HandedId IdParts) → Objects (Kept U) → Type
 
   abbrev pub Came : Outcome U → Type 0
   Came (Whole d args) = SoFar d args
-  Came (Wrong w objects) = (ids : List (HandedId IdParts)) × P ids objects
+  Came (Wrong place w objects) = (ids : List (HandedId IdParts)) × P ids objects
 
 -- It holds on over an object that is made, and over an id that is made of an object or of none.
 module _ {U : Type 0} (client : ClientParts) (version : ℕ) (P : List (HandedId IdParts) → Objects (Kept U) → Type 0)
@@ -90,7 +91,7 @@ module _ {U : Type 0} (client : ClientParts) (version : ℕ) (P : List (HandedId
   goes_on : (d : Converting U) (done : List (Argument IdParts Token)) (args : List WireArgument)
       → ((next : Converting U) (more : List (Argument IdParts Token)) → SoFar P next more → Came P (convert client version next more args))
       → (r : Converted U) → One P (argument_ids done) d r → SoFar P d done
-      → Came P (going_on r d.objects (λ b next. convert client version next (done ++ b ∷ []) args))
+      → Came P (going_on r (length done) d.objects (λ b next. convert client version next (done ++ b ∷ []) args))
   goes_on d done args rest (Ok next) (one, more) (so, among) = grind (arith, argument_ids_both, among_first, argument_ids, among_later)
   goes_on d done args rest (Err w) one (so, among) = (argument_ids done, so)
 
@@ -131,15 +132,24 @@ module _ {T U G C : Type 0} (kind : Kind) (sends : T → Queue → Result ℕ Io
 
   -- ---- forms of a verdict
 
-  pub garbled_comes : (c : Core U C) → c.ended ≡ None → Come c (garbled c)
-  garbled_comes c none =
-      comes_silently kind sends receives a.client c (garbled c)
-      (lands_killed kind sends receives a.client c [] c ConnectionClosed kind.closes (lands_not kind sends receives a.client c none)) (λ e. refl)
+  -- it is kept how the client broke the protocol
+  breaking_lands : MayRead kind a.table a.client → (c m : Core U C) (w : Violation) → Lead c [] m → Lead c [] (breaking m w)
+  breaking_lands may c m w lead = record {
+    moves = λ l. followed (lead.moves l) (moved (broke w may.reads refl refl)) (sym (joined_none _));
+    calm = lead.calm;
+  }
+
+  pub garbled_comes : MayRead kind a.table a.client → (c : Core U C) (w : Violation) → c.ended ≡ None → Come c (garbled c w)
+  garbled_comes may c w none =
+      comes_silently kind sends receives a.client c (garbled c w)
+      (lands_killed kind sends receives a.client c [] (breaking c w) ConnectionClosed kind.closes
+      (breaking_lands may c c w (lands_not kind sends receives a.client c none))) (λ e. refl)
       (inl refl) refl
 
-  breaks_comes : MayRead kind a.table a.client → (c m : Core U C) (code : ℕ) (text : List ℕ) → Lead c [] m → Come c (breaks a m code text)
-  breaks_comes may c m code text lead =
-      comes_silently kind sends receives a.client c (breaks a m code text) lead (λ e. refl)
+  breaks_comes : MayRead kind a.table a.client → (c m : Core U C) (w : Violation) (code : ℕ) (text : List ℕ) → Lead c [] m
+      → Come c (breaks a m w code text)
+  breaks_comes may c m w code text lead =
+      comes_silently kind sends receives a.client c (breaks a m w code text) (breaking_lands may c m w lead) (λ e. refl)
       (inr (BrokeProtocol (error_of a.table (display_of a.client) code text), may.displays code text, refl)) refl
 
   -- whatever is put
@@ -185,8 +195,8 @@ module _ {T U G C : Type 0} (kind : Kind) (sends : T → Queue → Result ℕ Io
 
     converted_comes : (outcome : Outcome U) → ((e : Core U C) → Came (Over e (objects_in c)) outcome)
         → Come c (converted a c m receiver row outcome)
-    converted_comes (Wrong w objects) came =
-        breaks_comes may c (with_objects c objects) 0 (fault_text a.table receiver.interface row w)
+    converted_comes (Wrong place w objects) came =
+        breaks_comes may c (with_objects c objects) _ 0 (fault_text a.table receiver.interface row w)
         (lands_at kind sends receives a.client c [] (with_objects c objects) none
         (λ l. unseen ((came c).1 l)))
     converted_comes (Whole d args) came = hands_out_converted d args came
@@ -194,7 +204,7 @@ module _ {T U G C : Type 0} (kind : Kind) (sends : T → Queue → Result ℕ Io
     other_comes : Come c (other_request a c m receiver row)
     other_comes =
         elim (cases_Bool (nat_lt receiver.version row.since)) [
-          | inl early ↦ rw early (breaks_comes may c c 1 _ (lands_not kind sends receives a.client c none))
+          | inl early ↦ rw early (breaks_comes may c c _ 1 _ (lands_not kind sends receives a.client c none))
           | inr ok ↦
               rw ok
               (converted_comes (convert a.client receiver.version (start (objects_in c) row) [] m.args)
@@ -209,7 +219,7 @@ module _ {T U G C : Type 0} (kind : Kind) (sends : T → Queue → Result ℕ Io
 
   pub handles_comes : MayRead kind a.table a.client → (c : Core U C) (m : WireMessage) → c.ended ≡ None → Come c ((server a).handles c m)
   handles_comes may c m none =
-      request_case a c (Come c) (garbled_comes c none) (λ code text. breaks_comes may c c code text (lands_not kind sends receives a.client c none))
+      request_case a c (Come c) (λ w. garbled_comes may c w none) (λ w code text. breaks_comes may c c w code text (lands_not kind sends receives a.client c none))
       (λ n valid. replies_comes c (synced a c n) [] (lands_at kind sends receives a.client c [] (synced a c n) none
       (λ l. followed (unseen (makes_object c 1 (objects_in c) n callback_id valid l))
       (moved (went n (made_object (objects_in c) callback_id 1) true (stored_here c.store n (made_object (objects_in c) callback_id 1) n refl) refl

@@ -33,7 +33,7 @@ type Front<'b> = (Argument<ObjectId, Token>, &'b [u8]);
 
 /// The word at the front, and the bytes after it. `None` if there are fewer than four bytes.
 #[tactic(auto, unfolding(wl_wire::specs::Inside::Cursor::word_at))]
-fn read_word(bytes: &[u8]) -> Option<(u32, &[u8])>
+pub fn read_word(bytes: &[u8]) -> Option<(u32, &[u8])>
     ensures { option_map (λ x. (x.0, x.1.now)) result ≡ word_at bytes.now }
 {
     if bytes.len() < 4 {
@@ -48,7 +48,7 @@ fn read_word(bytes: &[u8]) -> Option<(u32, &[u8])>
 
 /// The counted bytes at the front, and what follows their padding. `None` if they are not complete.
 #[tactic(auto, unfolding(wl_wire::specs::Inside::Cursor::counted_at))]
-fn read_counted(bytes: &[u8]) -> Option<(&[u8], &[u8])>
+pub fn read_counted(bytes: &[u8]) -> Option<(&[u8], &[u8])>
     ensures { option_map (λ x. (x.0.now, x.1.now)) result ≡ counted_at bytes.now }
 {
     let (count, rest) = read_word(bytes)?;

@@ -1,4 +1,4 @@
-use Rattle.std.proofs.Common.{false, map, arith}
+use Rattle.std.proofs.Common.{false, None, map, arith}
 use Rattle.std.proofs.lemmas.Grind.{common_steps}
 use Rattle.wl_server.proofs.client.Client.new.Goals as goal
 use Rattle.wl_server.specs.Server.{no_times}
@@ -19,6 +19,7 @@ returns-clause-inserted g c = (
       action = c.new-2.ensures i;
       registries = c.new.ensures.items i;
       waiting = map (λ w. w.1) (c.new-3.ensures i);
+      violation = None;
     };
     made = c.in_ok-socket.ensures.notes i;
     times = no_times;

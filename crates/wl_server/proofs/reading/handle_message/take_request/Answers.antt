@@ -5,7 +5,7 @@ use Rattle.wl_wire.specs.Parse.{opcode_of, sender_of}
 use Rattle.wl_wire.specs.Table.{message_row}
 use Rattle.wl_link.specs.Store.{held}
 use Rattle.wl_link.proofs.Calls.TakenLaws.{as_many, read_there}
-use Rattle.wl_server.proofs.Readings.OneMessage.{read_in, row_read}
+use Rattle.wl_server.proofs.Readings.OneMessage.{read_in, row_read, sent_as}
 use Rattle.wl_server.proofs.Readings.Texts.{free_looked_up}
 use Rattle.wl_server.proofs.reading.handle_message.take_request.Goals as goal
 
@@ -40,10 +40,13 @@ request-requires-clause-sender g c = grind (arith, common_steps, held)
 pub returns-clause-took : goal.returns-clause-took
 returns-clause-took g c =
     let read = rw c.as_slice-signature.ensures.value at c.in_ok-read_with_signature.ensures.read in
-    let m = content c.read_with_signature.new.message in (
+    let m = content c.read_with_signature.new.message in
+    let responds = rw (c.make_room.ensures.store, c.make_room.ensures.registries, c.make_room.ensures.serial) at c.request.ensures.responds in (
       m,
       message_row c.args.front.now.desc.now,
       read_in c.args.around.now.protocol.now c.args.objects.now.map.store c.args.socket.now c.args.front.now c.requires.front c.read_with_signature.new.self _ read,
       row_read c.args.around.now.protocol.now c.args.objects.now.map.store c.args.socket.now c.args.front.now c.requires.front c.read_with_signature.new.self m read,
-      rw (c.make_room.ensures.store, c.make_room.ensures.registries, c.make_room.ensures.serial) at c.request.ensures.responds,
+      λ x core holds. rw
+          (← sent_as c.args.around.now.protocol.now c.args.objects.now.map.store c.args.socket.now c.args.front.now c.requires.front
+          c.read_with_signature.new.self m read x holds) (responds x core holds),
     )

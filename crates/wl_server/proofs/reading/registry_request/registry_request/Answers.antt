@@ -4,4 +4,4 @@ use Rattle.wl_server.proofs.reading.registry_request.registry_request.Goals as g
 use Rattle.wl_server.proofs.Readings.Requesting.{registry_is}
 
 pub returns-clause-responds : goal.returns-clause-responds
-returns-clause-responds g c c' args = grind (arith, common_steps, registry_is)
+returns-clause-responds g c c' to args = grind (arith, common_steps, registry_is)
