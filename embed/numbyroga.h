@@ -370,17 +370,18 @@ typedef struct {
     uint64_t data;       /* out: the data of that object; 0 if it has none. Not read */
 } nb_argument;
 
-enum { NB_REQUEST = 1, NB_BIND = 2 };
+enum { NB_REQUEST = 1, NB_BIND = 2, NB_REGISTRY = 3 };
 
 /* What a client asks of the server: 120 bytes. It is open until it is finished. */
 typedef struct {
-    uint32_t kind;           /* NB_REQUEST, or NB_BIND: an object was bound to a global */
+    uint32_t kind;           /* NB_REQUEST; NB_BIND: an object was bound to a global; or NB_REGISTRY: a registry was made, which
+                                the host tells of globals (only after nb_server_hand_out_registries) */
     uint32_t opcode;         /* of a request; its index among the requests of the sender's interface */
     uint32_t arguments;      /* of a request: how many */
     uint32_t is_destructor;  /* of a request: whether finishing it ends its sender (0 or 1) */
-    nb_object_id sender;     /* of a request: the object that it was sent to. Null for a bind */
-    uint64_t data;           /* of the sender, or of the global */
-    nb_object_id created;    /* the object that was made or bound; null if none was */
+    nb_object_id sender;     /* of a request: the object that it was sent to. Else null */
+    uint64_t data;           /* of the sender, or of the global; 0 of a registry */
+    nb_object_id created;    /* the object that was made or bound, or the registry; null if none was */
     uint32_t version;        /* of `created`; 0 if none was */
     uint32_t bytes;          /* how many bytes its strings and arrays take, with the zeros behind each */
     nb_global_id global;     /* of a bind */
@@ -672,8 +673,8 @@ nb_status nb_server_send_failed(nb_server *place, const nb_client_id *client);
 /* ======== A server's session: actions */
 
 /* Hands out the next thing that the client asks of the program. sync and get_registry are answered by the session
- * itself, as is each request that breaks the protocol. The action is open, and no other of this client comes, until it
- * is finished.
+ * itself, as is each request that breaks the protocol; after nb_server_hand_out_registries get_registry is handed out,
+ * too. The action is open, and no other of this client comes, until it is finished.
  *
  * The arguments are written into `arguments`, and their strings and arrays into `bytes`: each at a multiple of eight,
  * and each string with a zero behind it. So if `bytes` begins at a multiple of eight, C can take them where they are. Its
@@ -711,8 +712,8 @@ nb_status nb_server_finish_request(nb_server *place, const nb_client_id *client)
  */
 nb_status nb_server_finish_request_with(nb_server *place, const nb_client_id *client, uint64_t data, uint32_t *is_kept);
 
-/* Finishes a bind: its object gets the data. `is_kept` is as above. Statuses: NB_INVALID_ID; NB_NOT_OPEN; NB_WRONG_KIND
- * (it is a request; it is still open). */
+/* Finishes a bind, or a registry: its object gets the data. `is_kept` is as above. Statuses: NB_INVALID_ID; NB_NOT_OPEN;
+ * NB_WRONG_KIND (it is a request; it is still open). */
 nb_status nb_server_finish_bind(nb_server *place, const nb_client_id *client, uint64_t data, uint32_t *is_kept);
 
 /* Sends an event of an object: it waits until the host sends it. Strings and arrays are ranges of `bytes`; ranges may
@@ -841,6 +842,30 @@ nb_status nb_server_global_data(nb_server *place, const nb_global_id *global, ui
  * client may not see it). */
 nb_status nb_server_global_name(nb_server *place, const nb_global_id *global, const nb_client_id *client,
                                 uint32_t *name);
+
+/* ======== A server's session: registries of the host */
+
+/* Hands out the registries that clients ask for, as long as `hand_out` is not 0: each get_registry is an action of the kind
+ * NB_REGISTRY, ended by nb_server_finish_bind. At first they are not. The session tells a registry that was handed out of no
+ * global; the host does, by the two calls below, and so asks anew, for each registry and each global, what it may hear
+ * of. Registries that a client has already stay as they are.
+ *
+ * The client binds by such a registry as by any other: the global has to be one that it sees
+ * (nb_server_create_global). Refuse a bind that you do not grant where it comes out as NB_BIND, by
+ * nb_server_post_error. */
+nb_status nb_server_hand_out_registries(nb_server *place, uint32_t hand_out);
+
+/* Tells a registry that was handed out of a global (wl_registry.global), and keeps that it was. It is not looked at whether
+ * the global is disabled, or whether the client sees it. To a client that was killed nothing is sent.
+ *
+ * Statuses: NB_INVALID_ID (of the global); NB_OUT_OF_MEMORY; then those of nb_server_send_event: NB_INVALID_ID (of the
+ * registry); NB_UNKNOWN_OPCODE or NB_BAD_SIGNATURE (it is no registry); NB_OUT_OF_MEMORY. Then nothing was told. */
+nb_status nb_server_announce_global(nb_server *place, const nb_object_id *registry, const nb_global_id *global);
+
+/* Tells each registry that was told of the global by nb_server_announce_global that it is gone (wl_registry.global_remove),
+ * and no other: as often as it was told of it, and not if it was told of that already. Call it where you disable or
+ * remove the global. A client that cannot be told is killed. */
+nb_status nb_server_withdraw_global(nb_server *place, const nb_global_id *global);
 
 /* ======== A server's session: sending, and the end of a round */
 

@@ -417,6 +417,7 @@ static void call_of_server(void)
     case 15:
         global = any_global();
         see(take() % 2 ? nb_server_disable_global(&server, &global) : nb_server_remove_global(&server, &global));
+        see(nb_server_withdraw_global(&server, &global));
         break;
     case 16:
         while (see(nb_server_next_writable(&server, &id)) == NB_OK) {
@@ -450,6 +451,7 @@ static void call_of_server(void)
             saw_info(&info);
         if (see(nb_server_object_data(&server, &object, &number)) == NB_OK)
             saw(number);
+        see(nb_server_announce_global(&server, &object, &globals[0]));
         see(nb_server_set_object_data(&server, &object, take()));
         see(nb_server_set_object_version(&server, &object, take() % 5));
         see(nb_server_object_for_protocol_id(&server, &object.client, object.interface, object.number, &made));
@@ -481,6 +483,7 @@ static void call_of_server(void)
         see(nb_server_flush_client(&server, &id));
         kept = take();
         see(nb_server_keep_global_names(&server, kept % 2));
+        see(nb_server_hand_out_registries(&server, kept % 2));
         see(nb_server_set_object_limit(&server, kept > 240 ? kept - 240 : 0));
         see(nb_server_keep_notes(&server, kept % 4));
         if (see(nb_server_waiting(&server, &id, &waiting)) == NB_OK)

@@ -59,6 +59,9 @@ static void server_calls(void)
     NONE(nb_server_disable_global(&server, &global));
     NONE(nb_server_remove_global(&server, &global));
     NONE(nb_server_keep_global_names(&server, 1));
+    NONE(nb_server_hand_out_registries(&server, 1));
+    NONE(nb_server_announce_global(&server, &object, &global));
+    NONE(nb_server_withdraw_global(&server, &global));
     NONE(nb_server_global_info(&server, &global, &offered));
     NONE(nb_server_global_data(&server, &global, &data));
     NONE(nb_server_global_name(&server, &global, &id, &number));

@@ -295,6 +295,49 @@ static void object_limit(void)
     OK(nb_server_end(&server));
 }
 
+/* A registry that is handed out is told of what the host tells it, and of the removal of that alone. */
+static void registries(void)
+{
+    nb_global_id told, untold;
+    uint32_t is_kept = 0;
+    begin();
+    OK(nb_server_hand_out_registries(&server, 1));
+    put(1, 1, "u", 4);
+    OK(arrive(NULL, 0));
+    OK(next_action());
+    nb_object_id registry = action.created;
+    HOLDS(action.kind == NB_REGISTRY && registry.number == 4 && registry.interface == NB_INTERFACE_REGISTRY);
+    HOLDS(action.version == 1 && action.data == 0 && nb_is_null(&action.sender));
+    IS(nb_server_finish_request(&server, &client), NB_WRONG_KIND);
+    OK(nb_server_finish_bind(&server, &client, 88, &is_kept));
+    HOLDS(is_kept == 1 && sends_nothing());
+    OK(nb_offer(&server, NB_QUAD, 3, &told));
+    OK(nb_offer(&server, NB_QUAD, 2, &untold));
+    put(2, 0, "usu", told.name, "quad", 3); /* the session tells the registry that it made itself */
+    put(2, 0, "usu", untold.name, "quad", 2);
+    HOLDS(sends(&client));
+    OK(nb_server_announce_global(&server, &registry, &told));
+    put(4, 0, "usu", told.name, "quad", 3);
+    HOLDS(sends(&client));
+    OK(nb_server_withdraw_global(&server, &untold));
+    HOLDS(sends_nothing());
+    OK(nb_server_withdraw_global(&server, &told));
+    put(4, 1, "u", told.name);
+    HOLDS(sends(&client));
+    OK(nb_server_withdraw_global(&server, &told));
+    HOLDS(sends_nothing());
+    put(4, 0, "usuu", told.name, "quad", 3, 5); /* it is bound by this registry as by any other */
+    OK(arrive(NULL, 0));
+    OK(next_action());
+    HOLDS(action.kind == NB_BIND && action.created.number == 5);
+    OK(nb_server_finish_bind(&server, &client, 99, &is_kept));
+    registry.serial += 9;
+    IS(nb_server_announce_global(&server, &registry, &told), NB_INVALID_ID);
+    told.serial += 9;
+    IS(nb_server_announce_global(&server, &action.created, &told), NB_INVALID_ID);
+    OK(nb_server_end(&server));
+}
+
 /* An event with a string and an array, and null in their place, from a table of its own. */
 static void texts(void)
 {
@@ -617,6 +660,7 @@ int main(void)
     object_limit();
     notes_unkept();
     waiting();
+    registries();
     texts();
     globals();
     hidden();

@@ -8,6 +8,7 @@ mod client;
 mod client_acts;
 mod drills;
 mod queues;
+mod registries;
 mod rows;
 mod server;
 mod session;

@@ -17,6 +17,12 @@ pub const SYNC_AT_SERVER: [u8; 12] = [1, 0, 0, 0, 0, 0, 12, 0, 0, 0, 0, 255];
 /// `wl_display.get_registry` with the new id 2.
 pub const GET_REGISTRY: [u8; 12] = [1, 0, 0, 0, 1, 0, 12, 0, 2, 0, 0, 0];
 
+/// The same with the new id 3.
+pub const GET_REGISTRY_AT_3: [u8; 12] = [1, 0, 0, 0, 1, 0, 12, 0, 3, 0, 0, 0];
+
+/// The same with the new id 4.
+pub const GET_REGISTRY_AT_4: [u8; 12] = [1, 0, 0, 0, 1, 0, 12, 0, 4, 0, 0, 0];
+
 /// `wl_registry.bind`, by registry 2, of the global 1, as `quad` of version 3, with the new id 3.
 pub const BIND: [u8; 32] = [
     2, 0, 0, 0, 0, 0, 32, 0, 1, 0, 0, 0, 5, 0, 0, 0, 113, 117, 97, 100, 0, 0, 0, 0, 3, 0, 0, 0, 3,

@@ -36,6 +36,8 @@ pub enum Call {
     Remove(Named),
     /// `Step::KeepGlobalNames`.
     KeepNames(bool),
+    /// `Step::HandOutRegistries`.
+    HandOutRegistries(bool),
     /// `Step::SetObjectLimit`.
     ObjectLimit(Option<u32>),
     /// `Step::Flush` of one client.
@@ -163,6 +165,7 @@ fn of_server(alloc: Global, call: Call) -> Result<Made, Fail> {
         Call::Disable(global) => Ok(Step::DisableGlobal(global.id())),
         Call::Remove(global) => Ok(Step::RemoveGlobal(global.id())),
         Call::KeepNames(keep) => Ok(Step::KeepGlobalNames(keep)),
+        Call::HandOutRegistries(hand_out) => Ok(Step::HandOutRegistries(hand_out)),
         Call::ObjectLimit(limit) => Ok(Step::SetObjectLimit(limit)),
         Call::Flush(who) => Ok(Step::Flush(Some(who.id()))),
         Call::FlushAll => Ok(Step::Flush(None)),

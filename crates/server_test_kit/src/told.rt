@@ -147,6 +147,12 @@ fn bound(log: &mut String, global: GlobalId, id: ObjectId) -> Result<(), Fail> {
     Ok(writeln!(log)?)
 }
 
+/// Tells a registry that is handed out.
+fn registry(log: &mut String, id: ObjectId) -> Result<(), Fail> {
+    named(log, "registry ", id)?;
+    Ok(writeln!(log)?)
+}
+
 /// Tells an action.
 pub fn action(log: &mut String, action: &Action) -> Result<(), Fail> {
     match action {
@@ -161,6 +167,7 @@ pub fn action(log: &mut String, action: &Action) -> Result<(), Fail> {
             of_request(log, *is_destructor, *created)
         }
         Action::Bind { global, object } => bound(log, *global, *object),
+        Action::Registry { object } => registry(log, *object),
     }
 }
 

@@ -78,6 +78,10 @@ pub enum Event {
     Moved(Thing, i32),
     /// `quad.made`, by its sender, of a new object.
     Made(Thing, Thing),
+    /// `wl_registry.global`, by its sender, of a `quad` of version 3 that has this name.
+    Global(Thing, u32),
+    /// `wl_registry.global_remove`, by its sender, of this name.
+    GlobalRemove(Thing, u32),
     /// `pair.joined`, by its sender: of the object twice, the string `ab`, three bytes and the descriptor 9.
     Joined(Thing, Thing),
 }
@@ -92,8 +96,10 @@ impl Event {
     fn header(self) -> (Thing, u16) {
         match self {
             Event::Bare(sender, opcode) => (sender, opcode),
-            Event::Moved(sender, _) | Event::Joined(sender, _) => (sender, 0),
-            Event::Made(sender, _) => (sender, 1),
+            Event::Moved(sender, _) | Event::Joined(sender, _) | Event::Global(sender, _) => {
+                (sender, 0)
+            }
+            Event::Made(sender, _) | Event::GlobalRemove(sender, _) => (sender, 1),
         }
     }
 }
@@ -122,6 +128,14 @@ fn push_joined(alloc: Global, args: &mut Arguments, object: Thing) -> Result<(),
     Ok(args.push(Argument::Fd(Token(9)))?)
 }
 
+/// Appends the arguments of `wl_registry.global` to the others: of a `quad` of version 3 that has this name.
+fn push_global(alloc: Global, args: &mut Arguments, name: u32) -> Result<(), Fail> {
+    let interface = CString::new(Vec::from_slice(alloc, b"quad")?)?;
+    args.push(Argument::Uint(name))?;
+    args.push(Argument::Str(Some(interface)))?;
+    Ok(args.push(Argument::Uint(3))?)
+}
+
 /// Appends the event's arguments to the others.
 fn push_arguments(alloc: Global, args: &mut Arguments, event: Event) -> Result<(), Fail> {
     match event {
@@ -129,6 +143,8 @@ fn push_arguments(alloc: Global, args: &mut Arguments, event: Event) -> Result<(
         Event::Moved(_, value) => args.push(Argument::Int(value))?,
         Event::Made(_, object) => args.push(Argument::NewId(object.id()))?,
         Event::Joined(_, object) => push_joined(alloc, args, object)?,
+        Event::Global(_, name) => push_global(alloc, args, name)?,
+        Event::GlobalRemove(_, name) => args.push(Argument::Uint(name))?,
     }
     Ok(())
 }

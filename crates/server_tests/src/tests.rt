@@ -17,6 +17,7 @@ mod long;
 mod no_memory;
 mod notes;
 mod one_client;
+mod registries;
 mod run;
 mod violations;
 mod walks;

@@ -22,7 +22,7 @@ use Rattle.wl_server.specs.declared.error.InsertClientError.TheVariants as inser
 use Rattle.wl_server.specs.declared.error.ScriptError.{ScriptError}
 use Rattle.wl_server.specs.declared.error.ScriptError.TheVariants as script
 use Rattle.wl_server.specs.declared.runs.step.Reply.TheVariants as reply
-use Rattle.wl_server.specs.Deeds.{Bind, Handed, Request, handed}
+use Rattle.wl_server.specs.Deeds.{Bind, Handed, Registry, Request, handed}
 use Rattle.wl_server.specs.Ids.{ClientParts, IdParts}
 use Rattle.wl_bench.specs.declared.command.Command.{Command}
 use Rattle.wl_bench.specs.declared.command.Command.TheVariants.{Insert, Client, Dispatch, Create, Disable, Remove, Flush, Cleanup, Notes}
@@ -143,6 +143,7 @@ action_unfed (Request sender opcode args is_destructor created) =
     let closes = both (named ++ codes " [" ++ arguments_text args) (codes "]") listed refl in
     both (named ++ codes " [" ++ arguments_text args ++ codes "]") (effect_text is_destructor created) closes (effect_unfed is_destructor created)
 action_unfed (Bind global object) = two_numbers (codes "bind ") global.name object.number refl
+action_unfed (Registry object) = both (codes "registry ") (decimal object.number) refl (number object.number)
 
 fault_unfed : (e : ActionError) → Unfed (fault_text e)
 fault_unfed ActionOpen = refl

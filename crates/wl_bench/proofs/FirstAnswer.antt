@@ -183,7 +183,14 @@ module _ (U G C : Type 0) (views : G → ClientParts → C → GlobalParts → B
   first_part = fresh_part (link_with arriving nothing nothing) client_data
 
   abbrev place : Around G C
-  place = record { table = fixed_rows; client = client; globals = (new_offer fixed_rows).globals; views = views; object_limit = None }
+  place = record {
+    table = fixed_rows;
+    client = client;
+    globals = (new_offer fixed_rows).globals;
+    views = views;
+    object_limit = None;
+    hands_registries = false;
+  }
 
   display_held : held display_alone 1 ≡ Some display_object
   display_held = stored_here empty_store 1 display_object 1 refl

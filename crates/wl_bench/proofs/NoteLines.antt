@@ -183,6 +183,7 @@ module _ (law : EachCallCausesItsErrors ℕ dispatch_world) (id : ClientParts) w
       ends : (a : _) → Answers dispatch_world line_answers id h found a handles.end h' handles.left → IsHarmless handles.end × (handles.left ≡ found)
       ends (action.Request sender opcode args is_destructor created) (u, answers, is) = (subst IsHarmless (sym is) tt, answers.2)
       ends (action.Bind global object) (u, answers, is) = (subst IsHarmless (sym is) tt, answers.2)
+      ends (action.Registry object) (kept, left, is) = (subst IsHarmless (sym is) tt, left)
 
   round_plain : {h h' : LineHandler} {r r' : Reading} {s s' : BenchServer} {run : List BenchEntry} {lacked : Bool} {why : Option FinishError}
       → Round dispatch_world line_answers id h r s run lacked why h' r' s' → IsPlain s → IsPlain s'

@@ -11,7 +11,7 @@ use Rattle.wl_server.specs.declared.notes.DisconnectReason.{DisconnectReason}
 use Rattle.wl_server.specs.declared.notes.DisconnectReason.TheVariants as ended
 use Rattle.wl_server.specs.declared.runs.step.Reply.TheVariants as reply
 use Rattle.wl_server.specs.declared.runs.step.Step.TheVariants as step
-use Rattle.wl_server.specs.Deeds.{Bind, Deed, Handed, Request, handed}
+use Rattle.wl_server.specs.Deeds.{Bind, Deed, Handed, Registry, Request, handed}
 use Rattle.wl_server.specs.Globals.{Offer}
 use Rattle.wl_server.specs.Ids.{ClientParts, same_client}
 use Rattle.wl_server.specs.PartStep.{Asked, Call, PartCall, PartStep, Unfelt}
@@ -177,6 +177,7 @@ letter n other e = true≢false (sym (eq-eqb n 117 e) ∙ other)
 plain_action : (action : Handed) → get_or (action_text action) 1 0 ≢ 117
 plain_action (Request sender opcode args is_destructor created) e = letter 101 refl e
 plain_action (Bind global object) e = letter 105 refl e
+plain_action (Registry object) e = letter 101 refl e
 
 -- one line, the second letter of which is no `u`
 abbrev IsPlain : BenchReply → Type 0

@@ -25,7 +25,7 @@ use Rattle.wl_server.specs.declared.notes.Note.{Note}
 use Rattle.wl_server.specs.declared.notes.Note.TheVariants as note
 use Rattle.wl_server.specs.declared.runs.step.Reply.{Reply}
 use Rattle.wl_server.specs.declared.runs.step.Reply.TheVariants as reply
-use Rattle.wl_server.specs.Deeds.{Bind, Handed, Request, handed}
+use Rattle.wl_server.specs.Deeds.{Bind, Handed, Registry, Request, handed}
 use Rattle.wl_server.specs.Ids.{ClientParts, GlobalParts, IdParts}
 use Rattle.wl_bench.specs.Hex.{hex_digits}
 
@@ -80,11 +80,16 @@ effect_text is_destructor created = codes " destructor=" ++ flag_text is_destruc
 abbrev pub bind_text : GlobalParts → IdParts → Line
 bind_text global object = codes "bind " ++ decimal global.name ++ codes " " ++ decimal object.number
 
+-- no command of the bench has registries handed out
+abbrev pub registry_text : IdParts → Line
+registry_text object = codes "registry " ++ decimal object.number
+
 abbrev pub action_text : Handed → Line
 action_text (Request sender opcode args is_destructor created) =
     codes "request " ++ decimal sender.number ++ codes " " ++ decimal opcode ++ codes " [" ++ arguments_text args ++ codes "]"
     ++ effect_text is_destructor created
 action_text (Bind global object) = bind_text global object
+action_text (Registry object) = registry_text object
 
 -- how a reading is answered if it hands out no action
 abbrev pub name_of_fault : ActionError → Line

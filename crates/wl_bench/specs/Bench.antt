@@ -17,7 +17,7 @@ use Rattle.wl_server.specs.declared.runs.step.Reply.TheVariants as reply
 use Rattle.wl_server.specs.declared.runs.step.Step.{Step}
 use Rattle.wl_server.specs.declared.runs.step.Step.TheVariants as step
 use Rattle.wl_server.specs.Backend.{BackendState}
-use Rattle.wl_server.specs.Deeds.{Bind, Handed, Request, handed}
+use Rattle.wl_server.specs.Deeds.{Bind, Handed, Registry, Request, handed}
 use Rattle.wl_server.specs.Dispatch.{Answering, DispatchesAll, answering}
 use Rattle.wl_server.specs.Ids.{ClientParts, GlobalParts, IdParts}
 use Rattle.wl_server.specs.PartStep.{World, over, over_scripts}
@@ -166,6 +166,7 @@ take_step client = step.TakeSent client
 abbrev pub opened_by : Handed → Open
 opened_by (Request sender opcode args is_destructor created) = opened.Request (is_some created)
 opened_by (Bind global object) = opened.Bind
+opened_by (Registry object) = opened.Bind
 
 abbrev pub seat_told : Seat → BenchReply → Seat
 seat_told seat (reply.NextAction (Ok action)) = record seat { action = Some (opened_by (handed action)) }

@@ -5,7 +5,7 @@ ghost use Rattle.std.specs.List.{flat_map};
 ghost use Rattle.std.specs.String.{string_bytes};
 ghost use Rattle.wl_link.specs.Script.{parcel};
 ghost use Rattle.wl_server.specs.Deeds.{handed};
-ghost use Rattle.wl_bench.specs.Answers.{answer_lines, bind_text, destroyed_text, error_front, error_place, answer_text, action_text, argument_text, arguments_text, bytes_of, client_text, effect_text, end_text, error_text, fault_text, finish_name, global_name, global_text, hex, insert_name, name_of_fault, note_lines, note_text, record_lines, records_lines, refusal_text, script_name, sent_lines, sent_text, taken_out_lines, tokens_of, tokens_text};
+ghost use Rattle.wl_bench.specs.Answers.{answer_lines, bind_text, destroyed_text, error_front, error_place, answer_text, action_text, argument_text, arguments_text, bytes_of, client_text, effect_text, end_text, error_text, fault_text, finish_name, global_name, global_text, hex, insert_name, name_of_fault, note_lines, note_text, record_lines, registry_text, records_lines, refusal_text, script_name, sent_lines, sent_text, taken_out_lines, tokens_of, tokens_text};
 
 use std::alloc::{AllocError, Global};
 use wl_link::Memory;
@@ -94,7 +94,15 @@ fn bind_line(alloc: Global, global: GlobalId, object: ObjectId) -> Result<String
     Ok(line)
 }
 
-/// The line of an action: a request or a bind.
+/// The line of a registry that is handed out.
+fn registry_line(alloc: Global, object: ObjectId) -> Result<String, AllocError>
+    ensures { IfOk result (λ line. string_bytes line ≡ registry_text object) }
+{
+    let line = format!(in alloc; "registry {}", object.protocol_id())?;
+    Ok(line)
+}
+
+/// The line of an action: a request, a bind, or a registry.
 fn action_line(alloc: Global, action: &Action) -> Result<String, AllocError>
     ensures { IfOk result (λ line. string_bytes line ≡ action_text (handed action.now)) }
 {
@@ -113,6 +121,7 @@ fn action_line(alloc: Global, action: &Action) -> Result<String, AllocError>
             Ok(line)
         }
         Action::Bind { global, object } => { bind_line(alloc, *global, *object) }
+        Action::Registry { object } => registry_line(alloc, *object),
     }
 }
 

@@ -34,7 +34,7 @@ pub enum Open {
         /// Whether it made an object.
         made: bool,
     },
-    /// A bind.
+    /// A bind, or a registry that was handed out.
     Bind,
 }
 
@@ -387,7 +387,7 @@ fn opened(action: &Action) -> Open
         Action::Request { created, .. } => Open::Request {
             made: created.is_some(),
         },
-        Action::Bind { .. } => Open::Bind,
+        Action::Bind { .. } | Action::Registry { .. } => Open::Bind,
     }
 }
 

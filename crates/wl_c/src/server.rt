@@ -10,6 +10,7 @@
 //! | `create_global`, `global_name`, .. | `globals` |
 //! | `set_object_limit` | `limits` |
 //! | `violation` | `violations` |
+//! | `hand_out_registries`, `announce_global`, `withdraw_global` | `registries` |
 //! | `next_writable`, `to_send`, `cleanup`, `next_gone`, .. | `sending` |
 //! | `waiting` | `waiting` |
 
@@ -21,6 +22,7 @@ mod kept;
 mod limits;
 mod objects;
 mod place;
+mod registries;
 mod sending;
 mod session;
 mod violations;

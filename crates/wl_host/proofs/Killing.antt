@@ -4,7 +4,7 @@ use Rattle.std.specs.Prelude.{if◌then◌else◌, nat_lt}
 use Rattle.wl_wire.specs.declared.error.IoFault.{IoFault}
 use Rattle.wl_wire.specs.declared.error.IoFault.TheVariants as fault
 use Rattle.wl_wire.specs.Message.{WireMessage}
-use Rattle.wl_wire.specs.Table.{MessageRow, name_of}
+use Rattle.wl_wire.specs.Table.{MessageRow, name_of, registry_id}
 use Rattle.wl_link.specs.declared.object.Object.{Object}
 use Rattle.wl_link.proofs.Calls.Branches.{either_bool, either_option, either_result}
 use Rattle.wl_link.specs.Exchange.{Queue, Sending}
@@ -121,6 +121,8 @@ module _ {U G C : Type 0} (a : Around G C) where
         request_case a c Form (garbled_form c) (breaks_form c)
         (λ n valid. replies_form _ _ [] none_quiet)
         (λ n valid. replies_form _ _ _ (remembered_quiet _))
+        (λ n valid. hands_out_form (with_objects c (with_made (objects_in c) n registry_id 1)) (opened.Bind (made_id a.client (objects_in c) n registry_id))
+        (deeds.Registry (made_id a.client (objects_in c) n registry_id)) live)
         (λ g version n x valid. hands_out_form (with_objects c (with_made (objects_in c) n x.interface version)) (opened.Bind (made_id a.client (objects_in c) n x.interface))
         (deeds.Bind (global_at g x) (made_id a.client (objects_in c) n x.interface)) live)
         m (λ receiver row holds is. other_form m receiver row)

@@ -268,6 +268,9 @@ module _ (b a : CoreState) where
   pub object_limit_kills : (limit : Option ℕ) → Calls world b (step.SetObjectLimit limit) reply.SetObjectLimit a → KillsNobody b a
   object_limit_kills limit call = by_each _ _ call (λ id lacked did h k. unfelt (seen id b.server) (seen id a.server) lacked did h.1 k)
 
+  pub hand_out_registries_kills : (hand_out : Bool) → Calls world b (step.HandOutRegistries hand_out) reply.HandOutRegistries a → KillsNobody b a
+  hand_out_registries_kills hand_out call = by_each _ _ call (λ id lacked did h k. unfelt (seen id b.server) (seen id a.server) lacked did h.1 k)
+
   pub finish_bind_kills : (client : ClientParts) (u : ℕ) (answer : Result (Unit {0}) (FinishRefused ℕ)) → Calls world b (step.FinishBind client u) (reply.FinishBind answer) a
       → KillsNobody b a
   finish_bind_kills client u answer call =

@@ -64,6 +64,7 @@ allowed_action : (core : CoreState) (h : Handed) → null_in core h ≡ 0 → Is
 allowed_action core (deeds.Request sender opcode args is_destructor created) none =
     (tells_null flat_resource (signature_of (request_row core.server.offer.table sender.interface opcode)) args).none.0 none
 allowed_action core (deeds.Bind global object) none = tt
+allowed_action core (deeds.Registry object) none = tt
 
 -- the null of what was read; 0 if nothing was
 abbrev null_read : CoreState → Result Action ActionError → ℕ

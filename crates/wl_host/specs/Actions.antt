@@ -40,11 +40,13 @@ use Rattle.wl_host.specs.declared.status.Status.TheVariants as status
 abbrev pub args_of : Handed → List (Argument IdParts Token)
 args_of (deeds.Request sender opcode args is_destructor created) = args
 args_of (deeds.Bind global object) = []
+args_of (deeds.Registry object) = []
 
 -- whether it ends the object that it was sent to
 abbrev pub is_end : Handed → Bool
 is_end (deeds.Request sender opcode args is_destructor created) = is_destructor
 is_end (deeds.Bind global object) = false
+is_end (deeds.Registry object) = false
 
 -- the object that it made, if it made one
 abbrev pub flat_created : Option IdParts → FlatObjectId
@@ -87,6 +89,8 @@ flat_action core (deeds.Bind global object) = record {
   global = flat_global global;
   forbidden_null = 0;
 }
+flat_action core (deeds.Registry object) =
+    record no_action { kind = kinds.registry; created = flat_resource object; version = version_or_zero core object }
 
 -- ---- the next action of a client
 
@@ -125,6 +129,7 @@ refusal_text core (deeds.Request sender opcode args is_destructor created) =
     (name_in (request_row core.server.offer.table sender.interface opcode))
     (null_in core (deeds.Request sender opcode args is_destructor created))
 refusal_text core (deeds.Bind global object) = []
+refusal_text core (deeds.Registry object) = []
 
 -- The client is killed: the core is asked to post this error on its display, as `invalid_method`. Or there was no memory for the
 -- text, and it is killed as if its connection had ended.

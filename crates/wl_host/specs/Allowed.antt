@@ -17,6 +17,7 @@ abbrev pub IsAllowedAction : CoreState → Handed → Type 0
 IsAllowedAction core (deeds.Request sender opcode args is_destructor created) =
     (n : ℕ) → ¬ (IsForbiddenAt flat_resource (signature_of (request_row core.server.offer.table sender.interface opcode)) args n)
 IsAllowedAction core (deeds.Bind global object) = Unit {0}
+IsAllowedAction core (deeds.Registry object) = Unit {0}
 
 -- what stands in the lent memory is such an action
 abbrev pub LendsAllowedAction : CoreState → List FlatArgument → List ℕ → Lent → Type 0

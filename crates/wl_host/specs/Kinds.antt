@@ -38,6 +38,9 @@ request = 1
 abbrev pub bind : ℕ
 bind = 2
 
+abbrev pub registry : ℕ
+registry = 3
+
 -- ---- notes
 
 abbrev pub inserted : ℕ

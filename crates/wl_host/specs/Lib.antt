@@ -25,6 +25,7 @@ pub mod Lists
 pub mod Notes
 pub mod Nulls
 pub mod Readers
+pub mod Registries
 pub mod Rows
 pub mod Seats
 pub mod Sending

@@ -28,12 +28,13 @@ use Rattle.wl_host.specs.declared.flat.Gone.{Gone}
 use Rattle.wl_host.specs.declared.server.HostClient.{HostClient}
 use Rattle.wl_host.specs.declared.server.ledger.Departed.{Departed}
 use Rattle.wl_host.specs.declared.server.ledger.Ledger.{Ledger}
+use Rattle.wl_host.specs.declared.server.registries.Told.{Told}
 use Rattle.wl_host.specs.declared.status.Status.{Status}
 use Rattle.wl_host.specs.declared.status.Status.TheVariants as status
 
 -- The core, and what is kept beside it; the notes that were taken from the core and not handed out, the oldest first; and
--- whether there may be something to be cleaned up, and notes to be taken; and whether requests with a null that the table forbids
--- are refused, and notes are kept for the host.
+-- whether there may be something to be cleaned up, and notes to be taken; whether requests with a null that the table forbids
+-- are refused, and notes are kept for the host; and of which global which registry was told, of those that are handed out.
 pub record ServerState : Type 0 where
   pub core : CoreState
   pub seats : SeatsState
@@ -42,6 +43,7 @@ pub record ServerState : Type 0 where
   pub may_have_notes : Bool
   pub refuses_nulls : Bool
   pub keeps_notes : Bool
+  pub told : List Told
 
 -- how often a descriptor is kept
 abbrev pub kept_by_server : ℤ → ServerState → ℕ

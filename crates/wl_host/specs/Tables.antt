@@ -39,6 +39,7 @@ new_state table = record {
   may_have_notes = false;
   refuses_nulls = false;
   keeps_notes = true;
+  told = [];
 }
 
 -- the session is a new one with the table of the rows

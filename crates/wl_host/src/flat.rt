@@ -38,6 +38,9 @@ pub const REQUEST: u32 = 1;
 /// The kind of a [`FlatAction`] that is a bind.
 pub const BIND: u32 = 2;
 
+/// The kind of a [`FlatAction`] that is a new registry, which the host tells of globals.
+pub const REGISTRY: u32 = 3;
+
 /// The kind of a [`FlatNote`]: the client was inserted.
 pub const INSERTED: u32 = 1;
 
@@ -106,11 +109,12 @@ pub struct FlatArgument {
     pub data: u64,
 }
 
-/// An action of a client: a request ([`REQUEST`]), or a bind ([`BIND`]) of a new object to a global.
+/// An action of a client: a request ([`REQUEST`]), a bind ([`BIND`]) of a new object to a global, or a new registry
+/// ([`REGISTRY`]), if registries are handed out.
 #[repr(C)]
 #[derive(Clone, Copy, Debug, PartialEq, Eq, Drop)]
 pub struct FlatAction {
-    /// Which of the two it is.
+    /// Which of the three it is.
     pub kind: u32,
     /// The opcode of a request.
     pub opcode: u32,
@@ -118,11 +122,11 @@ pub struct FlatAction {
     pub arguments: u32,
     /// 1 if the request is a destructor, which ends its sender; else 0.
     pub is_destructor: u32,
-    /// The object that the request was sent to; null in a bind.
+    /// The object that the request was sent to; null in a bind, and of a registry.
     pub sender: FlatObjectId,
-    /// The program's data of the sender, or of the global; 0 if the sender has none.
+    /// The program's data of the sender, or of the global; 0 if the sender has none, and of a registry.
     pub data: u64,
-    /// The object that the request made, or that was bound; null if the request made none.
+    /// The object that the request made, or that was bound, or the registry; null if the request made none.
     pub created: FlatObjectId,
     /// The version of that object; 0 if there is none.
     pub version: u32,

@@ -28,6 +28,7 @@ ghost use Rattle.wl_host.specs.Flat.{flat_proxy, flat_resource, proxy_of, resour
 ghost use Rattle.wl_host.specs.Killed.{IsSettled, KnowsEnd, StaysSettled};
 ghost use Rattle.wl_host.specs.Notes.{NextNote};
 ghost use Rattle.wl_host.specs.Nulls.{TellsNull, forbidden_null};
+ghost use Rattle.wl_host.specs.Registries.{AllTell, Called, KeepsOutstanding};
 ghost use Rattle.wl_host.specs.Rows.{said_by};
 ghost use Rattle.wl_host.specs.Server.{Ends, NextWritable, Received, Sent, ServerState};
 ghost use Rattle.wl_host.specs.Tables.{AddsInterfaces, ExtendsClient, ExtendsInterfaces, IsNewServer};
@@ -116,6 +117,7 @@ pub fn a_cleanup_looks_for_the_killed()
     ensures set_object_version { (before after : ServerState) (object : FlatObjectId) (version : ℕ) (s : Status) → SetsObjectVersion before.core object version s after.core → after ≡ record before { core = after.core } → StaysSettled before after }
     ensures keep_global_names { (before after : ServerState) (keep : Bool) → Calls world before.core (step.KeepGlobalNames keep) reply.KeepGlobalNames after.core → after ≡ record before { core = after.core } → StaysSettled before after }
     ensures set_object_limit { (before after : ServerState) (limit : Option ℕ) → Calls world before.core (step.SetObjectLimit limit) reply.SetObjectLimit after.core → after ≡ record before { core = after.core } → StaysSettled before after }
+    ensures hand_out_registries { (before after : ServerState) (hand_out : Bool) → Calls world before.core (step.HandOutRegistries hand_out) reply.HandOutRegistries after.core → after ≡ record before { core = after.core } → StaysSettled before after }
     ensures flush_client { (before after : ServerState) (id : ClientParts) (s : Status) → FlushesClient before id s after → StaysSettled before after }
     ensures refused_global { (before after : ServerState) (interface version user_data groups : ℕ) (hidden : List FlatClientId) (s : Status) → CreatesGlobal before.core interface version user_data groups hidden (Err s) after.core → after ≡ record before { core = after.core } → StaysSettled before after }
     ensures next_writable { (before after : ServerState) (result : Result FlatClientId Status) → NextWritable before result after → StaysSettled before after }
@@ -124,4 +126,14 @@ pub fn a_cleanup_looks_for_the_killed()
     ensures cleanup { (before after : ServerState) (s : Status) → CleansUp before s after → StaysSettled before after }
     ensures marked { (before after : ServerState) → after.may_clean_up ≡ true → StaysSettled before after }
     ensures beside { (before after : ServerState) → after.core ≡ before.core → after.may_clean_up ≡ before.may_clean_up → StaysSettled before after }
+{}
+
+/// A registry that was handed out is told of the removal of exactly those globals that it was told of.
+///
+/// `withdraw_global` tells the registries of which it is kept that they were told of the global, and no others. Whatever is called
+/// between: it is kept only of registries that were told of it (`announce_global`), and not of its removal since; and of a registry
+/// that is there all the while it is kept as often, and in the order, as it was told of globals. What is of a registry that
+/// is gone may be kept no longer.
+pub fn a_registry_is_told_of_the_removal_of_what_it_was_told_of()
+    ensures { (before : ServerState) (run : List Called) → AllTell before run → KeepsOutstanding before run }
 {}

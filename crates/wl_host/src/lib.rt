@@ -52,7 +52,7 @@ pub use extending::ExtensionFault;
 pub use flat::{
     BIND, Counts, DESTROYED, FlatAction, FlatArgument, FlatClientId, FlatError, FlatEvent,
     FlatGlobalId, FlatGlobalInfo, FlatHeldObject, FlatNote, FlatObjectId, FlatObjectInfo,
-    FlatRequest, Gone, INSERTED, IO, KILLED, PROTOCOL, REQUEST, Waiting, kind,
+    FlatRequest, Gone, INSERTED, IO, KILLED, PROTOCOL, REGISTRY, REQUEST, Waiting, kind,
 };
 pub use laws::{a_forbidden_null_is_told, flat_arguments_come_back};
 pub use readers::{FlatReaders, FlatTurn};

@@ -9,6 +9,7 @@
 //! | objects, globals | `server::objects`, `server::chosen`, `server::held`, `server::globals` |
 //! | `set_object_limit` | `server::limits` |
 //! | what is to be sent, what waits, and clients that are gone | `server::sending`, `server::waiting`, `server::departures` |
+//! | registries that are handed out | `server::registries` |
 //! | notes, `keep_notes` | `server::notes` |
 //! | `violation` | `server::violations` |
 
@@ -27,6 +28,7 @@ pub mod listing;
 pub mod notes;
 pub mod objects;
 pub mod refusals;
+pub mod registries;
 pub mod seats;
 pub mod sending;
 pub mod slots;
@@ -48,6 +50,7 @@ use crate::arguments::{FromFlat, Objects};
 use crate::extending::{ExtensionFault, Growing, extend};
 use crate::flat::{FlatClientId, FlatGlobalId, FlatObjectId};
 use crate::rows::{Rows, TableFault, interfaces_of, table_answer};
+use crate::server::registries::Told;
 use crate::server::seats::Seats;
 use crate::status::Status;
 use smallvec::SmallVec;
@@ -129,6 +132,8 @@ pub struct Server {
     pub(crate) refuses_nulls: bool,
     /// Whether notes are kept until the host takes them.
     pub(crate) keeps_notes: bool,
+    /// Which registries were told of which globals, and not of their removal since, in order.
+    pub(crate) told: Vec<Told>,
 }
 
 impl fmt::Debug for Server {
@@ -154,6 +159,7 @@ impl Model for Server {
       may_have_notes = s.may_have_notes;
       refuses_nulls = s.refuses_nulls;
       keeps_notes = s.keeps_notes;
+      told = s.told.items;
     } };
 }
 
@@ -204,6 +210,7 @@ impl Server {
             may_have_notes: false,
             refuses_nulls: false,
             keeps_notes: true,
+            told: Vec::new(alloc),
         }
     }
 

@@ -7,3 +7,4 @@ pub mod WholeCalls
 pub mod Announcements
 mod Chosen
 mod Limited
+mod Registries

@@ -87,7 +87,8 @@ module _ {T U G C : Type 0} where
   IsAlwaysLeftAlone r (e ∷ run) = IsLeftAlone r e.call × IsAlwaysLeftAlone r run
 
   -- If the client is live: on each registry that was made for it, and that the program leaves alone, exactly the enabled
-  -- globals that the client may see are announced and not taken back.
+  -- globals that the client may see are announced and not taken back. A registry that was handed out is none of these: what is
+  -- announced on it the program says by itself.
   abbrev pub AnnouncesShown : World T G C → ClientParts → Offer G → List (Own T U G C) → Seen T U C → Type 0
   AnnouncesShown w id offer run s =
       (registry : Id) → Contains (registries_in (history run)) registry → IsAlwaysLeftAlone registry run

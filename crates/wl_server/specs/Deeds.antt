@@ -18,10 +18,12 @@ use Rattle.wl_server.specs.Ids.{GlobalParts, IdParts}
 pub data Handed : Type 0 where
   Request : (sender : IdParts) (opcode : ℕ) (args : List (Argument IdParts Token)) (is_destructor : Bool) (created : Option IdParts) → Handed
   Bind : (global : GlobalParts) (object : IdParts) → Handed
+  Registry : (object : IdParts) → Handed
 
 abbrev pub handed : Action → Handed
 handed (action.Request sender opcode args is_destructor created) = Request sender opcode args.items is_destructor created
 handed (action.Bind global object) = Bind global object
+handed (action.Registry object) = Registry object
 
 -- one thing that a call does with a client
 pub data Deed (U : Type 0) : Type 0 where
@@ -60,7 +62,7 @@ module _ {U : Type 0} where
   notes_in (Noted h ∷ did) = h ∷ notes_in did
   notes_in (_ ∷ did) = notes_in did
 
-  -- the registries that were made
+  -- the registries that were made, and are told of globals
   abbrev pub registries_in : List (Deed U) → List Id
   registries_in [] = []
   registries_in (Remembered r ∷ did) = r ∷ registries_in did

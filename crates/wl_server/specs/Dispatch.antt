@@ -80,12 +80,14 @@ cleaned _ answer = answer
 module _ {H T U G C : Type 0} (w : World T G C) (answers : Answering H T U G C) (id : ClientParts) where
   -- ---- a round
 
-  -- the handler is called with the action, and `end` is the call that ends the action with the handler's answer
+  -- The handler is called with the action, and `end` is the call that ends the action with the handler's answer. It is called with
+  -- requests and binds alone: a new registry that is handed out is ended as a request would be, which is refused, so it stays open.
   abbrev pub Answers : H → BackendState T U G C → Action → Step T U G C → H → BackendState T U G C → Type 0
   Answers h before (action.Request sender opcode args is_destructor created) end h' after =
       (u : Option U) × answers.requests h before id sender opcode args.items created u h' after × (end ≡ step.FinishRequest id u)
   Answers h before (action.Bind global object) end h' after =
       (u : U) × answers.binds h before id global object u h' after × (end ≡ step.FinishBind id u)
+  Answers h before (action.Registry object) end h' after = (h' ≡ h) × (after ≡ before) × (end ≡ step.FinishRequest id None)
 
   -- An action is handled: the handler is called once, and makes these calls. Then its answer ends the action, or the end is
   -- refused for this reason.

@@ -25,13 +25,15 @@ pub record Globals (G : Type 0) : Type 0 where
 abbrev pub name_range : Range
 name_range = record { first = 1; end = 0x100000000 }
 
--- what the server offers to all clients: its table, its globals, the limit of a new client's buffers, and the greatest number at
--- which a request may make an object, if there is a limit
+-- what the server offers to all clients: its table, its globals, the limit of a new client's buffers, the greatest number at which a
+-- request may make an object, if there is a limit, and whether a registry that is asked for is handed out; if it is not, the server
+-- itself tells it of the globals
 pub record Offer (G : Type 0) : Type 0 where
   pub table : List InterfaceRow
   pub globals : Globals G
   pub default_limit : ℕ
   pub object_limit : Option ℕ
+  pub hands_registries : Bool
 
 -- what a client sees of a global
 pub record Shown : Type 0 where
@@ -44,7 +46,7 @@ module _ {G : Type 0} where
   no_globals = record { store = empty_store; last_serial = 0; keeps_names = false }
 
   abbrev pub new_offer : List InterfaceRow → Offer G
-  new_offer table = record { table = table; globals = no_globals; default_limit = 4096; object_limit = None }
+  new_offer table = record { table = table; globals = no_globals; default_limit = 4096; object_limit = None; hands_registries = false }
 
   abbrev pub with_globals : Offer G → Globals G → Offer G
   with_globals offer globals = record offer { globals = globals }
@@ -52,6 +54,10 @@ module _ {G : Type 0} where
   -- names are kept from now on, or not
   abbrev pub keeping : Offer G → Bool → Offer G
   keeping offer keeps = with_globals offer (record offer.globals { keeps_names = keeps })
+
+  -- registries are handed out from now on, or not
+  abbrev pub handing_registries : Offer G → Bool → Offer G
+  handing_registries offer hands = record offer { hands_registries = hands }
 
   abbrev pub with_table : Offer G → List InterfaceRow → Offer G
   with_table offer table = record offer { table = table }

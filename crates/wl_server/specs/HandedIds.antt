@@ -1,6 +1,6 @@
 -- The ids that calls hand out.
 use Rattle.std.specs.Prelude.{List, [], ◌∷◌, ◌++◌, Option, None, Some, Result, Ok, Err}
-use Rattle.wl_server.specs.Deeds.{Bind, Handed, Request}
+use Rattle.wl_server.specs.Deeds.{Bind, Handed, Registry, Request}
 use Rattle.wl_server.specs.Ids.{IdParts}
 use Rattle.wl_link.specs.Identity.{HandedId, Found, New, argument_ids}
 
@@ -8,10 +8,11 @@ abbrev pub created_ids : Option IdParts → List (HandedId IdParts)
 created_ids None = []
 created_ids (Some id) = New id ∷ []
 
--- the ids of an action: its sender's and those among its arguments, or that of the object that is bound
+-- the ids of an action: its sender's and those among its arguments, or that of the object that is bound, or of the new registry
 abbrev pub action_ids : Handed → List (HandedId IdParts)
 action_ids (Request sender opcode args is_destructor created) = Found sender ∷ (argument_ids args ++ created_ids created)
 action_ids (Bind global object) = New object ∷ []
+action_ids (Registry object) = New object ∷ []
 
 -- the id of an object that the program made
 abbrev pub made_ids : {E : Type 0} → Result IdParts E → List (HandedId IdParts)

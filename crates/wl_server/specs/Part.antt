@@ -15,9 +15,9 @@ use Rattle.wl_server.specs.declared.notes.Happening.TheVariants.{Destroyed}
 use Rattle.wl_server.specs.Ids.{ClientParts, IdParts}
 
 -- The link to the client, the program's data of it, its objects and the last serial given out, whether it was killed, the
--- action that was handed out and not finished yet, the kept registries that were made for it, in order, and the notes that
--- wait for the next cleanup, in order. If it was killed for a message, how that broke the protocol. The client's id is not in
--- here, since no step changes it.
+-- action that was handed out and not finished yet, the kept registries that the server tells of globals, in the order in which they
+-- were made, and the notes that wait for the next cleanup, in order. If it was killed for a message, how that broke the protocol. The
+-- client's id is not in here, since no step changes it.
 pub record Part (T U C : Type 0) : Type 0 where
   pub link : LinkState T
   pub client_data : C

@@ -124,7 +124,14 @@ module _ {T U C : Type 0} where
   WithTransport becomes before after = (t : T) × becomes before.link.transport t × (after ≡ with_link before (with_transport before.link t))
 
 abbrev pub around : {T G C : Type 0} → World T G C → ClientParts → Offer G → Around G C
-around w id offer = record { table = offer.table; client = id; globals = offer.globals; views = w.views; object_limit = offer.object_limit }
+around w id offer = record {
+  table = offer.table;
+  client = id;
+  globals = offer.globals;
+  views = w.views;
+  object_limit = offer.object_limit;
+  hands_registries = offer.hands_registries;
+}
 
 module _ {T U G C : Type 0} (w : World T G C) (id : ClientParts) (offer : Offer G) where
   -- ---- insertion
@@ -238,6 +245,7 @@ module _ {T U G C : Type 0} (w : World T G C) (id : ClientParts) (offer : Offer 
   PartStep (step.RemoveGlobal g) answer before lacked did after = (answer ≡ reply.RemoveGlobal) × FeelsLoss g before lacked did after
   PartStep (step.KeepGlobalNames keep) answer before lacked did after = (answer ≡ reply.KeepGlobalNames) × Unfelt before lacked did after
   PartStep (step.SetObjectLimit limit) answer before lacked did after = (answer ≡ reply.SetObjectLimit) × Unfelt before lacked did after
+  PartStep (step.HandOutRegistries hands) answer before lacked did after = (answer ≡ reply.HandOutRegistries) × Unfelt before lacked did after
   PartStep (step.Flush target) answer before lacked did after =
       (r : _) × (answer ≡ reply.Flush r) × FlushedFor target r before lacked did after
   PartStep (step.SetDefaultMaxBufferSize limit) answer before lacked did after =

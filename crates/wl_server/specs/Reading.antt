@@ -39,14 +39,15 @@ use Rattle.wl_server.specs.Requests.{Outcome, Whole, Wrong, convert, is_valid_ne
 use Rattle.wl_server.specs.Telling.{Core, Did, Finish, Stops, Told, closed_down, deeds_of, deletions, done_message, introductions, objects_in, part_of, reader_part, tells, with_objects}
 use Rattle.wl_server.specs.Violations.{Addressed, addressed, interface_of, unread_fault, violation}
 
--- what a reading looks at beside its own client: the table, the client's id, the globals, what a client may see of them, and the
--- greatest number at which a request may make an object, if there is a limit
+-- what a reading looks at beside its own client: the table, the client's id, the globals, what a client may see of them, the greatest
+-- number at which a request may make an object, if there is a limit, and whether registries are handed out
 pub record Around (G C : Type 0) : Type 0 where
   pub table : List InterfaceRow
   pub client : ClientParts
   pub globals : Globals G
   pub views : G → ClientParts → C → GlobalParts → Bool
   pub object_limit : Option ℕ
+  pub hands_registries : Bool
 
 -- ---- what the table says of a request
 
@@ -141,9 +142,16 @@ module _ {U G C : Type 0} (a : Around G C) where
       replies (with_registry c n) (introductions a.table (new_at c n) 0 (shown a.views a.globals a.client c.client_data))
       (Remembered (new_at c n) ∷ [])
 
+  -- a new registry is handed out, and the server tells it of nothing, neither now nor later
+  abbrev pub hands_registry : Core U C → ℕ → Verdict (Core U C) (Told U)
+  hands_registry c n =
+      let id = made_id a.client (objects_in c) n registry_id in
+      hands_out (with_objects c (with_made (objects_in c) n registry_id 1)) (opened.Bind id) (deeds.Registry id)
+
   -- opcode 0 is `sync`, and 1 is `get_registry`
   abbrev pub display_request : Core U C → Addressed → ℕ → List WireArgument → Verdict (Core U C) (Told U)
-  display_request c to opcode (arg.NewId n ∷ []) = made_at c to 0 n (if opcode == 0 then syncs c n else registers c n)
+  display_request c to opcode (arg.NewId n ∷ []) =
+      made_at c to 0 n (if opcode == 0 then syncs c n else (if a.hands_registries then hands_registry c n else registers c n))
   display_request c to opcode _ = garbled c (violation to message.UnknownOpcode)
 
   -- ---- requests to a registry

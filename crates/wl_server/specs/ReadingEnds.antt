@@ -1,6 +1,6 @@
 -- How a reading of a client ends: with an action of the message that its last turn found at the front, or for one of a few
 -- reasons, two of which speak of that message, too.
-use Rattle.std.specs.Prelude.{◌≡◌, ◌⊎◌, ℕ, List, [], ◌∷◌, ◌++◌, map, Bool, true, false, Option, None, Some, IsSome, is_some, Result, Ok, Err, MatchOption}
+use Rattle.std.specs.Prelude.{◌≡◌, ◌≢◌, ◌⊎◌, ℕ, List, [], ◌∷◌, ◌++◌, map, Bool, true, false, Option, None, Some, IsSome, is_some, Result, Ok, Err, MatchOption}
 use Rattle.wl_wire.specs.declared.argument.Argument.{Argument}
 use Rattle.wl_wire.specs.declared.argument.Argument.TheVariants as arg
 use Rattle.wl_wire.specs.declared.argument.ArgumentType.{ArgumentType}
@@ -28,7 +28,7 @@ use Rattle.wl_server.specs.declared.reading.action.OpenAction.TheVariants as ope
 use Rattle.wl_server.specs.declared.reading.action.Reading.{Reading}
 use Rattle.wl_server.specs.declared.reading.violation.Violation.{Violation}
 use Rattle.wl_server.specs.Backend.{BackendState}
-use Rattle.wl_server.specs.Deeds.{Bind, Handed, Request, notes_in}
+use Rattle.wl_server.specs.Deeds.{Bind, Handed, Registry, Request, notes_in}
 use Rattle.wl_server.specs.Events.{wire_argument}
 use Rattle.wl_server.specs.Globals.{global_at}
 use Rattle.wl_server.specs.Ids.{ClientParts, GlobalParts, IdParts}
@@ -185,9 +185,21 @@ module _ {T U G C : Type 0} (sends : T → Queue → Result ℕ IoFault → T �
       × (held end.core.store object.number ≡ Some (fresh_object kept.interface version object.serial None))
       × (end.core.action ≡ Some (opened.Bind object))
 
+  -- Registries are handed out, and the message asks the client's display for one: it is a request that is not the first, and its one
+  -- argument is a new number. The action is the new registry, open from now on: an object of that number, of the first version, which
+  -- has no data yet. The number had none before.
+  abbrev pub IsItsRegistry : IdParts → ReaderState T (Core U C) → WireMessage → ReaderState T (Core U C) → Type 0
+  IsItsRegistry object before m end =
+      (x : Object (Kept U)) × (held before.core.store m.sender ≡ Some x) × (x.interface.0 ≡ display_id.0)
+      × (a.hands_registries ≡ true) × (m.opcode ≢ 0) × (m.args ≡ arg.NewId object.number ∷ [])
+      × (object.client ≡ a.client) × (object.interface ≡ registry_id) × (held before.core.store object.number ≡ None)
+      × (held end.core.store object.number ≡ Some (fresh_object registry_id 1 object.serial None))
+      × (end.core.action ≡ Some (opened.Bind object))
+
   abbrev pub IsItsAction : Handed → ReaderState T (Core U C) → WireMessage → ReaderState T (Core U C) → Type 0
   IsItsAction (Request sender opcode args is_destructor created) before m end = IsItsRequest sender opcode args is_destructor created before m end
   IsItsAction (Bind global object) before m end = IsItsBind global object before m end
+  IsItsAction (Registry object) before m end = IsItsRegistry object before m end
 
   -- a message was read at the front of what waits, and this is its action
   abbrev pub ComesOfFront : Handed → ReaderState T (Core U C) → ReaderState T (Core U C) → Type 0

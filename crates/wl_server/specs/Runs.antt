@@ -59,6 +59,7 @@ is_about id (step.DisableGlobal _) = true
 is_about id (step.RemoveGlobal _) = true
 is_about id (step.KeepGlobalNames _) = true
 is_about id (step.SetObjectLimit _) = true
+is_about id (step.HandOutRegistries _) = true
 is_about id (step.Flush None) = true
 is_about id (step.Flush (Some target)) = same_client target id
 is_about id (step.SetDefaultMaxBufferSize _) = true

@@ -12,7 +12,7 @@ use Rattle.wl_server.specs.declared.runs.step.Reply.TheVariants as reply
 use Rattle.wl_server.specs.declared.runs.step.Step.{Step}
 use Rattle.wl_server.specs.declared.runs.step.Step.TheVariants as step
 use Rattle.wl_server.specs.Deeds.{Deed}
-use Rattle.wl_server.specs.Globals.{Globals, Offer, CreatesGlobal, disabled, freed, keeping, with_created, with_globals, with_table}
+use Rattle.wl_server.specs.Globals.{Globals, Offer, CreatesGlobal, disabled, freed, handing_registries, keeping, with_created, with_globals, with_table}
 use Rattle.wl_server.specs.declared.notes.Note.{Note}
 use Rattle.wl_server.specs.Ids.{ClientParts}
 use Rattle.wl_server.specs.NoteOrder.{AllInTime, AllNumbered, AllTakeFirst, IsInOrder, NoneWaits, RiseFromSlot, times_of}
@@ -84,6 +84,7 @@ module _ {T U G C : Type 0} where
   offer_after offer (Asked (step.DisableGlobal g) answer) = with_globals offer (disabled offer.globals g)
   offer_after offer (Asked (step.RemoveGlobal g) answer) = with_globals offer (freed offer.globals g)
   offer_after offer (Asked (step.KeepGlobalNames keep) answer) = keeping offer keep
+  offer_after offer (Asked (step.HandOutRegistries hands) answer) = handing_registries offer hands
   offer_after offer (Asked (step.SetDefaultMaxBufferSize limit) answer) = record offer { default_limit = limit }
   offer_after offer (Asked (step.SetObjectLimit limit) answer) = record offer { object_limit = limit }
   offer_after offer (Grown rows answer) = with_table offer (table_after offer.table rows answer)

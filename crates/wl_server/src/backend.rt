@@ -41,6 +41,8 @@ pub struct Backend<T, U, G, C> {
     pub(crate) default_limit: usize,
     /// The greatest number at which a request may make an object, if there is a limit.
     pub(crate) object_limit: Option<u32>,
+    /// Whether a registry that a client asks for is handed out.
+    pub(crate) hands_registries: bool,
     /// The serial of the client that was inserted last; 0 if none was.
     pub(crate) last_client: u64,
     /// The clients by slot.
@@ -86,6 +88,7 @@ impl<T, U, G, C> Model for Backend<T, U, G, C> {
           globals = record { store = b.globals.store; last_serial = b.last_global; keeps_names = b.keeps_names };
           default_limit = b.default_limit;
           object_limit = b.object_limit;
+          hands_registries = b.hands_registries;
         };
         last_client = b.last_client;
         clients = b.clients.items;
@@ -111,6 +114,7 @@ impl<T: Drop, U: Drop, G: Drop, C: Drop> Backend<T, U, G, C> {
             keeps_names: false,
             default_limit: DEFAULT_MAX_BUFFER_SIZE,
             object_limit: None,
+            hands_registries: false,
             last_client: 0,
             clients: Vec::new(alloc),
             touched: Touched::all(alloc),

@@ -59,8 +59,9 @@ impl<T: Transport + Drop, U: Drop, G: GlobalHandler<C> + Drop, C: Drop> Backend<
     /// # Errors
     ///
     /// - `WouldBlock`: no request was read, and more may come later.
-    /// - `InvalidInput`: the client is not stored, an action of it was open before the call, or an action cannot be
-    ///   finished with the handler's answer.
+    /// - `InvalidInput`: the client is not stored, an action of it was open before the call, an action cannot be
+    ///   finished with the handler's answer, or a registry is handed out (`hand_out_registries`), which no handler is called with
+    ///   and which stays open.
     /// - `Pipe`: the client was killed or broke the protocol.
     /// - `OutOfMemory`: memory ran out in a reading, in the end of an action, or in the cleanup. An action that could
     ///   not be finished stays open, and the user data that the handler gave for it are dropped.

@@ -17,6 +17,8 @@ pub mod create_global;
 pub mod handler;
 /// Look-ups of globals.
 pub mod lookups;
+/// `hand_out_registries`: whether the program tells registries of globals by itself.
+pub mod hand_out_registries;
 /// Tells a new registry of each global that its client is shown.
 pub mod new_registry;
 /// `keep_global_names`: whether names that were in use are given again.

@@ -25,7 +25,7 @@
 //! | `next_action`, `next_action_within`, and both `_into` | `reading::next_action` | `Reading`, `Requests`, `Cutting`, `Room`, `Plain/Reading`, `ReadingEnds` |
 //! | `finish_request`, `finish_bind`, and both `_returning` | `reading::finish` | `Finish`, `Cutting`, `Plain` |
 //! | `dispatch_single_client`, `dispatch_all_clients`, [`Handler`] | `dispatch` | `Dispatch`, `Reached`, `Plain/Dispatch` |
-//! | `create_global`, `disable_global`, `remove_global`, `keep_global_names` | `globals::create_global`, `globals::remove_global`, `globals::keep_names` | `PartStep`, `Globals`, `Felt` |
+//! | `create_global`, `disable_global`, `remove_global`, `keep_global_names`, `hand_out_registries` | `globals::create_global`, `globals::remove_global`, `globals::keep_names`, `globals::hand_out_registries` | `PartStep`, `Globals`, `Felt`, `Plain/Globals` |
 //! | `add_interfaces`, `extend_interface` | `globals::add_interfaces` | `Steps`, `Plain/Calls`, and `Table` of `wl_wire` |
 //! | `cleanup`, `take_notes` | `notes` | `PartStep`, `Felt` |
 //! | look-ups, `next_global_id`, `all_clients`, `with_all_clients`, and the same of objects; `object_by_number`, `all_held_for` | `lookups`, `globals::lookups` | `Lookups`, `Next` |

@@ -1,7 +1,8 @@
 //! Reads the messages of a client up to an action, and finishes actions.
 //!
 //! A *reading* is one call of `next_action`, or of one of the three calls like it. It handles messages, and receives more, until it finds an
-//! action or has nothing left to read. An *action* is a request or a bind that is handed out to the program.
+//! action or has nothing left to read. An *action* is a request or a bind that is handed out to the program, or a new registry, if the
+//! program wants to tell registries of globals by itself.
 
 /// `Action` and `OpenAction`; `Reading`: how much may be read; and what a reading or a message came to.
 pub mod action;
@@ -52,4 +53,6 @@ pub struct Surroundings<'a, G> {
     pub client: ClientId,
     /// The greatest number at which a request may make an object, if there is a limit.
     pub object_limit: Option<u32>,
+    /// Whether a registry that the client asks for is handed out.
+    pub hands_registries: bool,
 }

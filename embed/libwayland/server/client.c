@@ -37,32 +37,13 @@ void client_release(struct wl_client *client)
 
 /* ======== Into the session */
 
-static bool hidden_globals(struct wl_client *client, struct wl_array *hidden)
-{
-    struct wl_display *display = client->display;
-    for (struct wl_list *it = display->globals.next; display->filter && it != &display->globals; it = it->next) {
-        const struct wl_global *global = CONTAINER(it, struct wl_global, link);
-        if (global_is_visible(global, client))
-            continue;
-        nb_global_id *added = wl_array_add(hidden, sizeof *added);
-        if (!added)
-            return false;
-        *added = global->id;
-    }
-    return true;
-}
-
 bool client_enter(struct wl_client *client)
 {
     nb_server *core = &client->display->core;
-    struct wl_array hidden = { 0 };
     if (client->was_inserted)
         return client->is_inside;
     client->was_inserted = true;
-    client->is_inside = hidden_globals(client, &hidden) &&
-                        nb_server_insert_client(core, (uint64_t)(uintptr_t)client, 1, hidden.data,
-                                                hidden.size / sizeof(nb_global_id), &client->id) == NB_OK;
-    free(hidden.data);
+    client->is_inside = nb_serve_client(core, (uint64_t)(uintptr_t)client, &client->id) == NB_OK;
     if (!client->is_inside) {
         client_fail(client);
         return false;

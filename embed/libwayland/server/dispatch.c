@@ -1,4 +1,4 @@
-/* Requests and binds as calls of the program's functions. It touches the session's open action, which it finishes before
+/* Requests and binds as calls of the program's functions, and registries. It touches the session's open action, which it finishes before
  * it calls the program: an object that the request has made has no data then, and gets them by wl_resource_create. */
 #include "server.h"
 #include "call.h"
@@ -113,7 +113,7 @@ static bool finish(struct wl_client *client, const nb_action *action)
 {
     nb_server *core = &client->display->core;
     uint32_t is_kept;
-    if (action->kind == NB_BIND)
+    if (action->kind != NB_REQUEST)
         return nb_server_finish_bind(core, &client->id, 0, &is_kept) == NB_OK;
     if (nb_is_null(&action->created))
         return nb_server_finish_request(core, &client->id) == NB_OK;
@@ -123,12 +123,12 @@ static bool finish(struct wl_client *client, const nb_action *action)
 void dispatch(struct wl_client *client, const nb_action *action, const nb_argument *arguments, uint8_t *text)
 {
     struct request request;
-    const uint32_t count = action->kind == NB_BIND ? 0 : action->arguments;
+    const uint32_t count = action->kind == NB_REQUEST ? action->arguments : 0;
     for (uint32_t i = 0; i < count; i++) {
         client->unread -= arguments[i].kind == NB_DESCRIPTOR;
         unpack(&request.values[i], &arguments[i], text, &request.arrays[i]);
     }
-    client->created = action->created;
+    client->created = action->kind == NB_REGISTRY ? nb_null() : action->created;
     client->created_version = action->version;
     if (!finish(client, action)) {
         close_descriptors(arguments, count);
@@ -137,10 +137,12 @@ void dispatch(struct wl_client *client, const nb_action *action, const nb_argume
         return;
     }
     request.client = client;
-    request.resource = action->kind == NB_BIND ? NULL : resource_of(client, &action->sender, action->data);
+    request.resource = action->kind == NB_REQUEST ? resource_of(client, &action->sender, action->data) : NULL;
     request.opcode = action->opcode;
     request.count = count;
-    if (action->kind == NB_BIND)
+    if (action->kind == NB_REGISTRY)
+        registry_begin(client, &action->created);
+    else if (action->kind == NB_BIND)
         bind(client, action);
     else
         hand_on(&request, action, arguments);

@@ -28,6 +28,7 @@ static void begin_lists(struct wl_display *display)
     wl_list_init(&display->leaving);
     wl_list_init(&display->writable);
     wl_list_init(&display->globals);
+    wl_list_init(&display->registries);
     wl_list_init(&display->sockets);
     wl_list_init(&display->loggers);
     wl_signal_init(&display->destroy_signal);
@@ -49,7 +50,8 @@ static bool begin_parts(struct wl_display *display)
     return display->wakeup_source && nb_server_start(&display->core, &nothing, &fault) == NB_OK &&
            nb_server_set_default_max_buffer_size(&display->core, LIMIT) == NB_OK &&
            nb_server_keep_global_names(&display->core, 1) == NB_OK &&
-           nb_server_keep_notes(&display->core, 0) == NB_OK; /* the program ends resources, not notes */
+           nb_server_keep_notes(&display->core, 0) == NB_OK && /* the program ends resources, not notes */
+           nb_server_hand_out_registries(&display->core, 1) == NB_OK;
 }
 
 static void end_loop(struct wl_display *display)

@@ -1,4 +1,7 @@
-/* Globals. It touches a display's list of them and the session's, which announces and checks them.
+/* Globals and registries. It touches a display's lists of them and the session's, which checks binds.
+ *
+ * The session hands registries out. So the filter is asked at each announcement, and at each bind (dispatch.c). The session
+ * keeps which registry was told of which global, and tells exactly those that it is gone.
  *
  * The session's data of a global point to its wl_global. So that is freed only once the session has removed it: by
  * wl_global_destroy, or with the display. */
@@ -11,34 +14,40 @@ bool global_is_visible(const struct wl_global *global, const struct wl_client *c
     return !display->filter || display->filter(client, global, display->filter_data);
 }
 
-/* The clients that the session has and that do not see a global: it asks nobody later. False without memory. */
-static bool hidden_from(const struct wl_global *global, struct wl_array *hidden)
+/* ======== Registries */
+
+/* What cannot be told ends the client. */
+static void announce(struct wl_resource *registry, const struct wl_global *global)
 {
-    struct wl_display *display = global->display;
-    for (struct wl_list *it = display->clients.next; display->filter && it != &display->clients; it = it->next) {
-        const struct wl_client *client = CONTAINER(it, struct wl_client, link);
-        if (!client->is_inside || global_is_visible(global, client))
-            continue;
-        nb_client_id *added = wl_array_add(hidden, sizeof *added);
-        if (!added)
-            return false;
-        *added = client->id;
-    }
-    return true;
+    struct wl_client *client = registry->client;
+    if (client->has_error || !client->is_inside || !global_is_visible(global, client))
+        return;
+    if (trace_is_on(client->display))
+        trace_announcement(registry, global, false);
+    if (nb_server_announce_global(&client->display->core, &registry->core, &global->id) != NB_OK)
+        client_fail(client);
 }
 
-static bool announce(struct wl_global *global, uint32_t number)
+/* A listener may do anything, but its client lives on until the request has ended. */
+void registry_begin(struct wl_client *client, const nb_object_id *object)
 {
-    struct wl_array hidden = { 0 };
-    nb_status status = NB_OUT_OF_MEMORY;
-    if (hidden_from(global, &hidden))
-        status = nb_server_create_global(&global->display->core, number, global->version, (uint64_t)(uintptr_t)global, 1,
-                                         hidden.data, hidden.size / sizeof(nb_client_id), &global->id);
-    free(hidden.data);
-    if (status != NB_OK)
-        log_line("wl_global_create: %s: %s\n", global->interface->name, nb_status_text(status));
-    return status == NB_OK;
+    const struct wl_global *global;
+    struct wl_resource *registry = resource_for_registry(client, object);
+    if (!registry) {
+        wl_client_post_no_memory(client);
+        return;
+    }
+    wl_signal_emit_mutable(&client->resource_created_signal, registry);
+    if (resource_at(client, object->number) != registry)
+        return;
+    wl_list_insert(&client->display->registries, &registry->link);
+    registry->is_told = true;
+    wl_list_for_each(global, &client->display->globals, link)
+        if (!global->is_removed)
+            announce(registry, global);
 }
+
+/* ======== Beginning and end */
 
 EXPORT struct wl_global *wl_global_create(struct wl_display *display, const struct wl_interface *interface, int version,
                                           void *data, wl_global_bind_func_t bind)
@@ -62,13 +71,17 @@ EXPORT struct wl_global *wl_global_create(struct wl_display *display, const stru
                                   .version = (uint32_t)version,
                                   .data = data,
                                   .bind = bind };
-    if (!announce(global, number)) {
+    nb_status status = nb_server_create_global(&display->core, number, global->version, (uint64_t)(uintptr_t)global, 1,
+                                               NULL, 0, &global->id);
+    if (status != NB_OK) {
+        log_line("wl_global_create: %s: %s\n", interface->name, nb_status_text(status));
         free(global);
         return NULL;
     }
     wl_list_insert(display->globals.prev, &global->link);
-    if (trace_is_on(display))
-        trace_global(global, false);
+    struct wl_resource *registry;
+    wl_resource_for_each(registry, &display->registries)
+        announce(registry, global);
     return global;
 }
 
@@ -77,8 +90,12 @@ EXPORT void wl_global_remove(struct wl_global *global)
     if (global->is_removed)
         log_and_abort("wl_global_remove: called twice on the same global '%s@%u'", global->interface->name,
                       global->id.name);
+    struct wl_resource *registry;
     if (trace_is_on(global->display))
-        trace_global(global, true);
+        wl_resource_for_each(registry, &global->display->registries)
+            if (global_is_visible(global, registry->client))
+                trace_announcement(registry, global, true);
+    nb_server_withdraw_global(&global->display->core, &global->id);
     nb_server_disable_global(&global->display->core, &global->id);
     global->is_removed = true;
 }

@@ -163,6 +163,8 @@ static struct wl_resource *resource_new(struct wl_client *client, const struct w
 static void resource_free(struct wl_resource *resource)
 {
     wl_list_remove(&resource->displaced);
+    if (resource->is_told)
+        wl_list_remove(&resource->link);
     free(resource);
 }
 
@@ -270,9 +272,9 @@ void resources_end(struct wl_client *client)
     client->own = client->served = (struct numbered){ NULL, 0 };
 }
 
-/* ======== Registries, which the session makes by itself, get a resource when the program asks for one */
+/* ======== Registries, which the session makes */
 
-static struct wl_resource *adopt(struct wl_client *client, const nb_object_id *object)
+struct wl_resource *resource_for_registry(struct wl_client *client, const nb_object_id *object)
 {
     struct wl_resource *resource = resource_new(client, &wl_registry_interface, 1);
     if (!resource)
@@ -289,35 +291,12 @@ static struct wl_resource *adopt(struct wl_client *client, const nb_object_id *o
 
 struct wl_resource *resource_without_data(struct wl_client *client, const nb_object_id *core)
 {
-    if (core->interface == NB_INTERFACE_DISPLAY)
-        return client->display_resource;
-    return core->interface == NB_INTERFACE_REGISTRY ? adopt(client, core) : NULL;
-}
-
-static void adopt_all(struct wl_client *client)
-{
-    nb_server *core = &client->display->core;
-    uint32_t count = 0;
-    if (!client->is_inside)
-        return;
-    nb_server_held_objects(core, &client->id, NULL, 0, &count);
-    nb_held_object *held = calloc(count + (size_t)1, sizeof *held);
-    if (held && nb_server_held_objects(core, &client->id, held, count, &count) == NB_OK)
-        for (uint32_t i = 0; i < count; i++)
-            if (held[i].object.interface == NB_INTERFACE_REGISTRY && held[i].data == 0)
-                adopt(client, &held[i].object);
-    free(held);
+    return core->interface == NB_INTERFACE_DISPLAY ? client->display_resource : NULL;
 }
 
 EXPORT struct wl_resource *wl_client_get_object(struct wl_client *client, uint32_t id)
 {
-    struct wl_resource *resource = resource_at(client, id);
-    nb_object_id object;
-    if (!resource && client->is_inside &&
-        nb_server_object_for_protocol_id(&client->display->core, &client->id, NB_INTERFACE_REGISTRY, id, &object) ==
-            NB_OK)
-        return adopt(client, &object);
-    return resource;
+    return resource_at(client, id);
 }
 
 static bool visit(const struct numbered *numbered, wl_client_for_each_resource_iterator_func_t iterator, void *data)
@@ -331,7 +310,6 @@ static bool visit(const struct numbered *numbered, wl_client_for_each_resource_i
 EXPORT void wl_client_for_each_resource(struct wl_client *client, wl_client_for_each_resource_iterator_func_t iterator,
                                         void *user_data)
 {
-    adopt_all(client);
     if (visit(&client->own, iterator, user_data))
         visit(&client->served, iterator, user_data);
 }

@@ -50,6 +50,7 @@ struct wl_resource {
     struct wl_signal destroy_signal;
     nb_object_id core;        /* null if the session does not have it */
     bool is_ending;           /* wl_resource_destroy is at it */
+    bool is_told;             /* it is a registry: `link` is in the display's list of them */
     struct wl_list displaced; /* in its client's list, if its number names another one now */
 };
 
@@ -116,6 +117,7 @@ struct wl_display {
     struct wl_event_source *wakeup_source;
     uint32_t serial;
     struct wl_list clients, leaving, writable, globals, sockets, loggers;
+    struct wl_list registries; /* of all clients, the newest first */
     struct wl_signal destroy_signal, client_created_signal;
     wl_display_global_filter_func_t filter;
     void *filter_data;
@@ -133,14 +135,16 @@ void sockets_end(struct wl_display *display);
 /* global.c */
 bool global_is_visible(const struct wl_global *global, const struct wl_client *client);
 void globals_end(struct wl_display *display);
+/* A client has made a registry: it is told of the globals that the client sees, now and later. */
+void registry_begin(struct wl_client *client, const nb_object_id *object);
 
 /* client.c */
 void client_fail(struct wl_client *client);
 void client_hold(struct wl_client *client);
 void client_let_go(struct wl_client *client); /* it may be gone afterwards */
 void client_release(struct wl_client *client);
-/* Whether the session has the client. It is inserted at the first call: as late as can be, since the filter of globals
- * is asked then what the client sees, and the program has to know by then who it is. */
+/* Whether the session has the client. It is inserted at the first call, so that one of which nothing is asked takes no room
+ * there. */
 bool client_enter(struct wl_client *client);
 
 /* rounds.c */
@@ -152,6 +156,8 @@ void display_settle(struct wl_display *display);
 /* resource.c */
 bool resource_begin_display(struct wl_client *client);
 struct wl_resource *resource_at(struct wl_client *client, uint32_t id);
+/* The resource of a registry that the session has made. NULL without memory. */
+struct wl_resource *resource_for_registry(struct wl_client *client, const nb_object_id *object);
 struct wl_resource *resource_without_data(struct wl_client *client, const nb_object_id *core);
 void resources_end(struct wl_client *client);
 bool number_put(struct wl_client *client, uint32_t id, struct wl_resource *resource);
@@ -212,7 +218,7 @@ void trace_received(struct wl_client *client, const uint8_t *bytes, size_t lengt
 void trace_read(struct wl_client *client, bool has_action);
 void trace_delete_id(struct wl_client *client, uint32_t id);
 void trace_error(struct wl_client *client, struct wl_resource *resource, uint32_t code, const char *text);
-void trace_global(const struct wl_global *global, bool is_removal);
+void trace_announcement(struct wl_resource *registry, const struct wl_global *global, bool is_removal);
 void trace_end(struct wl_client *client);
 
 #endif

@@ -1,8 +1,9 @@
 /* What is told of messages: to the program's protocol loggers, and to WAYLAND_DEBUG. It touches the loggers' list, and a
  * copy of what a client has sent.
  *
- * The session answers wl_display and wl_registry by itself, and tells nobody. So what came is read here once more, only
- * to name it: the copy begins with a client's first byte if somebody listens then, and is cut off message by message. */
+ * The session answers wl_display.sync by itself, and tells nobody; nor does it tell by which registry a client binds. So
+ * what came is read here once more, only to name it: the copy begins with a client's first byte if somebody listens
+ * then, and is cut off message by message. */
 #include "server.h"
 #include "print.h"
 #include "signature.h"
@@ -16,8 +17,7 @@ struct wl_protocol_logger {
 };
 
 struct trace {
-    struct wl_array bytes;      /* what came and is not told of yet */
-    struct wl_array registries; /* the numbers of the client's registries */
+    struct wl_array bytes; /* what came and is not told of yet */
 };
 
 EXPORT struct wl_protocol_logger *wl_display_add_protocol_logger(struct wl_display *display,
@@ -87,30 +87,12 @@ void trace_error(struct wl_client *client, struct wl_resource *resource, uint32_
         tell_for(client, &wl_display_interface, 1, true, DISPLAY_ERROR, arguments);
 }
 
-static void tell_global(struct wl_client *client, uint32_t registry, const struct wl_global *global, bool is_removal)
+void trace_announcement(struct wl_resource *registry, const struct wl_global *global, bool is_removal)
 {
     union wl_argument arguments[] = { { .u = global->id.name },
                                       { .s = global->interface->name },
                                       { .u = global->version } };
-    tell_for(client, &wl_registry_interface, registry, true, is_removal ? REGISTRY_REMOVE : REGISTRY_GLOBAL, arguments);
-}
-
-void trace_global(const struct wl_global *global, bool is_removal)
-{
-    struct wl_client *client;
-    uint32_t *registry;
-    wl_list_for_each(client, &global->display->clients, link)
-        if (client->trace && global_is_visible(global, client))
-            wl_array_for_each(registry, &client->trace->registries)
-                tell_global(client, *registry, global, is_removal);
-}
-
-static void tell_globals(struct wl_client *client, uint32_t registry)
-{
-    const struct wl_global *global;
-    wl_list_for_each(global, &client->display->globals, link)
-        if (!global->is_removed && global_is_visible(global, client))
-            tell_global(client, registry, global, false);
+    trace_message(registry, true, is_removal ? REGISTRY_REMOVE : REGISTRY_GLOBAL, arguments);
 }
 
 /* ======== What came */
@@ -124,15 +106,6 @@ void trace_received(struct wl_client *client, const uint8_t *bytes, size_t lengt
         memcpy(added, bytes, length);
 }
 
-static bool is_registry(const struct trace *trace, uint32_t id)
-{
-    const uint32_t *registry;
-    wl_array_for_each(registry, &trace->registries)
-        if (*registry == id)
-            return true;
-    return false;
-}
-
 static uint32_t word_at(const uint8_t *body, size_t at)
 {
     uint32_t word;
@@ -140,20 +113,21 @@ static uint32_t word_at(const uint8_t *body, size_t at)
     return word;
 }
 
-/* The body is of a request of the display that the session took. */
+/* The body is of a request of the display that the session took. It answers sync. */
 static void tell_of_display(struct wl_client *client, uint32_t opcode, uint32_t id)
 {
     union wl_argument made[] = { { .n = id } }, done[] = { { .u = 0 } };
     tell_for(client, &wl_display_interface, 1, false, opcode, made);
-    if (opcode == DISPLAY_SYNC) {
-        tell_for(client, &wl_callback_interface, id, true, 0, done);
-        trace_delete_id(client, id);
+    if (opcode != DISPLAY_SYNC)
         return;
-    }
-    uint32_t *added = wl_array_add(&client->trace->registries, sizeof *added);
-    if (added)
-        *added = id;
-    tell_globals(client, id);
+    tell_for(client, &wl_callback_interface, id, true, 0, done);
+    trace_delete_id(client, id);
+}
+
+static bool is_registry(struct wl_client *client, uint32_t id)
+{
+    const struct wl_resource *resource = resource_at(client, id);
+    return resource && resource->is_told;
 }
 
 /* The session has made an action of it, so the body is whole: a name, an interface, a version and a number. */
@@ -181,12 +155,12 @@ static size_t tell_of_first(struct wl_client *client, bool has_action, bool *is_
     const size_t length = word_at(bytes, 4) >> 16;
     if (length < 8 || trace->bytes.size < length)
         return 0;
-    *is_action = sender != 1;
+    *is_action = sender != 1 || opcode == DISPLAY_GET_REGISTRY;
     if (*is_action && !has_action)
         return 0;
     if (sender == 1 && opcode <= DISPLAY_GET_REGISTRY && length >= 12)
         tell_of_display(client, opcode, word_at(bytes, 8));
-    else if (is_registry(trace, sender) && opcode == REGISTRY_BIND)
+    else if (is_registry(client, sender) && opcode == REGISTRY_BIND)
         tell_of_bind(client, sender, bytes + 8, length - 8);
     return length;
 }
@@ -210,7 +184,6 @@ void trace_end(struct wl_client *client)
     if (!client->trace)
         return;
     free(client->trace->bytes.data);
-    free(client->trace->registries.data);
     free(client->trace);
     client->trace = NULL;
 }

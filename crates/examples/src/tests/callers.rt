@@ -49,7 +49,7 @@ fn bind(server: &mut Server, client: &ClientId) -> Result<ObjectId, Fail> {
             server.finish_bind(client, 0)?;
             Ok(object)
         }
-        Action::Request { .. } => Err(Fail::new("this is no bind")),
+        Action::Request { .. } | Action::Registry { .. } => Err(Fail::new("this is no bind")),
     }
 }
 
@@ -57,7 +57,7 @@ fn bind(server: &mut Server, client: &ClientId) -> Result<ObjectId, Fail> {
 fn sender(server: &mut Server, client: &ClientId) -> Result<ObjectId, Fail> {
     match server.next_action(client)? {
         Action::Request { sender, .. } => Ok(sender),
-        Action::Bind { .. } => Err(Fail::new("this is no request")),
+        Action::Bind { .. } | Action::Registry { .. } => { Err(Fail::new("this is no request")) }
     }
 }
 

@@ -1,6 +1,7 @@
 //! What a test does with a server's session, and what it tells.
 
 use crate::tests::chosen::{Choice, choose};
+use crate::tests::registries::{Telling, tell};
 use crate::tests::rows::{GATE, KNOT, NOTE, TABLE};
 use crate::tests::session::Session;
 use crate::tests::told::{
@@ -74,6 +75,8 @@ pub enum Act {
     Dropped,
     /// What the host chooses.
     Choose(Choice),
+    /// What the host tells registries.
+    Tell(Telling),
 }
 
 /// The first client.
@@ -338,6 +341,7 @@ impl Session for Server {
             Act::Note => next_note(log, self),
             Act::Dropped => told(log, self.next_dropped(), tell_descriptor),
             Act::Choose(choice) => choose(log, self, choice),
+            Act::Tell(telling) => Ok(tell(self, telling)),
             other => on_messages(log, self, other),
         }
     }

@@ -48,10 +48,10 @@ const OPEN_NULL: &[u32] = &[0xff000000, 0x00100001, 2, 0];
 const SECOND_LABEL: &[u32] = &[0xff000000, 0x00100001, 4, 0x00796568];
 
 /// `wl_display.get_registry` with the new id 2.
-const REGISTRY: &[u32] = &[1, 0x000c0001, 2];
+pub const REGISTRY: &[u32] = &[1, 0x000c0001, 2];
 
 /// `wl_registry.bind` of the global 1 as a `pad` of version 2 with the new id 3.
-const BIND_FIRST: &[u32] = &[2, 0x001c0000, 1, 4, 0x00646170, 2, 3];
+pub const BIND_FIRST: &[u32] = &[2, 0x001c0000, 1, 4, 0x00646170, 2, 3];
 
 /// The same of the global 5, with the new id 4.
 const BIND_FIFTH: &[u32] = &[2, 0x001c0000, 5, 4, 0x00646170, 2, 4];

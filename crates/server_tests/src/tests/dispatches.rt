@@ -15,7 +15,7 @@ use test_kit::log::row_tells;
 use test_kit::quad::{QUAD, quad_table};
 use wl_link::Memory;
 use wl_server::{Backend, Handler};
-use wl_wire::IoFault;
+use wl_wire::{IoFault, WL_REGISTRY_INTERFACE};
 
 /// `wl_display.sync` with the new id 2, and then with the new id 5.
 const SYNC_AND_SYNC_AT_5: [u8; 24] = [
@@ -269,6 +269,29 @@ static CONTRARY: [Row; 2] = [
     },
 ];
 
+/// A dispatch of the first client while registries are handed out: the handler is called with none. It stays open, and the host
+/// ends it. What waits behind it is read after that.
+static REGISTRY: [Row; 1] = [Row {
+    name: "registry is handed out",
+    before: &[
+        Act::Do(Call::HandOutRegistries(true)),
+        Act::Do(Call::Insert(true)),
+        Act::Do(Call::Global(QUAD, 3)),
+        Act::Do(Call::Arrive(FIRST, &BIND_AND_DESTROY)),
+    ],
+    after: &[
+        Act::Do(Call::Next(FIRST)),
+        Act::Do(Call::Finish(FIRST, None)),
+        Act::Do(Call::FinishBind(FIRST, 7)),
+        Act::Look(Look::Data(Thing(FIRST, 2, 1, WL_REGISTRY_INTERFACE))),
+        Act::Do(Call::Next(FIRST)),
+        Act::Do(Call::Flush(FIRST)),
+        Act::Do(Call::TakeSent(FIRST)),
+        Act::Do(Call::Notes),
+    ],
+    told: "client 0, 1\nglobal 1, 1\ninvalid input\nan action is open\nthe open action is of the other kind\nfinished\ndata 7\nglobal 1, 1 bound as 3, 2, 4 of 0\ndone\ninitialized 0, 1\n",
+}];
+
 /// Two clients with a hundred receives of a byte each: of each of them, a dispatch makes 64.
 static LONG: [Row; 1] = [Row {
     name: "each client has 64 receives",
@@ -290,6 +313,7 @@ static LONG: [Row; 1] = [Row {
 fn rows(rt: HostRuntime) -> Result<(), Fail> {
     rows_of(&rt, &mut Numbering(4), Whom::First, &ROWS)?;
     rows_of(&rt, &mut Numbering(4), Whom::Both, &LONG)?;
+    rows_of(&rt, &mut Numbering(4), Whom::First, &REGISTRY)?;
     rows_of(&rt, &mut Contrary(4), Whom::First, &CONTRARY)
 }
 

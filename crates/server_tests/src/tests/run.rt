@@ -177,7 +177,7 @@ fn arrive_cut(
 /// Ends the action: what a bind made gets 9, and what a request made gets 5.
 fn end_action(server: &mut Server, who: Who, ended: &Action) -> Result<(), Fail> {
     match ended {
-        Action::Bind { .. } => Ok(server.finish_bind(&who.id(), 9)?),
+        Action::Bind { .. } | Action::Registry { .. } => Ok(server.finish_bind(&who.id(), 9)?),
         Action::Request { created, .. } => {
             Ok(server.finish_request(&who.id(), created.map(|_| 5))?)
         }

@@ -18,7 +18,8 @@ ghost use Rattle.wl_server.specs.Deeds.{handed};
 use crate::arguments::{Needs, Objects, write_arguments};
 use crate::descriptors::DescriptorQueue;
 use crate::flat::{
-    BIND, FlatAction, FlatArgument, FlatClientId, FlatGlobalId, FlatObjectId, REQUEST, count_number,
+    BIND, FlatAction, FlatArgument, FlatClientId, FlatGlobalId, FlatObjectId, REGISTRY, REQUEST,
+    count_number,
 };
 use crate::nulls::{forbidden_null, is_refused};
 use crate::server::ledger::Ledger;
@@ -47,7 +48,7 @@ fn needs_of(action: &Action) -> Needs
 {
     match action {
         Action::Request { args, .. } => Needs::of(args.as_slice()),
-        Action::Bind { .. } => Needs {
+        Action::Bind { .. } | Action::Registry { .. } => Needs {
             arguments: 0,
             bytes: 0,
         },
@@ -60,7 +61,7 @@ fn ends_sender(action: &Action) -> bool
 {
     match action {
         Action::Request { is_destructor, .. } => *is_destructor,
-        Action::Bind { .. } => false,
+        Action::Bind { .. } | Action::Registry { .. } => false,
     }
 }
 
@@ -150,6 +151,12 @@ fn flat_action(core: &Core, action: &Action) -> FlatAction
             version: version_of(core, object),
             ..FlatAction::none()
         },
+        Action::Registry { object } => FlatAction {
+            kind: REGISTRY,
+            created: FlatObjectId::of_resource(*object),
+            version: version_of(core, object),
+            ..FlatAction::none()
+        },
     }
 }
 
@@ -172,7 +179,7 @@ fn write_arguments_of(
         Action::Request { args, .. } => {
             write_arguments(core, args.as_slice(), received, arguments, bytes);
         }
-        Action::Bind { .. } => {}
+        Action::Bind { .. } | Action::Registry { .. } => {}
     }
 }
 

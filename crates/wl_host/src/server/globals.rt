@@ -55,7 +55,7 @@ impl Server {
     }
 
     /// A call may have told each client of a global.
-    fn tells_all(&mut self)
+    pub(crate) fn tells_all(&mut self)
         ensures { self.new ≡ told_all self.old self.old.core }
     {
         self.seats.list_all();

@@ -24,10 +24,11 @@ pub with_data : {A B C D : Type 0} → (A → B) → (A → C) → (B → D) →
 with_data plain cutting held call = record { call = call; plain = plain call; cutting = cutting call; «data» = held (plain call) }
 
 -- an offer of other globals
-pub with_globals : {G : Type 0} (table : List InterfaceRow) (limit : ℕ) (objects : Option ℕ) (before after : Globals G) → before ≡ after
-    → ◌≡◌ {A = Offer G} (record { table = table; globals = before; default_limit = limit; object_limit = objects })
-    (record { table = table; globals = after; default_limit = limit; object_limit = objects })
-with_globals table limit objects before after is = rw is refl
+pub with_globals : {G : Type 0} (table : List InterfaceRow) (limit : ℕ) (objects : Option ℕ) (hands : Bool) (before after : Globals G) → before ≡ after
+    → ◌≡◌ {A = Offer G}
+    (record { table = table; globals = before; default_limit = limit; object_limit = objects; hands_registries = hands })
+    (record { table = table; globals = after; default_limit = limit; object_limit = objects; hands_registries = hands })
+with_globals table limit objects hands before after is = rw is refl
 
 module _ {T U C : Type 0} where
   -- the invariant of a server, of these fields

@@ -34,13 +34,14 @@ record IsOwn {T U G C : Type 0} (call : Call T U G C) : Type 0 where
   pub global : (offer : Offer G) → AnswersShared offer call
   pub growth : lacks_growth call ≡ false
 
--- whether this is such a call; all but nine are
+-- whether this is such a call; all but ten are
 abbrev pub is_own : {T U G C : Type 0} → Step T U G C → Reply T U → Bool
 is_own (step.InsertClient _ _) answer = false
 is_own (step.CreateGlobal _ _ _) answer = false
 is_own (step.DisableGlobal _) answer = false
 is_own (step.RemoveGlobal _) answer = false
 is_own (step.KeepGlobalNames _) answer = false
+is_own (step.HandOutRegistries _) answer = false
 is_own (step.SetDefaultMaxBufferSize _) answer = false
 is_own (step.SetObjectLimit _) answer = false
 is_own step.Cleanup answer = false
@@ -48,14 +49,15 @@ is_own step.TakeNotes answer = false
 is_own s answer = not (lacks_growth (Asked s answer))
 
 -- a server of these values
-abbrev pub held_by : {T U G C : Type 0} → List InterfaceRow → Store (KeptGlobal G) → ℕ → Bool → ℕ → Option ℕ → ℕ → List (Option (Stored T U C))
-    → List (Note U) → NoteNumbers → ServerState T U G C
-held_by table globals last_global keeps_names default_limit object_limit last_client clients notes numbers = record {
+abbrev pub held_by : {T U G C : Type 0} → List InterfaceRow → Store (KeptGlobal G) → ℕ → Bool → ℕ → Option ℕ → Bool → ℕ
+    → List (Option (Stored T U C)) → List (Note U) → NoteNumbers → ServerState T U G C
+held_by table globals last_global keeps_names default_limit object_limit hands_registries last_client clients notes numbers = record {
   offer = record {
     table = table;
     globals = record { store = globals; last_serial = last_global; keeps_names = keeps_names };
     default_limit = default_limit;
     object_limit = object_limit;
+    hands_registries = hands_registries;
   };
   last_client = last_client;
   clients = clients;

@@ -256,6 +256,8 @@ module _ {H T U G C : Type 0} (w : World T G C) (answers : Answering H T U G C) 
           request_starved w id x.left.server after x.ended x.ends u x.answer (x.ended_is ∙ ap (λ (s : Step T U G C). Asked s x.answer) is) x.why_is
       at (action.Bind global object) (u, so, is) =
           bind_starved w id x.left.server after x.ended x.ends u x.answer (x.ended_is ∙ ap (λ (s : Step T U G C). Asked s x.answer) is) x.why_is
+      at (action.Registry object) (same, still, is) =
+          request_starved w id x.left.server after x.ended x.ends None x.answer (x.ended_is ∙ ap (λ (s : Step T U G C). Asked s x.answer) is) x.why_is
 
   last_starved : {h h' : H} {r r' : Reading} {s s' : ServerState T U G C} {run : List (Entry T U G C)} {lacked : Bool} {f : IoFault}
       → Last w answers id h r s run lacked f h' r' s' → f ≡ fault.OutOfMemory → lacked ≡ true

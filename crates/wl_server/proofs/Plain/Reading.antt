@@ -16,14 +16,14 @@ use Rattle.wl_server.specs.declared.reading.action.Reading.{Reading}
 use Rattle.wl_server.specs.declared.runs.step.Reply.TheVariants as reply
 use Rattle.wl_server.specs.declared.runs.step.Step.TheVariants as step
 use Rattle.wl_server.specs.Backend.{BackendState, Calls}
-use Rattle.wl_server.specs.Deeds.{Bind, Deed, Handed, Request, notes_in}
+use Rattle.wl_server.specs.Deeds.{Bind, Deed, Handed, Registry, Request, notes_in}
 use Rattle.wl_server.specs.Ids.{ClientParts, IdParts, same_client}
 use Rattle.wl_server.specs.Part.{Part, fresh_object, id_at, named, id_of, serial_of}
 use Rattle.wl_server.specs.PartStep.{Asked, World, around}
 use Rattle.wl_server.specs.Steps.{Makes}
 use Rattle.wl_server.specs.Plain.{client_in, object_in}
 use Rattle.wl_server.specs.Plain.Reading.{IsHandedOut, IsOld, OpenReadAs, ReadAs, ReadingMemory, ReadsClient, ReadsWithin}
-use Rattle.wl_server.specs.Reading.{Around, NextAction, action_content, answered, new_reading, read_on, binds, breaks, converted, garbled, other_request, server, registers, syncs, unread}
+use Rattle.wl_server.specs.Reading.{Around, NextAction, action_content, answered, new_reading, read_on, binds, breaks, converted, garbled, hands_registry, other_request, server, registers, syncs, unread}
 use Rattle.wl_server.specs.ReadingEnds.{ComesOfLast, EndsForAReason, ReadingEnds}
 use Rattle.wl_server.specs.Server.{Seen, seen}
 use Rattle.wl_server.specs.Telling.{Core, end_deeds, part_of, reader_part, Told, closed_down, objects_in, core_of}
@@ -129,6 +129,7 @@ module _ {U G C : Type 0} (a : Around G C) (c : Core U C) where
       request_case a c Keeps garbled_keeps breaks_keeps
       (λ n valid. keeps_by _ (ids_by_brief (objects_in c) n callback_id 1 valid) (syncs a c n) refl refl (λ d. refl))
       (λ n valid. keeps_by _ (ids_by_new (objects_in c) n registry_id 1 valid) (registers a c n) refl refl (λ d. refl))
+      (λ n valid. keeps_by _ (ids_by_new (objects_in c) n registry_id 1 valid) (hands_registry a c n) refl refl (λ d. refl))
       (λ g version n x valid. keeps_by _ (ids_by_new (objects_in c) n x.interface version valid) (binds a c g version n x) refl refl (λ d. refl)) m
       (λ receiver row holds other. other_keeps m receiver row)
 
@@ -190,6 +191,9 @@ module _ {T U G C : Type 0} (sends : T → Queue → Result ℕ IoFault → T �
       grind (arith, held, id_at, request_row)
   handed_out (Bind global object) start turns end
       (earlier, es, before, split, led, (m, link, read, (x, interface, version, kept, held_before, registry, args, there, named', may, of, of_interface, free, holds, open'))) = grind (arith, fresh_object)
+  handed_out (Registry object) start turns end
+      (earlier, es, before, split, led, (m, link, read, (x, held_before, display, hands, later, args, of, of_interface, free, holds, open'))) =
+      (of, of_interface, holds, open')
 
   open_as : (start : ReaderState T (Core U C)) (turns : List Turn) (answer : Result Handed ActionError) (lacked : Bool) (left : ℕ)
       (end : ReaderState T (Core U C)) (s t : Seen T U C)

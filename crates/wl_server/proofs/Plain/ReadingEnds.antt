@@ -13,7 +13,7 @@ use Rattle.wl_link.proofs.Readings.RespectLaws.{reads_respect}
 use Rattle.wl_link.specs.Respect.{Keeps}
 use Rattle.wl_server.specs.declared.objects.Kept.{Kept}
 use Rattle.wl_server.specs.Deeds.{Deed, Put, came_in, notes_in, Handed, Remembered}
-use Rattle.wl_server.specs.Reading.{Around, breaks, converted, exchanges_in, garbled, server, action_in, answered, binds, binds_to, by_interface, display_request, hands_out, may_bind, new_at, other_request, reads_on, refuses_bind, registry_request, replies, request, row_in, sent_to, stops_if, synced, unless_passed, unread, with_registry, registers, syncs}
+use Rattle.wl_server.specs.Reading.{Around, breaks, converted, exchanges_in, garbled, server, action_in, answered, binds, binds_to, by_interface, display_request, hands_out, hands_registry, may_bind, new_at, other_request, reads_on, refuses_bind, registry_request, replies, request, row_in, sent_to, stops_if, synced, unless_passed, unread, with_registry, registers, syncs}
 use Rattle.wl_server.specs.Requests.{Outcome, Whole, Wrong, convert, start, is_valid_new, made_id, made_object, with_made, Converted, Converting, allows_null, convert_one, going_on, kinds_after, object_found, with_new_argument, with_object_argument}
 use Rattle.wl_server.specs.Telling.{Core, Told, deeds_in, deeds_of, end_deeds, objects_in, Did, deletions, done_message, introductions, reader_part, with_objects}
 use Rattle.wl_server.specs.Violations.{Addressed, interface_of, violation}
@@ -105,7 +105,7 @@ module _ {T U G C : Type 0} (sends : T → Queue → Result ℕ IoFault → T �
         joins = λ c d e gave others x y. subst Bare (sym (deeds_append gave others)) (bare_both (deeds_in gave) (deeds_in others) x y);
         handles = λ c m on. verdict_bare c ((server a).handles c m) (request_case a c IsBare (λ w d. (refl, refl)) (λ w code text d. (refl, refl))
             (λ n valid. (λ d. grind (arith, told_deeds))) (λ n valid.
-            (λ d. grind (arith, told_deeds))) (λ g version n x valid d. (refl, refl)) m
+            (λ d. grind (arith, told_deeds))) (λ n valid d. (refl, refl)) (λ g version n x valid d. (refl, refl)) m
             (λ receiver row holds other. (grind (arith, nat_lt, breaks, converted, convert, start, objects_in, converted_bare))));
         malformed = λ c u on. verdict_bare c (garbled c (unread a.table c.store u)) (λ d. (refl, refl));
         faulted = λ c f on. (refl, refl);
@@ -336,11 +336,28 @@ module _ {U G C : Type 0} (a : Around G C) (c : Core U C) (P : Verdict (Core U C
   abbrev AreUnasked : List WireArgument → Type 0
   AreUnasked args = (n : ℕ) → ¬ (args ≡ arg.NewId n ∷ [])
 
+  -- it holds of the registry that is handed out, if they ask for one
+  abbrev HandsOutIfAsked : ℕ → List WireArgument → Type 0
+  HandsOutIfAsked opcode args =
+      (n : ℕ) → args ≡ arg.NewId n ∷ [] → a.hands_registries ≡ true → eqb opcode 0 ≡ false → is_valid_new (objects_in c) n ≡ true → P (hands_registry a c n)
+
+  asked_new : (to : Addressed) (opcode n : ℕ) (valid is_sync hands : Bool) → is_valid_new (objects_in c) n ≡ valid → eqb opcode 0 ≡ is_sync
+      → a.hands_registries ≡ hands → ((f : MessageFault) (code : ℕ) (text : List ℕ) → P (breaks a c (violation to f) code text))
+      → ((n : ℕ) → P (syncs a c n)) → ((n : ℕ) → P (registers a c n)) → HandsOutIfAsked opcode (arg.NewId n ∷ [])
+      → P (cond valid (cond is_sync (syncs a c n) (cond hands (hands_registry a c n) (registers a c n)))
+      (breaks a c (violation to (message.WrongArgument 0 (wrong.InvalidNewId n))) 0 (new_id_text n)))
+  asked_new to opcode n true true hands v s h breaks' syncs' registers' hands' = syncs' n
+  asked_new to opcode n true false true v s h breaks' syncs' registers' hands' = hands' n refl h s v
+  asked_new to opcode n true false false v s h breaks' syncs' registers' hands' = registers' n
+  asked_new to opcode n false is_sync hands v s h breaks' syncs' registers' hands' = breaks' _ 0 _
+
   asked_case : (to : Addressed) (opcode : ℕ) (args : List WireArgument)
       → (AreUnasked args → (f : MessageFault) → P (garbled c (violation to f)))
       → ((f : MessageFault) (code : ℕ) (text : List ℕ) → P (breaks a c (violation to f) code text))
-      → ((n : ℕ) → P (syncs a c n)) → ((n : ℕ) → P (registers a c n)) → P (display_request a c to opcode args)
-  asked_case to opcode args garbled' breaks' syncs' registers' = grind (arith, new_id_text, args, eqb opcode 0, objects_in c, true≢false)
+      → ((n : ℕ) → P (syncs a c n)) → ((n : ℕ) → P (registers a c n)) → HandsOutIfAsked opcode args → P (display_request a c to opcode args)
+  asked_case to opcode (arg.NewId n ∷ []) garbled' breaks' syncs' registers' hands' =
+      asked_new to opcode n (is_valid_new (objects_in c) n) (eqb opcode 0) a.hands_registries refl refl refl breaks' syncs' registers' hands'
+  asked_case to opcode _ garbled' breaks' syncs' registers' hands' = garbled' (λ n is. absurd cc) message.UnknownOpcode
 
 module _ {T U G C : Type 0} (sends : T → Queue → Result ℕ IoFault → T → Type 0) (receives : T → ℕ → Result Queue IoFault → T → Type 0)
     (a : Around G C) where
@@ -516,6 +533,30 @@ module _ {T U G C : Type 0} (sends : T → Queue → Result ℕ IoFault → T �
           ),
         )) link
 
+    registry_turns : (x : Object (Kept U)) → held c.store m.sender ≡ Some x → eqb x.interface.0 display_id.0 ≡ true
+        → HandsOutIfAsked a c (λ v. Turns Handled here v link) m.opcode m.args
+    registry_turns x holds display n args hands later valid =
+        hands_out_turns here (with_objects c (with_made (objects_in c) n registry_id 1)) (opened.Bind (made_id a.client (objects_in c) n registry_id))
+        (deeds.Registry (made_id a.client (objects_in c) n registry_id)) r.live r.fresh refl
+        (λ l. (
+          m,
+          link,
+          read,
+          (
+            x,
+            holds,
+            eqb-true x.interface.0 display_id.0 display,
+            hands,
+            λ zero. true≢false (ap (λ (o : ℕ). eqb o 0) (sym zero) ∙ later),
+            args,
+            refl,
+            refl,
+            (valid_new (objects_in c) n valid).0,
+            stored_here c.store n (made_object (objects_in c) registry_id 1) n refl,
+            refl,
+          ),
+        )) link
+
     pub request_turns : Turns Handled here ((server a).handles c m) link
     request_turns =
         let (receiver, row, holds, has) = read_row sends a here m link read in
@@ -548,6 +589,7 @@ module _ {T U G C : Type 0} (sends : T → Queue → Result ℕ IoFault → T �
             (record { live = r.live; idle = r.idle; fresh = r.fresh }) refl took link)
             (λ n. replies_turns Handled here (with_registry a c n)
             (introductions a.table (new_at a c n) 0 (shown a.views a.globals a.client c.client_data)) (Remembered (new_at a c n) ∷ []) (λ rest. refl) (record { live = r.live; idle = r.idle; fresh = r.fresh }) refl took link)
+            (registry_turns receiver holds display)
         go receiver row holds has false true display registry =
             bound_case a c P (sent_to m receiver) m.args
             (λ unbound f. garbled_turns Handled here c _ (front receiver holds f) r

@@ -34,7 +34,7 @@ use Rattle.wl_server.specs.Ids.{ClientParts, IdParts}
 use Rattle.wl_server.specs.Limited.{is_new_above, limit_passed}
 use Rattle.wl_server.specs.Part.{Part}
 use Rattle.wl_server.specs.PartStep.{Asked, Call, ReadsFor, World, around}
-use Rattle.wl_server.specs.Reading.{Around, NextAction, binds, binds_to, breaks, by_interface, converted, display_request, faulted, garbled, may_bind, new_reading, other_request, registers, registry_request, request, row_in, sent_to, server, syncs, unless_passed, unread}
+use Rattle.wl_server.specs.Reading.{Around, NextAction, binds, binds_to, breaks, by_interface, converted, display_request, faulted, garbled, hands_registry, may_bind, new_reading, other_request, registers, registry_request, request, row_in, sent_to, server, syncs, unless_passed, unread}
 use Rattle.wl_server.specs.Requests.{Converted, Converting, Outcome, Whole, Wrong, convert, convert_one, going_on, is_valid_new, made_object, start, with_new_argument, with_object_argument}
 use Rattle.wl_server.specs.Server.{Seen, ServerState, seen}
 use Rattle.wl_server.specs.Steps.{Entry, OneStep}
@@ -139,6 +139,11 @@ module _ {U G C : Type 0} (a : Around G C) (limit : ℕ) (c : Core U C) where
   keeps_registers n within =
       keeps_by _ (same_stored limit c.store c.store n (made_object (objects_in c) registry_id 1) within (λ m above. refl)) (registers a c n) refl refl (λ d. refl)
 
+  keeps_hands_registry : (n : ℕ) → nat_lt limit n ≡ false → Keeps (hands_registry a c n)
+  keeps_hands_registry n within =
+      keeps_by _ (same_stored limit c.store c.store n (made_object (objects_in c) registry_id 1) within (λ m above. refl)) (hands_registry a c n) refl refl
+      (λ d. refl)
+
   keeps_binds : (g version n : ℕ) (x : Object (KeptGlobal G)) → nat_lt limit n ≡ false → Keeps (binds a c g version n x)
   keeps_binds g version n x within =
       keeps_by _ (same_stored limit c.store c.store n (made_object (objects_in c) x.interface version) within (λ m above. refl))
@@ -152,7 +157,8 @@ module _ {U G C : Type 0} (a : Around G C) (limit : ℕ) (c : Core U C) where
       → Keeps (display_request a c to opcode args)
   keeps_display to opcode (arg.NewId n ∷ []) within =
       either_request (is_valid_new (objects_in c) n) Keeps
-      (either_request (eqb opcode 0) Keeps (keeps_syncs n (alone n within)) (keeps_registers n (alone n within))) (keeps_breaks _ 0 _)
+      (either_request (eqb opcode 0) Keeps (keeps_syncs n (alone n within))
+      (either_request a.hands_registries Keeps (keeps_hands_registry n (alone n within)) (keeps_registers n (alone n within)))) (keeps_breaks _ 0 _)
   keeps_display to opcode _ within = keeps_garbled _
 
   keeps_binds_to : (to : Addressed) (g : ℕ) (name : Option (List ℕ)) (version n : ℕ) (global : Option (Object (KeptGlobal G))) → nat_lt limit n ≡ false

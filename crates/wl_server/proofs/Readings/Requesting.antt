@@ -7,7 +7,7 @@ use Rattle.wl_wire.specs.Table.{is_new_id}
 use Rattle.wl_link.specs.Reader.{Verdict}
 use Rattle.wl_link.specs.Store.{held}
 use Rattle.wl_server.specs.declared.reading.violation.MessageFault.TheVariants as message
-use Rattle.wl_server.specs.Reading.{Around, binds_to, display_request, garbled, made_at, registers, registry_request, syncs}
+use Rattle.wl_server.specs.Reading.{Around, binds_to, display_request, garbled, hands_registry, made_at, registers, registry_request, syncs}
 use Rattle.wl_server.specs.Inside.Responses.{bind_parts, only_new_id}
 use Rattle.wl_server.specs.Telling.{Core, Told}
 use Rattle.wl_server.specs.Violations.{Addressed, violation}
@@ -19,7 +19,8 @@ one_new _ n is = cc
 module _ {U G C : Type 0} (a : Around G C) (c : Core U C) (to : Addressed) where
   abbrev pub by_new_id : ℕ → Option ℕ → Verdict (Core U C) (Told U)
   by_new_id opcode None = garbled c (violation to message.UnknownOpcode)
-  by_new_id opcode (Some n) = made_at a c to 0 n (if opcode == 0 then syncs a c n else registers a c n)
+  by_new_id opcode (Some n) =
+      made_at a c to 0 n (if opcode == 0 then syncs a c n else (if a.hands_registries then hands_registry a c n else registers a c n))
 
   pub display_is : (opcode : ℕ) (args : List WireArgument) → display_request a c to opcode args ≡ by_new_id opcode (only_new_id args)
   display_is opcode (arg.NewId m ∷ []) = refl

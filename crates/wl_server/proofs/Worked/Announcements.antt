@@ -67,6 +67,7 @@ offer_of is_disabled = record {
   globals = record { store = stored empty_store 1 (quad_global is_disabled); last_serial = 1; keeps_names = false };
   default_limit = 4096;
   object_limit = None;
+  hands_registries = false;
 }
 
 no_other : (is_disabled : Bool) (n : ℕ) (x : Object (KeptGlobal ℕ)) → held (offer_of is_disabled).globals.store n ≡ Some x

@@ -54,7 +54,7 @@ message sender opcode args = record { sender = sender; opcode = opcode; args = a
 
 module _ (globals : Globals ℕ) (c : Core ℕ Bool) where
   abbrev around : Around ℕ Bool
-  around = record { table = table; client = client; globals = globals; views = says; object_limit = None }
+  around = record { table = table; client = client; globals = globals; views = says; object_limit = None; hands_registries = false }
 
   abbrev seeing : Bool → Core ℕ Bool
   seeing client_data = record c { client_data = client_data }
@@ -296,7 +296,7 @@ module _ (sends : ℕ → Queue → Result ℕ IoFault → ℕ → Type 0) (p : 
   -- an open action is answered before a kill
   module _ (receives : ℕ → ℕ → Result Queue IoFault → ℕ → Type 0) (globals : Globals ℕ) (r : Reading) where
     abbrev surroundings : Around ℕ Bool
-    surroundings = record { table = table; client = client; globals = globals; views = says; object_limit = None }
+    surroundings = record { table = table; client = client; globals = globals; views = says; object_limit = None; hands_registries = false }
 
     an_open_action_comes_first : (a : OpenAction) → p.action ≡ Some a → NextAction sends receives surroundings r p (Err ActionOpen) r false [] p
     an_open_action_comes_first a action = rw action (refl, refl, refl, refl, refl)

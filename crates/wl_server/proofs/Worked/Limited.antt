@@ -57,7 +57,7 @@ the_text = (refl, refl)
 
 module _ (globals : Globals ℕ) (c : Core ℕ Bool) where
   abbrev limited : Around ℕ Bool
-  limited = record { table = table; client = client; globals = globals; views = says; object_limit = Some 4 }
+  limited = record { table = table; client = client; globals = globals; views = says; object_limit = Some 4; hands_registries = false }
 
   abbrev to : ℕ → InterfaceId → ℕ → Addressed
   to sender interface opcode = record { sender = sender; interface = interface; opcode = opcode }

@@ -89,7 +89,7 @@ module _ (sends : ℕ → Queue → Result ℕ IoFault → ℕ → Type 0) (rece
     (taken : is_valid_new (objects_of p) 5 ≡ false)
     (takes : sends 0 (record { bytes = spelling the_error.message; tokens = [] }) (Ok 40) 1) where
   abbrev a : Around ℕ Bool
-  a = record { table = table; client = client; globals = globals; views = says; object_limit = None }
+  a = record { table = table; client = client; globals = globals; views = says; object_limit = None; hands_registries = false }
 
   abbrev before : Part ℕ ℕ Bool
   before = record p { link = link_with 0 arrived []; is_killed = false; action = None }

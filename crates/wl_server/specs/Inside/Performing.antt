@@ -38,6 +38,7 @@ module _ {T U G C : Type 0} where
   IsOfAll (step.SetDefaultMaxBufferSize limit) = Unit {0}
   IsOfAll (step.KeepGlobalNames keep) = Unit {0}
   IsOfAll (step.SetObjectLimit limit) = Unit {0}
+  IsOfAll (step.HandOutRegistries hands) = Unit {0}
   IsOfAll step.Cleanup = Unit {0}
   IsOfAll step.TakeNotes = Unit {0}
   IsOfAll _ = ⊥

@@ -27,7 +27,7 @@ use Rattle.wl_server.specs.declared.reading.action.Found.TheVariants as found
 use Rattle.wl_server.specs.declared.reading.action.NoAction.{NoAction}
 use Rattle.wl_server.specs.declared.reading.action.MessageEnd.{MessageEnd}
 use Rattle.wl_server.specs.declared.reading.action.MessageEnd.TheVariants as came
-use Rattle.wl_server.specs.Deeds.{Bind, Handed, Request, notes_in}
+use Rattle.wl_server.specs.Deeds.{Bind, Handed, Registry, Request, notes_in}
 use Rattle.wl_server.specs.Ids.{ClientParts, GlobalParts, IdParts}
 use Rattle.wl_server.specs.Part.{Part, with_link}
 use Rattle.wl_server.specs.Reading.{Around, action_in, answered, faulted, reads_on, row_asks, row_in, server}
@@ -42,6 +42,7 @@ around_of views s = record {
   globals = record { store = s.globals.now.store; last_serial = 0; keeps_names = false };
   views = views;
   object_limit = s.object_limit;
+  hands_registries = s.hands_registries;
 }
 
 -- ---- a message is taken
@@ -81,6 +82,7 @@ module _ {U : Type 0} where
 abbrev pub found_with : Found → List (Argument IdParts Token) → Handed
 found_with (found.Request sender opcode is_destructor created) args = Request sender opcode args is_destructor created
 found_with (found.Bind global object) args = Bind global object
+found_with (found.Registry object) args = Registry object
 
 -- what the handling of a message came to, with the action that it hands out
 pub data MessageResult : Type 0 where

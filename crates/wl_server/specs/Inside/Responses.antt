@@ -103,6 +103,7 @@ addressed_by front = record { sender = front.number; interface = front.sender.in
 abbrev pub opened_of : Found → OpenAction
 opened_of (found.Request sender opcode is_destructor created) = opened.Request sender is_destructor created
 opened_of (found.Bind global object) = opened.Bind object
+opened_of (found.Registry object) = opened.Bind object
 
 module _ {U G C : Type 0} (a : Around G C) where
   -- What is yet to be done for a message to that object, as a verdict. An action that is handed out was found so, with these

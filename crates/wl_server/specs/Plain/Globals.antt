@@ -12,7 +12,7 @@ use Rattle.wl_server.specs.declared.notes.DisconnectReason.TheVariants.{Connecti
 use Rattle.wl_server.specs.declared.notes.Happening.TheVariants.{Disconnected}
 use Rattle.wl_server.specs.Backend.{BackendState}
 use Rattle.wl_server.specs.GivenOnce.{same_global}
-use Rattle.wl_server.specs.Globals.{as_disabled, global_of, is_enabled, keeping, new_global}
+use Rattle.wl_server.specs.Globals.{as_disabled, global_of, handing_registries, is_enabled, keeping, new_global}
 use Rattle.wl_server.specs.Ids.{ClientParts, GlobalParts}
 use Rattle.wl_server.specs.Part.{with_link}
 use Rattle.wl_server.specs.Plain.{ObjectsStay, as_killed, killed_in}
@@ -86,4 +86,9 @@ module _ {T U G C : Type 0} where
   -- Names are kept from now on, or no longer. Nothing else of the server has changed: no client, no global, no note.
   pub record KeepsNames (before : BackendState T U G C) (keeps : Bool) (after : BackendState T U G C) : Type 0 where
     pub server : after.server ≡ record before.server { offer = keeping before.server.offer keeps }
+    pub memory : after.refused ≡ false
+
+  -- Registries are handed out from now on, or no longer. Nothing else of the server has changed: no client, no global, no note.
+  pub record HandsRegistries (before : BackendState T U G C) (hands : Bool) (after : BackendState T U G C) : Type 0 where
+    pub server : after.server ≡ record before.server { offer = handing_registries before.server.offer hands }
     pub memory : after.refused ≡ false

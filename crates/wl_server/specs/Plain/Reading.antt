@@ -5,7 +5,7 @@ use Rattle.std.specs.Prelude.{◌≡◌, ◌⊎◌, ◌≤◌, ℕ, min, List, �
 use Rattle.wl_wire.specs.declared.error.IoFault.{IoFault}
 use Rattle.wl_wire.specs.declared.error.IoFault.TheVariants as fault
 use Rattle.wl_wire.specs.MessageRows.{request_row}
-use Rattle.wl_wire.specs.Table.{InterfaceRow, MessageRow}
+use Rattle.wl_wire.specs.Table.{InterfaceRow, MessageRow, registry_id}
 use Rattle.wl_link.specs.declared.object.Object.{Object}
 use Rattle.wl_link.specs.Store.{held}
 use Rattle.wl_server.specs.declared.error.ActionError.{ActionError}
@@ -17,7 +17,7 @@ use Rattle.wl_server.specs.declared.reading.action.Action.{Action}
 use Rattle.wl_server.specs.declared.reading.action.OpenAction.TheVariants as opened
 use Rattle.wl_server.specs.declared.reading.action.Reading.{Reading}
 use Rattle.wl_server.specs.Backend.{BackendState}
-use Rattle.wl_server.specs.Deeds.{Bind, Handed, Request}
+use Rattle.wl_server.specs.Deeds.{Bind, Handed, Registry, Request}
 use Rattle.wl_server.specs.Ids.{ClientParts, IdParts}
 use Rattle.wl_server.specs.Part.{Part, fresh_object, id_at, named}
 use Rattle.wl_server.specs.Plain.{GlobalsStay, OtherClientsStay, client_in, killed_in, object_in}
@@ -29,7 +29,7 @@ module _ {T U C : Type 0} (table : List InterfaceRow) (id : ClientParts) where
   -- A request: its sender is a kept object of the client, and the table has the request for the interface of that object. Each
   -- object argument is null, where the table allows that, or a kept object of an interface that fits. A request that makes an
   -- object has its id among its arguments, as a new id, and no other has one; the object has no data yet. A bind: its object is
-  -- new, and has no data yet. Either is open from now on.
+  -- new, and has no data yet. A registry: it is a new object, of the first version, and has no data yet. Each is open from now on.
   abbrev pub IsHandedOut : Handed → Part T U C → Type 0
   IsHandedOut (Request sender opcode args is_destructor created) p =
       (x : Object (Kept U)) × (row : MessageRow) × (held p.store sender.number ≡ Some x) × (sender ≡ id_at id sender.number x)
@@ -39,6 +39,9 @@ module _ {T U C : Type 0} (table : List InterfaceRow) (id : ClientParts) where
       × (p.action ≡ Some (opened.Request sender is_destructor created))
   IsHandedOut (Bind global object) p =
       (version : ℕ) × (object.client ≡ id) × (held p.store object.number ≡ Some (fresh_object object.interface version object.serial None))
+      × (p.action ≡ Some (opened.Bind object))
+  IsHandedOut (Registry object) p =
+      (object.client ≡ id) × (object.interface ≡ registry_id) × (held p.store object.number ≡ Some (fresh_object registry_id 1 object.serial None))
       × (p.action ≡ Some (opened.Bind object))
 
   -- it lives on, and nothing is noted of it

@@ -21,7 +21,8 @@ use wl_wire::{Args, Argument, Token};
 /// A program's handler of the actions of its clients, which `Backend::dispatch_single_client` and
 /// `Backend::dispatch_all_clients` call.
 ///
-/// An *action* is a request, or a bind of a new object to a global (`Action`).
+/// An *action* is a request, or a bind of a new object to a global (`Action`). No handler is called with a registry that is handed
+/// out (`Backend::hand_out_registries`): the dispatch ends with `InvalidInput`, and it stays open.
 ///
 /// A call may make any calls of the server, except those that read this client or finish its action: the dispatch does
 /// that itself. Each implementation says in `requests` and `binds` what its calls return and do. It has to prove that its

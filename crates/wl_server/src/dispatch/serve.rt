@@ -77,6 +77,11 @@ impl<T: Transport + Drop, U: Drop, G: GlobalHandler<C> + Drop, C: Drop> Backend<
                     Err(refused) => Some(refused.error),
                 }
             }
+            // No handler is called with a registry. It is not ended as a request is, so this is refused, and it stays open.
+            Action::Registry { .. } => match self.finish_request(id, None) {
+                Ok(()) => None,
+                Err(refused) => Some(refused.error),
+            },
         }
     }
 

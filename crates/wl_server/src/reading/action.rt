@@ -10,7 +10,7 @@ use smallvec::SmallVec;
 use std::alloc::Global;
 use wl_wire::{Args, INLINE_ARGS, IoFault};
 
-/// What a client asks of the program. `finish_request` or `finish_bind` ends it.
+/// What a client asks of the program. `finish_request` ends a request, and `finish_bind` a bind or a registry.
 #[derive(Debug, Drop)]
 pub enum Action {
     /// A request.
@@ -33,6 +33,12 @@ pub enum Action {
         /// The new object.
         object: ObjectId,
     },
+    /// The client asked for a registry, and registries are handed out (`Backend::hand_out_registries`). The server tells it of
+    /// no global. `finish_bind` ends it.
+    Registry {
+        /// The new registry.
+        object: ObjectId,
+    },
 }
 
 /// An action that is open: it was handed out and is not finished yet. This is what is needed to finish it.
@@ -47,7 +53,7 @@ pub enum OpenAction {
         /// The object that it made, if it made one.
         created: Option<ObjectId>,
     },
-    /// A bind.
+    /// A bind, or a registry that was handed out.
     Bind {
         /// The new object.
         object: ObjectId,
@@ -79,6 +85,8 @@ pub enum Found {
     Request(ObjectId, u16, bool, Option<ObjectId>),
     /// A new object was bound to a global.
     Bind(GlobalId, ObjectId),
+    /// A new registry is handed out.
+    Registry(ObjectId),
 }
 
 /// An action that is being found. Its two parts are filled apart, and put together at the end.
@@ -118,6 +126,7 @@ impl Finding {
                 }
             }
             Found::Bind(global, object) => Action::Bind { global, object },
+            Found::Registry(object) => Action::Registry { object },
         }
     }
 }

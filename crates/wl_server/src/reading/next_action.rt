@@ -42,8 +42,8 @@ impl<T: Transport + Drop, U: Drop, G: GlobalHandler<C> + Drop, C: Drop> Backend<
     /// Reads the next action of the client. It is open until `finish_request` or `finish_bind` ends it.
     ///
     /// An *action* is a request or a bind that the program has to do something about. Some requests the server answers by
-    /// itself: `sync`, `get_registry`, and those that break the protocol. The call receives from the client's transport
-    /// at most 64 times.
+    /// itself: `sync`, `get_registry`, and those that break the protocol. With `hand_out_registries`, `get_registry` is an
+    /// action, too. The call receives from the client's transport at most 64 times.
     ///
     /// # Errors
     ///
@@ -167,6 +167,7 @@ impl<T: Transport + Drop, U: Drop, G: GlobalHandler<C> + Drop, C: Drop> Backend<
             globals: &self.globals,
             client: *id,
             object_limit: self.object_limit,
+            hands_registries: self.hands_registries,
         };
         let (answer, refused) = client.find_action(
             &mut self.numbers,

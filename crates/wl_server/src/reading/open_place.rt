@@ -15,7 +15,7 @@ pub enum OpenKind {
     Closed,
     /// A request is open.
     Request,
-    /// A bind is open.
+    /// A bind is open, or a registry that was handed out.
     Bind,
 }
 
@@ -23,7 +23,7 @@ pub enum OpenKind {
 /// action does not have stays as it was. So no action is copied as a whole.
 #[derive(Drop)]
 pub struct OpenPlace {
-    /// The object that a request was sent to, or the new object of a bind.
+    /// The object that a request was sent to, or the new object of a bind, or the new registry.
     object: ObjectId,
     /// The object that a request made, if it made one.
     created: ObjectId,
@@ -74,7 +74,7 @@ impl OpenPlace {
             Found::Request(sender, _, is_destructor, created) => {
                 self.open_request(*sender, *is_destructor, created);
             }
-            Found::Bind(_, object) => {
+            Found::Bind(_, object) | Found::Registry(object) => {
                 self.object = *object;
                 self.kind = OpenKind::Bind;
             }

@@ -78,7 +78,7 @@ fn request_within<'p, 'm, U: Drop, G: GlobalHandler<C> + Drop, C>(
 {
     let interface = front.sender.interface;
     if interface == WL_DISPLAY_INTERFACE {
-        return display_request(around, client_data, objects, message);
+        return display_request(around, client_data, objects, message, &mut finding.found);
     }
     if interface == WL_REGISTRY_INTERFACE {
         return registry_request(around, client_data, objects, message, &mut finding.found);

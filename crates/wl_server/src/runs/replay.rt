@@ -123,6 +123,10 @@ impl<U: Drop, G: GlobalHandler<C> + Drop, C: Drop> Backend<Memory, U, G, C> {
                 self.set_object_limit(limit);
                 Reply::SetObjectLimit
             }
+            Step::HandOutRegistries(hand_out) => {
+                self.hand_out_registries(hand_out);
+                Reply::HandOutRegistries
+            }
             Step::Cleanup => Reply::Cleanup(self.cleanup()),
             Step::TakeNotes => Reply::TakeNotes(self.take_notes()),
             _ => unreachable!(),

@@ -47,6 +47,8 @@ pub enum Step<T, U, G, C> {
     KeepGlobalNames(bool),
     /// `Backend::set_object_limit`.
     SetObjectLimit(Option<u32>),
+    /// `Backend::hand_out_registries`.
+    HandOutRegistries(bool),
     /// `Backend::flush`, and `Backend::flush_client`.
     Flush(Option<ClientId>),
     /// `Backend::set_default_max_buffer_size`.
@@ -114,6 +116,8 @@ pub enum Reply<T, U> {
     KeepGlobalNames,
     /// The reply to `Step::SetObjectLimit`.
     SetObjectLimit,
+    /// The reply to `Step::HandOutRegistries`.
+    HandOutRegistries,
     /// The reply to `Step::Flush`.
     Flush(Result<(), IoFault>),
     /// The reply to `Step::SetDefaultMaxBufferSize`.

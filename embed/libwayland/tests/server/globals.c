@@ -56,12 +56,15 @@ static void names(int which)
 
 static void registries(int which)
 {
-    (void)which;
     begin();
+    struct wl_global *global = NULL;
+    if (which == 1)
+        global = wl_global_create(display, &part_interface, 3, "parts", bind_part);
     get_registry(2);
     get_registry(3);
     turn();
-    struct wl_global *global = wl_global_create(display, &part_interface, 3, "parts", bind_part);
+    if (which == 0)
+        global = wl_global_create(display, &part_interface, 3, "parts", bind_part);
     turn();
     bind_global(3, 2, "part", 3, 4);
     bind_global(2, 1, "thing", 1, 5);
@@ -256,7 +259,8 @@ static void filtered_for_one(int which)
 
 const struct test global_tests[] = {
     { "global-creation", creation, 0 }, { "global-removal", removal, 0 },  { "global-removal", removal, 1 },
-    { "global-names", names, 0 },       { "registries", registries, 0 },   { "bad-bind", bad_binds, 0 },
+    { "global-names", names, 0 },       { "registries", registries, 0 },
+    { "registries", registries, 1 },    { "bad-bind", bad_binds, 0 },
     { "bad-bind", bad_binds, 1 },       { "bad-bind", bad_binds, 2 },      { "bad-bind", bad_binds, 3 },
     { "bad-bind", bad_binds, 4 },       { "bad-bind", bad_binds, 5 },      { "bad-bind", bad_binds, 6 },
     { "bad-bind", bad_binds, 7 },       { "bad-bind", bad_binds, 8 },      { "bad-bind", bad_binds, 9 },

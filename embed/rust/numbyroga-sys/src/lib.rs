@@ -367,11 +367,13 @@ plain! {
 pub const NB_REQUEST: u32 = 1;
 /// An action that is a bind of a global.
 pub const NB_BIND: u32 = 2;
+/// An action that is a registry, which the host tells of globals.
+pub const NB_REGISTRY: u32 = 3;
 
 plain! {
     /// What a client asks of the server. It is open until it is finished.
     nb_action: 120, 8 {
-        /// [`NB_REQUEST`] or [`NB_BIND`].
+        /// [`NB_REQUEST`], [`NB_BIND`] or [`NB_REGISTRY`].
         kind: u32 = 0,
         /// Of a request: its index among the requests of the sender's interface.
         opcode: u32 = 4,
@@ -379,11 +381,11 @@ plain! {
         arguments: u32 = 8,
         /// Of a request: whether finishing it ends its sender (0 or 1).
         is_destructor: u32 = 12,
-        /// Of a request: the object that it was sent to. Null for a bind.
+        /// Of a request: the object that it was sent to. Else null.
         sender: nb_object_id = 16,
-        /// The data of the sender, or of the global.
+        /// The data of the sender, or of the global; 0 of a registry.
         data: u64 = 48,
-        /// The object that was made or bound; null if none was.
+        /// The object that was made or bound, or the registry; null if none was.
         created: nb_object_id = 56,
         /// The version of `created`; 0 if none was made.
         version: u32 = 88,
@@ -956,6 +958,19 @@ unsafe extern "C" {
     pub safe fn nb_server_remove_global(place: &mut nb_server, global: &nb_global_id) -> nb_status;
     /// Keeps the names of globals, or no longer.
     pub safe fn nb_server_keep_global_names(place: &mut nb_server, keep: u32) -> nb_status;
+    /// Hands out the registries that clients ask for, or no longer.
+    pub safe fn nb_server_hand_out_registries(place: &mut nb_server, hand_out: u32) -> nb_status;
+    /// Tells a registry that was handed out of a global.
+    pub safe fn nb_server_announce_global(
+        place: &mut nb_server,
+        registry: &nb_object_id,
+        global: &nb_global_id,
+    ) -> nb_status;
+    /// Tells each registry that was told of a global that it is gone.
+    pub safe fn nb_server_withdraw_global(
+        place: &mut nb_server,
+        global: &nb_global_id,
+    ) -> nb_status;
     /// What a global offers.
     pub safe fn nb_server_global_info(
         place: &mut nb_server,

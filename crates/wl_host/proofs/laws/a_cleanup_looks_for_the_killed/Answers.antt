@@ -1,5 +1,5 @@
 use Rattle.std.proofs.Common.{ap}
-use Rattle.wl_host.proofs.Marking.{default_kills, keep_names_kills, limit_kills, object_limit_kills}
+use Rattle.wl_host.proofs.Marking.{default_kills, hand_out_registries_kills, keep_names_kills, limit_kills, object_limit_kills}
 use Rattle.wl_host.proofs.Settled.{action_settled, bind_settled, cleanup_settled, creates_at_settled, creates_settled, data_settled, ends_settled, error_settled, event_settled, extends_settled, flushes_settled, insert_settled, interfaces_settled, kills_same, new_settled, notes_settled, received_settled, refused_global_settled, request_settled, room_settled, sent_settled, stays_by, stays_marked, version_settled, writable_settled}
 use Rattle.wl_host.specs.Server.{ServerState}
 use Rattle.wl_host.proofs.laws.a_cleanup_looks_for_the_killed.Goals as goal
@@ -63,6 +63,9 @@ returns-clause-keep_global_names c before after keep h e = stays_by before after
 
 pub returns-clause-set_object_limit : goal.returns-clause-set_object_limit
 returns-clause-set_object_limit c before after limit h e = stays_by before after (object_limit_kills before.core after.core limit h) (ap (λ (s : ServerState). s.may_clean_up) e)
+
+pub returns-clause-hand_out_registries : goal.returns-clause-hand_out_registries
+returns-clause-hand_out_registries c before after hand_out h e = stays_by before after (hand_out_registries_kills before.core after.core hand_out h) (ap (λ (s : ServerState). s.may_clean_up) e)
 
 pub returns-clause-flush_client : goal.returns-clause-flush_client
 returns-clause-flush_client c before after id s h = flushes_settled before after id s h

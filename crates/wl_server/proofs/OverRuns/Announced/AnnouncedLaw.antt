@@ -30,7 +30,7 @@ use Rattle.wl_server.specs.Announced.{AreSameGlobals, EachAnnouncesShown, IsAlwa
 use Rattle.wl_server.specs.Chosen.{has_version, is_free_own, with_version}
 use Rattle.wl_server.specs.Deeds.{Deed, NoteTaken, Noted, log_of, registries_in}
 use Rattle.wl_server.specs.Felt.{Hears, removals, announcements, is_first}
-use Rattle.wl_server.specs.Globals.{CreatesGlobal, Globals, Offer, global_of, is_enabled, keeping, new_offer, with_created, with_globals, with_table, Shown, new_global, disabled_at, freed_at}
+use Rattle.wl_server.specs.Globals.{CreatesGlobal, Globals, Offer, global_of, handing_registries, is_enabled, keeping, new_offer, with_created, with_globals, with_table, Shown, new_global, disabled_at, freed_at}
 use Rattle.wl_server.specs.Ids.{ClientParts, GlobalParts, same_client}
 use Rattle.wl_server.proofs.OverRuns.Alone.IsolationLaw.{offer_run, shared_run, split_run}
 use Rattle.wl_server.specs.Moves.{Move, Moved}
@@ -400,6 +400,9 @@ module _ {T U G C : Type 0} (w : World T G C) (id : ClientParts) (r : Id) where
       loss_follows offer g (freed_at offer.globals g.name) refl (λ client_data x. removed_hides w.views id client_data offer g.name) s lacked did t h
   step_follows offer known (step.KeepGlobalNames keep) answer s lacked did t about numbered alone (is, h) =
       unfelt_stays offer (keeping offer keep) s lacked did t (λ client_data. stored_stays w.views id client_data offer (keeping offer keep) refl refl) h
+  step_follows offer known (step.HandOutRegistries hands) answer s lacked did t about numbered alone (is, h) =
+      unfelt_stays offer (handing_registries offer hands) s lacked did t
+      (λ client_data. stored_stays w.views id client_data offer (handing_registries offer hands) refl refl) h
   step_follows offer known (step.SetDefaultMaxBufferSize limit) answer s lacked did t about numbered alone (is, h) =
       unfelt_stays offer (record offer { default_limit = limit }) s lacked did t
       (λ client_data. renamed_stays w.views id client_data offer _ refl (λ a x at. refl)) h

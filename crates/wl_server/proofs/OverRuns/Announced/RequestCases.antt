@@ -11,7 +11,7 @@ use Rattle.wl_server.specs.declared.objects.Kept.{Kept}
 use Rattle.wl_server.specs.declared.globals.KeptGlobal.{KeptGlobal}
 use Rattle.wl_server.specs.declared.reading.violation.Violation.{Violation}
 use Rattle.wl_server.specs.Limited.{limit_passed}
-use Rattle.wl_server.specs.Reading.{Around, binds, binds_to, breaks, by_interface, display_request, garbled, may_bind, other_request, refuses_bind, registers, registry_request, request, row_in, sent_to, server, syncs, unless_passed}
+use Rattle.wl_server.specs.Reading.{Around, binds, binds_to, breaks, by_interface, display_request, garbled, hands_registry, may_bind, other_request, refuses_bind, registers, registry_request, request, row_in, sent_to, server, syncs, unless_passed}
 use Rattle.wl_server.specs.Requests.{is_valid_new}
 use Rattle.wl_server.specs.Telling.{Core, Told, objects_in}
 use Rattle.wl_server.specs.Violations.{Addressed, violation}
@@ -22,9 +22,20 @@ use Rattle.wl_server.specs.declared.reading.violation.MessageFault.TheVariants a
 module _ {U G C : Type 0} (a : Around G C) (c : Core U C) (P : Verdict (Core U C) (Told U) → Type 0)
     (garbled' : (w : Violation) → P (garbled c w)) (breaks' : (w : Violation) (code : ℕ) (text : List ℕ) → P (breaks a c w code text)) where
   module _ (syncs' : (n : ℕ) → is_valid_new (objects_in c) n ≡ true → P (syncs a c n))
-      (registers' : (n : ℕ) → is_valid_new (objects_in c) n ≡ true → P (registers a c n)) where
+      (registers' : (n : ℕ) → is_valid_new (objects_in c) n ≡ true → P (registers a c n))
+      (hands' : (n : ℕ) → is_valid_new (objects_in c) n ≡ true → P (hands_registry a c n)) where
+    -- a new id to a display, which is valid or not; the two tests say which request it is, and whether registries are handed out
+    new_case : (to : Addressed) (n : ℕ) (valid is_sync hands : Bool) → is_valid_new (objects_in c) n ≡ valid
+        → P (cond valid (cond is_sync (syncs a c n) (cond hands (hands_registry a c n) (registers a c n)))
+        (breaks a c (violation to (message.WrongArgument 0 (wrong.InvalidNewId n))) 0 (new_id_text n)))
+    new_case to n true true hands is = syncs' n is
+    new_case to n true false true is = hands' n is
+    new_case to n true false false is = registers' n is
+    new_case to n false is_sync hands is = breaks' _ 0 _
+
     pub display_case : (to : Addressed) (opcode : ℕ) (args : List WireArgument) → P (display_request a c to opcode args)
-    display_case to opcode h2 = grind (arith, breaks, eqb)
+    display_case to opcode (arg.NewId n ∷ []) = new_case to n (is_valid_new (objects_in c) n) (eqb opcode 0) a.hands_registries refl
+    display_case to opcode _ = garbled' _
 
   -- a bind to the global that has the name, and any other request to a registry
   module _ (binds' : (g version n : ℕ) (x : Object (KeptGlobal G)) → is_valid_new (objects_in c) n ≡ true → P (binds a c g version n x)) where
@@ -49,17 +60,18 @@ module _ {U G C : Type 0} (a : Around G C) (c : Core U C) (P : Verdict (Core U C
   -- a request to this object, of whatever kind, that did not pass the limit
   kind_case : ((n : ℕ) → is_valid_new (objects_in c) n ≡ true → P (syncs a c n))
       → ((n : ℕ) → is_valid_new (objects_in c) n ≡ true → P (registers a c n))
+      → ((n : ℕ) → is_valid_new (objects_in c) n ≡ true → P (hands_registry a c n))
       → ((g version n : ℕ) (x : Object (KeptGlobal G)) → is_valid_new (objects_in c) n ≡ true → P (binds a c g version n x)) → (m : WireMessage)
       → (receiver : Object (Kept U)) (row : MessageRow)
       → (eqb receiver.interface.0 registry_id.0 ≡ false → P (other_request a c m receiver row))
       → P (by_interface a c m receiver row)
-  kind_case syncs' registers' binds' m receiver row other =
+  kind_case syncs' registers' hands' binds' m receiver row other =
       by (eqb receiver.interface.0 display_id.0) (eqb receiver.interface.0 registry_id.0) refl
     where
       by : (b t : Bool) → eqb receiver.interface.0 registry_id.0 ≡ t
           → P (cond b (display_request a c (sent_to m receiver) m.opcode m.args)
           (cond t (registry_request a c (sent_to m receiver) m.args) (other_request a c m receiver row)))
-      by true t is = display_case syncs' registers' (sent_to m receiver) m.opcode m.args
+      by true t is = display_case syncs' registers' hands' (sent_to m receiver) m.opcode m.args
       by false true is = registry_case binds' (sent_to m receiver) m.args
       by false false is = other is
 
@@ -70,11 +82,12 @@ module _ {U G C : Type 0} (a : Around G C) (c : Core U C) (P : Verdict (Core U C
   -- a message, of whatever kind
   pub request_case : ((n : ℕ) → is_valid_new (objects_in c) n ≡ true → P (syncs a c n))
       → ((n : ℕ) → is_valid_new (objects_in c) n ≡ true → P (registers a c n))
+      → ((n : ℕ) → is_valid_new (objects_in c) n ≡ true → P (hands_registry a c n))
       → ((g version n : ℕ) (x : Object (KeptGlobal G)) → is_valid_new (objects_in c) n ≡ true → P (binds a c g version n x)) → (m : WireMessage)
       → ((receiver : Object (Kept U)) (row : MessageRow) → held c.store m.sender ≡ Some receiver → eqb receiver.interface.0 registry_id.0 ≡ false
       → P (other_request a c m receiver row))
       → P ((server a).handles c m)
-  request_case syncs' registers' binds' m others = at (held c.store m.sender) (row_in a.table (held c.store m.sender) m.opcode) refl
+  request_case syncs' registers' hands' binds' m others = at (held c.store m.sender) (row_in a.table (held c.store m.sender) m.opcode) refl
     where
       at : (o : Option (Object (Kept U))) (r : Option MessageRow) → held c.store m.sender ≡ o → P (request a c m o r)
       at None None is = garbled' _
@@ -82,4 +95,4 @@ module _ {U G C : Type 0} (a : Around G C) (c : Core U C) (P : Verdict (Core U C
       at (Some x) None is = garbled' _
       at (Some x) (Some row) is =
           limit_case (sent_to m x) (limit_passed a.object_limit m.args) (by_interface a c m x row)
-          (kind_case syncs' registers' binds' m x row (others x row is))
+          (kind_case syncs' registers' hands' binds' m x row (others x row is))

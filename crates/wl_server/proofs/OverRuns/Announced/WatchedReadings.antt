@@ -30,7 +30,7 @@ use Rattle.wl_server.specs.Ids.{ClientParts, GlobalParts, IdParts}
 use Rattle.wl_server.proofs.OverRuns.Moves.MovesOfReadings.{gave_none}
 use Rattle.wl_server.proofs.OverRuns.Moves.MovesOfRequests.{Came, converts, valid_new}
 use Rattle.wl_server.specs.Part.{Part, id_at, id_of}
-use Rattle.wl_server.specs.Reading.{Around, NextAction, binds, breaks, converted, faulted, garbled, hands_out, new_at, other_request, replies, sent_to, server, stops_if, synced, syncs, with_registry}
+use Rattle.wl_server.specs.Reading.{Around, NextAction, binds, breaks, converted, faulted, garbled, hands_out, hands_registry, new_at, other_request, replies, sent_to, server, stops_if, synced, syncs, with_registry}
 use Rattle.wl_server.proofs.OverRuns.Announced.RequestCases.{request_case}
 use Rattle.wl_server.specs.Requests.{Outcome, Whole, Wrong, convert, is_valid_new, made_id, made_object, start, with_made}
 use Rattle.wl_server.specs.Telling.{Core, Told, deeds_in, delete_message, deletions, done_message, objects_in, reader_part, with_objects}
@@ -50,7 +50,14 @@ deletions_other r n display = go _
 
 -- what a reading asks beside its client
 abbrev around_of : {G C : Type 0} → (G → ClientParts → C → GlobalParts → Bool) → ClientParts → Offer G → Around G C
-around_of views client offer = record { table = offer.table; client = client; globals = offer.globals; views = views; object_limit = offer.object_limit }
+around_of views client offer = record {
+  table = offer.table;
+  client = client;
+  globals = offer.globals;
+  views = views;
+  object_limit = offer.object_limit;
+  hands_registries = offer.hands_registries;
+}
 
 module _ {G C : Type 0} (views : G → ClientParts → C → GlobalParts → Bool) (client : ClientParts) (r : Id) {U : Type 0} (offer : Offer G) where
   abbrev Change : Scene U C → List Said → List Id → Scene U C → Type 0
@@ -121,6 +128,21 @@ module _ {G C : Type 0} (views : G → ClientParts → C → GlobalParts → Boo
       made : Core U C
       made = with_objects c (with_made (objects_in c) n x.interface version)
 
+  -- nothing is announced on a registry that is handed out, and it is none of those that are watched
+  hands_registry_handles : (c : Core U C) (n : ℕ) → is_valid_new (objects_in c) n ≡ true
+      → Handles c (hands_registry (around_of views client offer) c n)
+  hands_registry_handles c n valid =
+      hands_out_handles c made (opened.Bind id) (deeds.Registry id)
+      (goes_then views client r offer (scene_of c) (scene_of made) (scene_of (record made { action = Some (opened.Bind id) })) [] [] [] []
+      (born_goes views client r offer (scene_of c) n (made_object (objects_in c) registry_id 1) (valid_new (objects_in c) n valid).0 refl)
+      (set_action_goes views client r offer (scene_of made) (Some (opened.Bind id)) (λ sender b created is. cc)))
+    where
+      id : IdParts
+      id = made_id client (objects_in c) n registry_id
+
+      made : Core U C
+      made = with_objects c (with_made (objects_in c) n registry_id 1)
+
   -- ---- other requests
 
   -- from some objects to others, whatever ids came up
@@ -164,7 +186,7 @@ module _ {G C : Type 0} (views : G → ClientParts → C → GlobalParts → Boo
       request_case (around_of views client offer) c (Handles c) (garbled_handles c) (λ w code text. breaks_handles c c w code text) (syncs_handles c)
       (λ n valid. replies_handles c (with_registry (around_of views client offer) c n) _ (Remembered (new_at (around_of views client offer) c n) ∷ []) refl
       (registers_goes views client r offer (scene_of c) n (made_object (objects_in c) registry_id 1) (valid_new (objects_in c) n valid).0 refl refl))
-      (binds_handles c) m
+      (hands_registry_handles c) (binds_handles c) m
       (λ receiver row holds other. other_handles c m receiver row holds other)
 
   -- ---- a reading

@@ -149,7 +149,7 @@ module _ {U G C : Type 0} (a : Around G C) where
   handles_speaks : (c : Core U C) (m : WireMessage) → IsReady c → Speaks ((server a).handles c m)
   handles_speaks c m r =
       request_case a c Speaks (λ w. garbled_speaks c w r) (λ w code text. stops_speaks c w code text r) (λ n new. (grind (arith, on_of, sound_killed, synced)))
-      (λ n new. (grind (arith, on_of, sound_killed, with_registry))) (λ g version n x new. action_speaks _ _ _ r) m
+      (λ n new. (grind (arith, on_of, sound_killed, with_registry))) (λ n new. action_speaks _ _ _ r) (λ g version n x new. action_speaks _ _ _ r) m
       (λ receiver row holds other. other_speaks c m receiver row r)
 
   -- ---- a verdict that was carried out

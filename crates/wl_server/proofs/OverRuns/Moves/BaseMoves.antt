@@ -23,7 +23,7 @@ use Rattle.wl_server.specs.declared.runs.step.Step.TheVariants as step
 use Rattle.wl_server.specs.Chosen.{with_version}
 use Rattle.wl_server.specs.declared.reading.violation.Violation.{Violation}
 use Rattle.wl_server.specs.HandedIds.{action_ids, made_ids}
-use Rattle.wl_server.specs.Deeds.{Acted, Bind, Deed, Handed, IsAmong, Request, came_in, left_in, log_of, notes_in, registries_in, sends_of, taken_in}
+use Rattle.wl_server.specs.Deeds.{Acted, Bind, Deed, Handed, IsAmong, Registry, Request, came_in, left_in, log_of, notes_in, registries_in, sends_of, taken_in}
 use Rattle.wl_server.specs.Errors.{error_of}
 use Rattle.wl_server.specs.Ids.{ClientParts, IdParts, same_client}
 use Rattle.wl_server.specs.Part.{Part, display_of, id_at, id_of, note_of_end, null_id, registries_without, with_link, with_user_data}
@@ -132,13 +132,14 @@ module _ {T U C : Type 0} (client : ClientParts) where
     waiting = if waits then p.waiting ++ note_of_end client n x else p.waiting;
   }
 
-  -- what is open from now on is what was handed out: a request of a kept object that is no registry, or a bind
+  -- what is open from now on is what was handed out: a request of a kept object that is no registry, or a bind, or a registry
   abbrev pub Opens : Part T U C → OpenAction → Handed → Type 0
   Opens p (opened.Request sender is_destructor created) (Request sender' opcode args is_destructor' created') =
       ((x : Object (Kept U)) × (held p.store sender.number ≡ Some x) × (sender ≡ id_at client sender.number x)
       × ((x.interface.0 == registry_id.0) ≡ false))
       × (sender' ≡ sender) × (is_destructor' ≡ is_destructor) × (created' ≡ created)
   Opens p (opened.Bind object) (Bind global object') = object' ≡ object
+  Opens p (opened.Bind object) (Registry object') = object' ≡ object
   Opens p _ _ = ⊥
 
 -- ---- the moves

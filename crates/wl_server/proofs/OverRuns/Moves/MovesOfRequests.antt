@@ -36,7 +36,7 @@ use Rattle.wl_server.specs.Globals.{global_at}
 use Rattle.wl_server.specs.Ids.{ClientParts, IdParts}
 use Rattle.wl_server.proofs.OverRuns.Moves.MovesOfVerdicts.{Comes, Go, Lands, at, lands_at, lands_not, lands_killed, comes_silently}
 use Rattle.wl_server.specs.Part.{Part, display_of, id_at, last_possible_serial, null_id}
-use Rattle.wl_server.specs.Reading.{Around, binds, breaking, breaks, converted, garbled, hands_out, new_at, other_request, replies, server, stops_if, synced, with_registry}
+use Rattle.wl_server.specs.Reading.{Around, binds, breaking, breaks, converted, garbled, hands_out, hands_registry, new_at, other_request, replies, server, stops_if, synced, with_registry}
 use Rattle.wl_server.proofs.OverRuns.Announced.RequestCases.{request_case}
 use Rattle.wl_server.specs.Requests.{Converted, Converting, Outcome, Whole, Wrong, allows_null, convert, convert_one, going_on, is_valid_new, kinds_after, made_id, made_object, object_found, start, with_made, with_new_argument, with_object_argument}
 use Rattle.wl_server.specs.Telling.{Core, Told, objects_in, with_objects}
@@ -172,6 +172,16 @@ module _ {T U G C : Type 0} (kind : Kind) (sends : T → Queue → Result ℕ Io
       (λ l. followed (makes_object c version (objects_in c) n x.interface valid l)
       (moved (opens (opened.Bind id) (deeds.Bind (global_at g x) id) may.reads refl refl refl)) refl))
 
+  hands_registry_comes : MayRead kind a.table a.client → (c : Core U C) (n : ℕ) → c.ended ≡ None → is_valid_new (objects_in c) n ≡ true
+      → Come c (hands_registry a c n)
+  hands_registry_comes may c n none valid =
+      let id : IdParts = made_id a.client (objects_in c) n registry_id in
+      hands_out_comes c (with_objects c (with_made (objects_in c) n registry_id 1)) (opened.Bind id) (deeds.Registry id)
+      (lands_at kind sends receives a.client c (Acted (deeds.Registry id) ∷ [])
+      (record (with_objects c (with_made (objects_in c) n registry_id 1)) { action = Some (opened.Bind id) }) none
+      (λ l. followed (makes_object c 1 (objects_in c) n registry_id valid l)
+      (moved (opens (opened.Bind id) (deeds.Registry id) may.reads refl refl refl)) refl))
+
   -- ---- other requests
 
   module _ (c : Core U C) (m : WireMessage) (receiver : Object (Kept U)) (row : MessageRow) (none : c.ended ≡ None)
@@ -229,5 +239,5 @@ module _ {T U G C : Type 0} (kind : Kind) (sends : T → Queue → Result ℕ Io
       (λ l. followed (unseen (makes_object c 1 (objects_in c) n registry_id valid l))
       (moved (remembered n (made_object (objects_in c) registry_id 1)
       (stored_here c.store n (made_object (objects_in c) registry_id 1) n refl) refl refl refl)) refl)) (refl, refl))
-      (λ g version n x valid. binds_comes may c g version n x none valid) m
+      (λ n valid. hands_registry_comes may c n none valid) (λ g version n x valid. binds_comes may c g version n x none valid) m
       (λ receiver row holds other. other_comes c m receiver row none holds other may)

@@ -77,6 +77,8 @@ module _ {H T U G C : Type 0} (w : World T G C) (known : IsDetermined w) (ordere
         → HandledSame ordered end end' h1 h2 x y
     answered_one h h1 h2 b c x y (action.Request _ _ _ _ _) (action.Request _ _ _ _ _) end end' same actions is is' p q = grind (arith)
     answered_one h h1 h2 b c x y (action.Bind _ _) (action.Bind _ _) end end' same actions is is' p q = grind (arith)
+    answered_one h h1 h2 b c x y (action.Registry _) (action.Registry _) end end' same actions is is' (kept, left, by) (kept', left', by') =
+        (by ∙ sym by', kept ∙ sym kept', rw (left, left') same.server)
     answered_one h h1 h2 b c x y a a' end end' same actions is is' p q = absurd cc
 
     -- ---- a turn: a reading, and what became of the action that it handed out, if it did

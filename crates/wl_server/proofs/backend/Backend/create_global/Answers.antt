@@ -22,7 +22,7 @@ no_growth T U G C i version handler e other = refl
 pub returns-after-matches : goal.returns-after-matches
 returns-after-matches g c = with_plain (offers_global _ _ _ _) (rw (← c.self.view_is)
     (unfelt_call _ _ _ _ (record { last = refl; client = λ b. tt; order = tt; room = λ b. tt; notes = λ b a h. h }) c.match-matches.self _
-    (with_globals _ _ _ _ _ c.in-Err.ensures.globals) c.in-Err.ensures.answer
+    (with_globals _ _ _ _ _ _ c.in-Err.ensures.globals) c.in-Err.ensures.answer
     (elim c.match-matches.branch [
       | in-OutOfMemory w ↦ rw w.in-OutOfMemory.is (sym w.self-is)
       | in_default w ↦ no_growth g.row.T.Denot g.row.U.Denot g.row.G.Denot g.row.C.Denot c.args.interface c.args.version c.args.handler
@@ -36,7 +36,7 @@ returns-in-Ok g c =
     let felt = rw c.in-Ok.ensures.kept at told.felt in
     with_plain (offers_global _ _ _ _) (rw (← c.self.view_is, with_items_is c.self.inside.clients _ (felt.len ∙ sym c.self.inside.clients.ok.0))
     (felt_call _ _ _ _ (record { last = refl; client = λ b. tt; order = tt; room = λ b. tt; notes = λ b a h. h }) _ c.tell_named-self-inside.result _
-    _ _ (with_globals _ _ _ _ _ c.in-Ok.ensures.globals) c.in-Ok.ensures.answer refl (λ i l d b a h. (_, refl, h)) felt told.in_time
+    _ _ (with_globals _ _ _ _ _ _ c.in-Ok.ensures.globals) c.in-Ok.ensures.answer refl (λ i l d b a h. (_, refl, h)) felt told.in_time
     (told.numbered c.self.invariant.2)))
 
 pub invariant_of-self : goal.invariant_of-self

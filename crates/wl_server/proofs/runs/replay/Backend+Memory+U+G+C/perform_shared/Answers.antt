@@ -23,3 +23,7 @@ returns-in-KeepGlobalNames g c =
 
 pub returns-in-SetObjectLimit : goal.returns-in-SetObjectLimit
 returns-in-SetObjectLimit g c = rw c.in-SetObjectLimit.is (over_script g.G.GlobalHandler.views _ _ _ _ c.set_object_limit.ensures.call)
+
+pub returns-in-HandOutRegistries : goal.returns-in-HandOutRegistries
+returns-in-HandOutRegistries g c =
+    rw c.in-HandOutRegistries.is (over_script g.G.GlobalHandler.views _ _ _ _ c.hand_out_registries.ensures.call)

@@ -34,7 +34,7 @@ to views before target _ answer id lacked did b a h = (answer, refl, h)
 pub returns-in_default : goal.returns-in_default
 returns-in_default g c =
     let i = c.self.inside in
-    let before = held_by i.protocol i.globals.store i.last_global i.keeps_names i.default_limit i.object_limit i.last_client i.clients.items i.notes.items i.numbers in
+    let before = held_by i.protocol i.globals.store i.last_global i.keeps_names i.default_limit i.object_limit i.hands_registries i.last_client i.clients.items i.notes.items i.numbers in
     rw (← c.self.view_is)
     (none_stored (over_scripts g.G.GlobalHandler.views) before (step_of c.args.id.now c.args.call) (reply_to c.args.call (Err refused.InvalidId)) (own _ _ _ _ _ _ _) c.args.id.now
     (moves (move_of c.args.call) (nothing_taken (Err refused.InvalidId))) (nothing_taken (Err refused.InvalidId) ≡ Err refused.InvalidId)
@@ -43,7 +43,7 @@ returns-in_default g c =
 pub returns : goal.returns
 returns g c =
     let i = c.self.inside in
-    let before = held_by i.protocol i.globals.store i.last_global i.keeps_names i.default_limit i.object_limit i.last_client i.clients.items i.notes.items i.numbers in
+    let before = held_by i.protocol i.globals.store i.last_global i.keeps_names i.default_limit i.object_limit i.hands_registries i.last_client i.clients.items i.notes.items i.numbers in
     let answer = c.make_move-answer.result in
     rw (← c.self.view_is, c.lacks_memory-self-inside.ensures)
     (done_to (over_scripts g.G.GlobalHandler.views) before (step_of c.args.id.now c.args.call) (reply_to c.args.call answer)

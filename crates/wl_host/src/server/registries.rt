@@ -1,0 +1,221 @@
+//! Registries that are handed out: the host tells them of globals, and of their removal exactly those that it told.
+
+ghost use Rattle.std.specs.Prelude.{[], ◌≡◌, ◌∷◌, ◌<◌, ◌==◌, ℕ, IfErr, IfOk, OnOk, Some, not, vec_capacity, vec_len};
+ghost use Rattle.std.specs.List.{filter};
+ghost use Rattle.wl_wire.specs.declared.argument.Argument.TheVariants as arg;
+ghost use Rattle.wl_wire.specs.Table.{name_of};
+ghost use Rattle.wl_host.specs.Calls.{world};
+ghost use Rattle.wl_host.specs.Descriptors.{Conserves};
+ghost use Rattle.wl_host.specs.Flat.{global_of, resource_of};
+ghost use Rattle.wl_host.specs.Registries.{Announces, IsGlobalEvent, KeepsThere, TellsRemoval, TellsRemovals, Withdraws, is_there, registries_told, without_global};
+ghost use Rattle.wl_host.specs.Server.{kept_by_server};
+ghost use Rattle.wl_server.specs.Backend.{Calls};
+ghost use Rattle.wl_server.specs.declared.runs.step.Reply.TheVariants as reply;
+ghost use Rattle.wl_server.specs.declared.runs.step.Step.TheVariants as step;
+ghost use Rattle.wl_host.specs.declared.status.Status.TheVariants as status;
+
+use crate::arguments::text_of;
+use crate::flat::{FlatGlobalId, FlatObjectId};
+use crate::server::{Core, Server};
+use crate::status::Status;
+use smallvec::SmallVec;
+use std::alloc::Global;
+use wl_server::{DisconnectReason, EventError, GlobalId, GlobalInfo, ObjectId};
+use wl_wire::opcodes::{GLOBAL, GLOBAL_REMOVE};
+use wl_wire::{Argument, CString, InterfaceId, Message, OutOfMemory, Token};
+
+/// A registry that was told of a global.
+#[derive(Clone, Copy, Debug, Drop)]
+pub struct Told {
+    /// The registry.
+    pub registry: ObjectId,
+    /// The global.
+    pub global: GlobalId,
+}
+
+/// Drops what is kept of registries that are not there any more.
+fn drop_gone(core: &Core, told: &mut Vec<Told>)
+    ensures { told.new.items ≡ filter (is_there core.now) told.old.items }
+{
+    told.retain(|one| core.object_info(&one.registry).is_ok());
+}
+
+/// Makes room for one more. If there is none, what is kept of registries that are not there is dropped first. Then at least as
+/// many more may come as are left, before it is looked for them again.
+fn make_room(core: &Core, told: &mut Vec<Told>) -> Result<(), OutOfMemory>
+    ensures kept { KeepsThere core.now told.old.items told.new.items }
+    ensures room { OnOk result (vec_len told.new < vec_capacity told.new) }
+{
+    if told.len() < told.capacity() {
+        return Ok(());
+    }
+    drop_gone(core, told);
+    told.reserve(told.len().saturating_add(1))?;
+    Ok(())
+}
+
+/// The name of the interface, for the wire.
+fn name_text(alloc: Global, core: &Core, interface: InterfaceId) -> Result<CString, Status>
+    ensures name { IfOk result (λ text. text ≡ name_of core.now.server.offer.table interface.0) }
+    ensures why { IfErr result (λ s. s ≡ status.OutOfMemory) }
+{
+    // No name of a table has a zero byte, so it is a string of the wire.
+    match text_of(alloc, core.protocol().name(interface).as_bytes()) {
+        Ok(text) => Ok(text),
+        Err(_) => Err(Status::OutOfMemory),
+    }
+}
+
+/// Puts `wl_registry.global` into the event: the registry is told of the global of that name.
+fn write_global(
+    core: &Core,
+    event: &mut Message<ObjectId, Token>,
+    registry: ObjectId,
+    name: u32,
+    info: &GlobalInfo,
+    alloc: Global,
+) -> Result<(), Status>
+    ensures event { OnOk result (IsGlobalEvent core.now.server.offer.table registry name info.now event.new) }
+    ensures why { IfErr result (λ s. s ≡ status.OutOfMemory) }
+{
+    let interface = name_text(alloc, core, info.interface)?;
+    let mut args = SmallVec::new(alloc);
+    args.push_reserved(Argument::Uint(name));
+    args.push_reserved(Argument::Str(Some(interface)));
+    args.push_reserved(Argument::Uint(info.version));
+    *event = Message {
+        sender_id: registry,
+        opcode: GLOBAL,
+        args,
+    };
+    Ok(())
+}
+
+/// `wl_registry.global_remove` of this name, of no registry yet.
+fn removal_event(alloc: Global, name: u32) -> Message<ObjectId, Token>
+    ensures opcode { result.opcode ≡ 1 }
+    ensures args { result.args.items ≡ arg.Uint name ∷ [] }
+{
+    let mut args = SmallVec::new(alloc);
+    args.push_reserved(Argument::Uint(name));
+    Message {
+        sender_id: ObjectId::null(),
+        opcode: GLOBAL_REMOVE,
+        args,
+    }
+}
+
+/// Tells the registry by the event, whose sender it becomes, that the name is that of no global any more. If there is no memory
+/// for that, its client is killed.
+fn tell_removal(core: &mut Core, event: &mut Message<ObjectId, Token>, registry: ObjectId)
+    requires opcode { event.old.opcode ≡ 1 }
+    ensures told { (name : ℕ) → event.old.args.items ≡ arg.Uint name ∷ [] → TellsRemoval name core.old registry core.new }
+    ensures opcode { event.new.opcode ≡ event.old.opcode }
+    ensures args { event.new.args ≡ event.old.args }
+{
+    event.sender_id = registry;
+    if let Err(EventError::OutOfMemory) = core.send_event_lent(event) {
+        core.kill_client(&registry.client(), DisconnectReason::ConnectionClosed);
+    }
+}
+
+/// Tells each registry that was told of the global that it is removed, by the event.
+fn tell_removals(
+    core: &mut Core,
+    event: &mut Message<ObjectId, Token>,
+    told: &[Told],
+    global: &GlobalId,
+)
+    requires opcode { event.old.opcode ≡ 1 }
+    requires args { event.old.args.items ≡ arg.Uint global.now.name ∷ [] }
+    ensures { TellsRemovals global.now.name core.old (registries_told global.now told.now) core.new }
+{
+    for one in told {
+        if one.global == *global {
+            tell_removal(core, event, one.registry);
+        }
+    }
+}
+
+/// Keeps no longer which registries were told of the global.
+fn forget_global(told: &mut Vec<Told>, global: &GlobalId)
+    ensures { told.new.items ≡ without_global global.now told.old.items }
+{
+    told.retain(|one| one.global != *global);
+}
+
+impl Server {
+    /// Hands out the registries that clients ask for, or no longer (`wl_server::Backend::hand_out_registries`): as long as
+    /// `hand_out` is not 0, `next_action` hands each one out, and the host tells it of globals, by `announce_global` and
+    /// `withdraw_global`. `finish_bind` ends the action.
+    pub fn hand_out_registries(&mut self, hand_out: u32) -> Status
+        ensures call { Calls world self.old.core (step.HandOutRegistries (not (hand_out == 0))) reply.HandOutRegistries self.new.core }
+        ensures beside { self.new ≡ record self.old { core = self.new.core } }
+        ensures descriptors { Conserves kept_by_server self.old [] [] self.new }
+        ensures status { result ≡ status.Ok }
+    {
+        self.core.hand_out_registries(hand_out != 0);
+        Status::Ok
+    }
+
+    /// Tells a registry that was handed out of the global, by `wl_registry.global`, and keeps that it was told. Whether the global
+    /// is disabled or the client may see it is not looked at.
+    ///
+    /// The status is `InvalidId` if the global or the registry is not there, and `OutOfMemory`. Then the registry was told of
+    /// nothing. For an object that is no registry it is that of `send_event`. If the client was killed, nothing is sent, and the
+    /// status is `Ok`.
+    pub fn announce_global(&mut self, registry: &FlatObjectId, global: &FlatGlobalId) -> Status
+        ensures call { Announces self.old (resource_of registry.now) (global_of global.now) result self.new }
+        ensures descriptors { Conserves kept_by_server self.old [] [] self.new }
+    {
+        let alloc = self.alloc();
+        let (registry, global) = (registry.resource(), global.id());
+        let info = match self.core.global_info(&global) {
+            Ok(info) => info,
+            Err(error) => return Status::from(error),
+        };
+        if make_room(&self.core, &mut self.told).is_err() {
+            return Status::OutOfMemory;
+        }
+        let name = global.name();
+        if let Err(status) = write_global(
+            &self.core,
+            &mut self.event,
+            registry,
+            name,
+            &info,
+            alloc,
+        ) {
+            return status;
+        }
+        let status = match self.core.send_event_lent(&self.event) {
+            Ok(()) => {
+                self.told.push_reserved(Told { registry, global });
+                Status::Ok
+            }
+            Err(error) => Status::from(error),
+        };
+        self.seats.list(registry.client().slot());
+        self.mark();
+        status
+    }
+
+    /// Tells each registry that was told of the global by `announce_global` that it is removed, by `wl_registry.global_remove`: as
+    /// often as it was told, and not if it was told of that since. No other registry is told. So a host calls it where it disables
+    /// or removes a global, or shows it to nobody any more.
+    ///
+    /// A client that cannot be told for want of memory is killed, as if its connection had ended. `memory_refused` says whether
+    /// memory ran out as the last of them was told.
+    pub fn withdraw_global(&mut self, global: &FlatGlobalId) -> Status
+        ensures call { Withdraws self.old (global_of global.now) self.new }
+        ensures descriptors { Conserves kept_by_server self.old [] [] self.new }
+        ensures status { result ≡ status.Ok }
+    {
+        let global = global.id();
+        let mut event = removal_event(self.alloc(), global.name());
+        tell_removals(&mut self.core, &mut event, self.told.as_slice(), &global);
+        forget_global(&mut self.told, &global);
+        self.tells_all();
+        Status::Ok
+    }
+}
