@@ -6,7 +6,7 @@ use Rattle.std.specs.Option.{option_map_or}
 use Rattle.wl_wire.specs.declared.argument.ArgumentType.{ArgumentType}
 use Rattle.wl_wire.specs.declared.argument.ArgumentType.TheVariants as kind
 use Rattle.wl_wire.specs.declared.interface.InterfaceId.{InterfaceId}
-use Rattle.wl_wire.specs.Inside.Cursor.{counted_at, text_of, word_at}
+use Rattle.wl_wire.specs.Pieces.{counted_at, text_of, word_at}
 use Rattle.wl_wire.specs.Table.{MessageRow, anonymous_id}
 use Rattle.wl_link.specs.declared.object.Object.{Object}
 use Rattle.wl_server.specs.declared.objects.Kept.{Kept}

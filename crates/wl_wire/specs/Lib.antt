@@ -2,6 +2,7 @@
 pub mod Text
 pub mod Argument
 pub mod Message
+pub mod Pieces
 pub mod Reading
 pub mod Parse
 pub mod Stream

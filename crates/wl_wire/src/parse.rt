@@ -13,7 +13,8 @@ ghost use Rattle.wl_wire.specs.Argument.{Matches};
 ghost use Rattle.wl_wire.specs.Message.{WireMessage, IsMessage, content, pad_len, spelling, tokens};
 ghost use Rattle.wl_wire.specs.Parse.{fd_count, IsInline, IsSmall, length_of, sender_of, opcode_of, ReadsMessage, RefusesMessage, IsWhole};
 ghost use Rattle.wl_wire.specs.Text.{HasNoZero};
-ghost use Rattle.wl_wire.specs.Inside.Cursor.{IsNumber, text_at, word_at, counted_at, text_of, argument_at, arguments_at, rests, with_front, with_one, ReadsAs, RefusesArguments, RefusesHeader};
+ghost use Rattle.wl_wire.specs.Inside.Cursor.{IsNumber, text_at, argument_at, arguments_at, rests, with_front, with_one, ReadsAs, RefusesArguments, RefusesHeader};
+ghost use Rattle.wl_wire.specs.Pieces.{word_at, counted_at, text_of};
 
 use crate::argument::{Argument, ArgumentType, Token};
 use crate::byte_array::ByteArray;
@@ -33,7 +34,7 @@ impl From<AllocError> for MessageParseError {
 }
 
 /// The word at the front, and the bytes after it. `None` if there are fewer than four bytes.
-#[tactic(auto, unfolding(crate::specs::Inside::Cursor::word_at))]
+#[tactic(auto, unfolding(crate::specs::Pieces::word_at))]
 fn read_word(payload: &[u8]) -> Option<(u32, &[u8])>
     ensures { option_map (λ x. (x.0, x.1.now)) result ≡ word_at payload.now }
 {
@@ -56,7 +57,7 @@ pub(crate) fn padding(len: usize) -> usize
 }
 
 /// The counted bytes at the front, and what follows their padding. `None` if they are not complete.
-#[tactic(auto, unfolding(crate::specs::Inside::Cursor::counted_at))]
+#[tactic(auto, unfolding(crate::specs::Pieces::counted_at))]
 fn read_counted(payload: &[u8]) -> Option<(&[u8], &[u8])>
     ensures { option_map (λ x. (x.0.now, x.1.now)) result ≡ counted_at payload.now }
 {
@@ -71,7 +72,7 @@ fn read_counted(payload: &[u8]) -> Option<(&[u8], &[u8])>
 
 /// The string in the counted bytes, without the zero that ends it. No bytes at all are null (`Some(None)`). The outer
 /// `None` says that the bytes are no string: the last one is not zero, or another one is.
-#[tactic(auto, unfolding(crate::specs::Inside::Cursor::text_of))]
+#[tactic(auto, unfolding(crate::specs::Pieces::text_of))]
 fn text_in(bytes: &[u8]) -> Option<Option<&[u8]>>
     ensures text { option_map (option_map (λ x. x.now)) result ≡ text_of bytes.now }
     ensures no_zero { IfSome result (λ text. IfSome text (λ bytes. HasNoZero bytes.now)) }

@@ -30,7 +30,8 @@ use Rattle.wl_server.specs.declared.reading.front_request.FrontRequest.{FrontReq
 use Rattle.wl_server.specs.Deeds.{Handed, Request}
 use Rattle.wl_server.specs.Ids.{ClientParts, IdParts}
 use Rattle.wl_server.specs.Inside.ReadingLoop.{Acts, HandlesMessage, IsFront, IsSenderOf, Live, counted, IsHandled, WentOn, MessageResult}
-use Rattle.wl_wire.specs.Inside.Cursor.{◌>>=◌, argument_at, counted_at, text_of}
+use Rattle.wl_wire.specs.Inside.Cursor.{argument_at}
+use Rattle.wl_wire.specs.Pieces.{◌>>=◌, counted_at, text_of}
 use Rattle.wl_wire.proofs.Spelling.CursorLaws.{IsRead, argument_reads}
 use Rattle.wl_server.specs.Inside.Conversion.{MakesObject}
 use Rattle.wl_server.specs.Inside.InPlace.{HandsOut, IsPut, front_of, fronts, word_front}

@@ -285,6 +285,7 @@ module _ (p : Part ℕ ℕ Bool) (open' : OpenAction) (out : Vec (ClientParts ×
     says_killed = ((λ mine. refl), ((λ mine. absurd (true≢false (sym mine))), tt));
     ends = ((out, 7, refl, ap (share_of client) handed), ((λ mine. refl), tt), refl);
     receives = refl;
+    violation = λ p q before after. absurd (true≢false (sym (ap is_some after)));
   }
 
   -- one that is still stored
@@ -300,6 +301,7 @@ module _ (p : Part ℕ ℕ Bool) (open' : OpenAction) (out : Vec (ClientParts ×
     says_killed = ((λ mine. refl), tt);
     ends = refl;
     receives = refl;
+    violation = λ p q before after. (cc);
   }
 
 -- another fault is no such answer, nor is a reading that used up a receive

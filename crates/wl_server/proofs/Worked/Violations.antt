@@ -1,6 +1,6 @@
 -- Worked malformed messages, computed from the definition: they say what was meant.
 use Rattle.std.proofs.Common.{◌≡◌, ℕ, [], ◌∷◌, Some, None, refl}
-use Rattle.wl_wire.specs.Inside.Cursor.{counted_at, text_of, word_at}
+use Rattle.wl_wire.specs.Pieces.{counted_at, text_of, word_at}
 use Rattle.wl_link.specs.declared.object.Object.{Object}
 use Rattle.wl_server.specs.declared.objects.Kept.{Kept}
 use Rattle.wl_server.specs.declared.reading.violation.MessageFault.TheVariants as fault
@@ -11,6 +11,7 @@ use Rattle.wl_server.proofs.Worked.Messages.{destroy_row, give_row, link_row, qu
 bad_headers : (unread_fault {U = ℕ} None None 8 [] ≡ fault.UnknownSender) × (unread_fault (Some quad) None 7 [] ≡ fault.UnknownOpcode)
     × (unread_fault (Some quad) (Some link_row) 7 [] ≡ fault.ShortHeader)
     × (unread_fault (Some quad) (Some link_row) 8 [] ≡ fault.MissingBytes 0)
+unfolding word_at
 bad_headers = (refl, refl, refl, refl)
 
 -- two objects: one word, or not even one

@@ -11,7 +11,7 @@ use Rattle.wl_wire.specs.MessageRows.{next_interface}
 use Rattle.wl_wire.specs.Parse.{IsWhole, fd_count, payload_of}
 use Rattle.wl_wire.specs.Reading.{Reads}
 use Rattle.wl_wire.specs.Table.{MessageRow, message_row}
-use Rattle.wl_wire.specs.Inside.Cursor.{◌>>=◌, counted_at, text_of}
+use Rattle.wl_wire.specs.Pieces.{◌>>=◌, counted_at, text_of}
 use Rattle.wl_link.specs.Identity.{Objects}
 use Rattle.wl_link.specs.Link.{LinkState}
 use Rattle.wl_link.specs.Store.{Store}

@@ -1,7 +1,7 @@
 //! How a client broke the protocol by a message, which is kept where it is killed for that.
 
 ghost use Rattle.std.specs.Prelude.{◌≡◌, ◌≤◌, MatchResult, Ok, Err, is_some, length, option_map};
-ghost use Rattle.wl_wire.specs.Inside.Cursor.{text_of};
+ghost use Rattle.wl_wire.specs.Pieces.{text_of};
 ghost use Rattle.wl_link.specs.Reader.{unreadable};
 ghost use Rattle.wl_wire.specs.Parse.{opcode_of, sender_of};
 ghost use Rattle.wl_link.specs.Store.{held};
@@ -55,7 +55,7 @@ pub struct Violation {
 }
 
 /// Whether the bytes are those of a string, or none at all.
-#[tactic(auto, unfolding(wl_wire::specs::Inside::Cursor::text_of))]
+#[tactic(auto, unfolding(wl_wire::specs::Pieces::text_of))]
 fn is_string(bytes: &[u8]) -> bool
     ensures { result ≡ is_some (text_of bytes.now) }
 {

@@ -1,7 +1,6 @@
--- Reading from left to right: what the functions inside the parser compute. `CursorLaws` joins it to `Reading`.
-use Rattle.std.specs.Prelude.{◌≡◌, ℕ, ◌+◌, ◌-◌, ◌<◌, ◌≤◌, ◌⊎◌, List, [], ◌∷◌, ◌++◌, length, take, drop, Option, Some, None, Bool, nat_lt, ◌==◌, ◌||◌, not, if◌then◌else◌, slice_index, Result, Ok, Err}
-use Rattle.std.specs.List.{list_any}
-use Rattle.std.specs.Int.{w32, from_le_bytes, cast_signed}
+-- Reading from left to right, whole arguments: what the functions inside the parser compute. `CursorLaws` joins it to `Reading`.
+use Rattle.std.specs.Prelude.{◌≡◌, ℕ, ◌+◌, ◌<◌, ◌≤◌, ◌⊎◌, List, [], ◌∷◌, ◌++◌, length, Option, Some, None, Result, Ok, Err}
+use Rattle.std.specs.Int.{w32, cast_signed}
 use Rattle.wl_wire.specs.declared.argument.ArgumentType.{ArgumentType}
 use Rattle.wl_wire.specs.declared.argument.ArgumentType.TheVariants as kind
 use Rattle.wl_wire.specs.declared.argument.Argument.TheVariants as arg
@@ -9,36 +8,9 @@ use Rattle.wl_wire.specs.declared.argument.Token.{Token}
 use Rattle.wl_wire.specs.declared.error.MessageParseError.{MessageParseError}
 use Rattle.wl_wire.specs.declared.error.MessageParseError.TheVariants as errors
 use Rattle.wl_wire.specs.Argument.{WireArgument}
-use Rattle.wl_wire.specs.Message.{pad_len}
 use Rattle.wl_wire.specs.Reading.{Reads}
 use Rattle.wl_wire.specs.Parse.{length_of, fd_count, DoesNotRead}
-
-infixl 10 ◌>>=◌
-abbrev pub ◌>>=◌ : {A B : Type 0} → Option A → (A → Option B) → Option B
-(Some x) >>= f = f x
-None >>= f = None
-
--- a word and what follows it
-unfoldable pub word_at : List ℕ → Option (ℕ × List ℕ)
-word_at bytes = if nat_lt (length bytes) 4 then None else Some (from_le_bytes w32 (take 4 bytes), drop 4 bytes)
-
--- counted bytes and what follows their padding
-unfoldable pub counted_at : List ℕ → Option (List ℕ × List ℕ)
-counted_at bytes = do
-  n ← word_at bytes
-  if nat_lt (length n.1) (n.0 + pad_len n.0) then None else Some (take n.0 n.1, drop (n.0 + pad_len n.0) n.1)
-
--- all but the last
-abbrev pub front : List ℕ → List ℕ
-front bytes = take (length bytes - 1) bytes
-
--- the last is no zero, or another one is
-abbrev pub is_no_text : List ℕ → Bool
-is_no_text bytes = not (slice_index bytes (length bytes - 1) == 0) || list_any (λ b. b == 0) (front bytes)
-
--- the string that the counted bytes are, or null
-unfoldable pub text_of : List ℕ → Option (Option (List ℕ))
-text_of bytes = if length bytes == 0 then Some None else if is_no_text bytes then None else Some (Some (front bytes))
+use Rattle.wl_wire.specs.Pieces.{◌>>=◌, counted_at, text_of, word_at}
 
 -- the string at the front, or null, and what follows it
 abbrev pub text_at : List ℕ → Option (Option (List ℕ) × List ℕ)

@@ -5,7 +5,7 @@ ghost use Rattle.std.specs.Prelude.{◌≡◌, ◌≤◌, ◌+◌, [], ◌∷◌
 ghost use Rattle.wl_wire.specs.declared.argument.Argument.TheVariants as argument;
 ghost use Rattle.wl_wire.specs.declared.argument.ArgumentType.TheVariants as kind;
 ghost use Rattle.wl_wire.specs.declared.argument.Token.{Token as WireToken};
-ghost use Rattle.wl_wire.specs.Inside.Cursor.{counted_at, text_of, word_at};
+ghost use Rattle.wl_wire.specs.Pieces.{counted_at, text_of, word_at};
 ghost use Rattle.wl_wire.specs.MessageRows.{next_interface};
 ghost use Rattle.wl_wire.specs.Table.{message_row};
 ghost use Rattle.wl_server.specs.Inside.Conversion.{MakesObject, objects_of};
@@ -32,7 +32,7 @@ use wl_wire::{
 type Front<'b> = (Argument<ObjectId, Token>, &'b [u8]);
 
 /// The word at the front, and the bytes after it. `None` if there are fewer than four bytes.
-#[tactic(auto, unfolding(wl_wire::specs::Inside::Cursor::word_at))]
+#[tactic(auto, unfolding(wl_wire::specs::Pieces::word_at))]
 pub fn read_word(bytes: &[u8]) -> Option<(u32, &[u8])>
     ensures { option_map (λ x. (x.0, x.1.now)) result ≡ word_at bytes.now }
 {
@@ -47,7 +47,7 @@ pub fn read_word(bytes: &[u8]) -> Option<(u32, &[u8])>
 }
 
 /// The counted bytes at the front, and what follows their padding. `None` if they are not complete.
-#[tactic(auto, unfolding(wl_wire::specs::Inside::Cursor::counted_at))]
+#[tactic(auto, unfolding(wl_wire::specs::Pieces::counted_at))]
 pub fn read_counted(bytes: &[u8]) -> Option<(&[u8], &[u8])>
     ensures { option_map (λ x. (x.0.now, x.1.now)) result ≡ counted_at bytes.now }
 {
@@ -62,7 +62,7 @@ pub fn read_counted(bytes: &[u8]) -> Option<(&[u8], &[u8])>
 
 /// A copy of the string in the counted bytes, without the zero that ends it. No bytes at all are null (`Some(None)`). The
 /// outer `None` says that the bytes are no string, or that there is no memory.
-#[tactic(auto, unfolding(wl_wire::specs::Inside::Cursor::text_of))]
+#[tactic(auto, unfolding(wl_wire::specs::Pieces::text_of))]
 fn copied_text(alloc: Global, bytes: &[u8]) -> Option<Option<CString>>
     ensures { IfSome result (λ text. text_of bytes.now ≡ Some text) }
 {

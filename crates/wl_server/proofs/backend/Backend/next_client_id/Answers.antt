@@ -13,3 +13,6 @@ returns-clause-given g c =
 
 pub returns-in_err-slot-clause-given : goal.returns-in_err-slot-clause-given
 returns-in_err-slot-clause-given g c = grind (arith, stored_at, client_is_as_told)
+
+pub returns-in_err-slot-clause-next : goal.returns-in_err-slot-clause-next
+returns-in_err-slot-clause-next g c = grind (arith, stored_at)

@@ -10,7 +10,12 @@ use Rattle.wl_server.proofs.notes.cleanup.memory_for.Goals as goal
 
 pub returns-then-count-eq0-clause-notes : goal.returns-then-count-eq0-clause-notes
 returns-then-count-eq0-clause-notes g c =
-    grind (arith, none_of, length, collected, given_at, vec_len, vec_capacity, count_leaving, ends_at, none_ends)
+    let none : c.count_work-work.result.gathered ≡ 0 = omega (arith, c.saturating_add-count.ensures, c.if-count-eq0.true) in
+    let none_left : c.count_work-work.result.leaving ≡ 0 = omega (arith, c.saturating_add-count.ensures, c.if-count-eq0.true) in
+    let notes = none_of c.count_work-work.result.gathered (count_leaving true c.args.clients.now) none c.count_work-work.ensures.gathered in
+    let given = none_of c.count_work-work.result.leaving (length (collected given_at 0 c.args.clients.now)) none_left c.count_work-work.ensures.leaving in
+    let ends = none_ends 0 c.args.clients.now given in
+    grind (arith, vec_len, vec_capacity)
 
 pub returns-then-count-eq0-clause-given : goal.returns-then-count-eq0-clause-given
 returns-then-count-eq0-clause-given g c = grind (arith, none_of, length, collected, given_at, vec_capacity)

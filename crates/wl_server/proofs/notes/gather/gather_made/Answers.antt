@@ -15,6 +15,9 @@ order_of-requires-clause-quiet g c = rw c.deref-2.ensures.value (rw c.deref.ensu
 pub gather-requires-clause-room : goal.gather-requires-clause-room
 gather-requires-clause-room g c = grind (arith, count_leaving, room_of, vec_len, vec_capacity)
 
+pub returns-then-count-eq0-clause-quiet : goal.returns-then-count-eq0-clause-quiet
+returns-then-count-eq0-clause-quiet g c = rw c.deref.ensures.value at c.count_notes-count.ensures.quiet
+
 pub returns-then-count-eq0-clause-ended : goal.returns-then-count-eq0-clause-ended
 returns-then-count-eq0-clause-ended g c = grind (arith, count_leaving, none_leaving, none_of)
 

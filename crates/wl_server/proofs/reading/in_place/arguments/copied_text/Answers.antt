@@ -4,7 +4,7 @@ use Rattle.std.specs.Prelude.{◌==◌}
 use Rattle.std.proofs.lemmas.Bool.{eqb-true, false_from_ne_true}
 use Rattle.std.proofs.lemmas.Grind.{common_steps}
 use Rattle.std.proofs.lemmas.Map.Views.{Contains-from_any}
-use Rattle.wl_wire.specs.Inside.Cursor.{text_of}
+use Rattle.wl_wire.specs.Pieces.{text_of}
 use Rattle.wl_server.proofs.reading.in_place.arguments.copied_text.Goals as goal
 
 no_zero : (bytes : List ℕ) → (Contains bytes 0 → false ≡ true) → list_any (λ b. b == 0) bytes ≡ false
