@@ -120,7 +120,7 @@ impl<T: Drop, U: Drop, G: Drop, C: Drop> Backend<T, U, G, C> {
     /// allocates no memory.
     ///
     /// It is `None` if the client was killed for another reason: by a call of the program, by a fault of its transport, or as
-    /// a write to it failed. It is `None`, too, if the client is live or not stored. libwayland has no such call: it writes a
+    /// a write to it failed that was not the error of the message. It is `None`, too, if the client is live or not stored. libwayland has no such call: it writes a
     /// line to its log, and sends the client `wl_display.error`.
     pub fn violation(&self, id: &ClientId) -> Option<Violation>
         ensures { result ≡ violation_of self.now.server id.now }

@@ -60,10 +60,14 @@ fn message_fault(log: &mut String, fault: MessageFault) -> Result<(), Fail> {
         MessageFault::ShortHeader => writeln!(log, "short header")?,
         MessageFault::MissingBytes(place) => writeln!(log, "argument {place} is cut")?,
         MessageFault::UnendedString(place) => writeln!(log, "argument {place} is no string")?,
-        MessageFault::SinceLater(version, since) => {
+        MessageFault::SinceLater { version, since } => {
             writeln!(log, "version {version}, since {since}")?
         }
-        MessageFault::RefusedBind(global, version, has_name) => writeln!(
+        MessageFault::RefusedBind {
+            global,
+            version,
+            has_name,
+        } => writeln!(
             log,
             "bind of {global}, version {version}, named: {has_name}"
         )?,

@@ -123,13 +123,17 @@ fn with_fault(violation: FlatViolation, fault: MessageFault) -> FlatViolation
             argument: count_number(place),
             ..violation
         },
-        MessageFault::SinceLater(version, since) => FlatViolation {
+        MessageFault::SinceLater { version, since } => FlatViolation {
             kind: violation::SINCE_LATER,
             wanted: since,
             found: version,
             ..violation
         },
-        MessageFault::RefusedBind(global, version, has_name) => FlatViolation {
+        MessageFault::RefusedBind {
+            global,
+            version,
+            has_name,
+        } => FlatViolation {
             kind: if has_name {
                 violation::REFUSED_BIND
             } else {

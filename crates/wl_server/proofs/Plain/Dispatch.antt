@@ -132,17 +132,17 @@ module _ {T U C : Type 0} where
   EndedBy fault.OutOfMemory found = Unit {0}
   EndedBy _ found = IsGone found
 
-module _ {T U C : Type 0} (table : List InterfaceRow) (id : ClientParts) (s t : Seen T U C) where
-  read_blocked : ReadAs table id (Err (Io fault.WouldBlock)) s t → IsIdle t.part
+module _ {T U C : Type 0} (table : List InterfaceRow) (hands : Bool) (id : ClientParts) (s t : Seen T U C) where
+  read_blocked : ReadAs table hands id (Err (Io fault.WouldBlock)) s t → IsIdle t.part
   read_blocked (inl (none, is, same)) = grind (arith)
   read_blocked (inr (p, was, inl (some, is, same))) = grind (arith)
   read_blocked (inr (p, was, inr (inl (idle, dead, is, same)))) = grind (arith)
   read_blocked (inr (p, was, inr (inr (idle, live, (q, (closed, (lives, is))))))) = (q, ap (λ (x : Seen T U C). x.part) is, lives, closed)
 
-  read_gone : (f : IoFault) → (f ≡ fault.WouldBlock → ⊥) → (f ≡ fault.OutOfMemory → ⊥) → ReadAs table id (Err (Io f)) s t → IsGone t.part
+  read_gone : (f : IoFault) → (f ≡ fault.WouldBlock → ⊥) → (f ≡ fault.OutOfMemory → ⊥) → ReadAs table hands id (Err (Io f)) s t → IsGone t.part
   read_gone f h1 h2 h = grind (arith, f)
 
-  ended_by : (error : ActionError) → ReadAs table id (Err error) s t → EndedBy (fault_of_reading error) t.part
+  ended_by : (error : ActionError) → ReadAs table hands id (Err error) s t → EndedBy (fault_of_reading error) t.part
   ended_by ActionOpen h = tt
   ended_by (Io fault.WouldBlock) h = read_blocked h
   ended_by (Io fault.OutOfMemory) h = tt
@@ -159,11 +159,11 @@ module _ {T U C : Type 0} where
   stands_shut : (found : Option (Part T U C)) → Stands found → Shut found
   stands_shut found h = grind (arith)
 
-module _ {T U C : Type 0} (table : List InterfaceRow) (id : ClientParts) (s t : Seen T U C) where
-  read_shut : (error : ActionError) → ReadAs table id (Err error) s t → fault_of_reading error ≡ fault.InvalidInput → Shut t.part
+module _ {T U C : Type 0} (table : List InterfaceRow) (hands : Bool) (id : ClientParts) (s t : Seen T U C) where
+  read_shut : (error : ActionError) → ReadAs table hands id (Err error) s t → fault_of_reading error ≡ fault.InvalidInput → Shut t.part
   read_shut error h is = grind (arith, error)
 
-  read_stands : (h : Handed) → ReadAs table id (Ok h) s t → Stands t.part
+  read_stands : (h : Handed) → ReadAs table hands id (Ok h) s t → Stands t.part
   read_stands h (inl (none, is, same)) = absurd cc
   read_stands h (inr (p, was, inl (some, is, same))) = absurd cc
   read_stands h (inr (p, was, inr (inl (idle, dead, is, same)))) = absurd cc
@@ -214,7 +214,7 @@ module _ {H T U G C : Type 0} (w : World T G C) (answers : Answering H T U G C) 
   last_leaves : {h h' : H} {r r' : Reading} {s s' : ServerState T U G C} {run : List (Entry T U G C)} {lacked : Bool} {f : IoFault}
       → Last w answers id h r s run lacked f h' r' s' → EndedBy f (seen id s').part
   last_leaves {r = r} {r' = r'} {s = s} {s' = s'} (no_action e error by is run_is lacked_is f_is same) =
-      rw f_is (ended_by s.offer.table id (seen id s) (seen id s') error (read_of w id by r r' (Err error) is).client)
+      rw f_is (ended_by s.offer.table s.offer.hands_registries id (seen id s) (seen id s') error (read_of w id by r r' (Err error) is).client)
   last_leaves {s' = s'} (not_ended why round f_is) = rw f_is (grind (arith, (seen id s').part))
 
   -- ---- an action whose end is refused
@@ -234,9 +234,9 @@ module _ {H T U G C : Type 0} (w : World T G C) (answers : Answering H T U G C) 
   last_shut : {h h' : H} {r r' : Reading} {s s' : ServerState T U G C} {run : List (Entry T U G C)} {lacked : Bool} {f : IoFault}
       → Last w answers id h r s run lacked f h' r' s' → id.serial ≤ s.last_client → f ≡ fault.InvalidInput → Shut (seen id s').part
   last_shut {r = r} {r' = r'} {s = s} {s' = s'} (no_action e error by run_is call_is lacked_is f_is same) born so =
-      read_shut s.offer.table id (seen id s) (seen id s') error (read_of w id by r r' (Err error) run_is).client (sym f_is ∙ so)
+      read_shut s.offer.table s.offer.hands_registries id (seen id s) (seen id s') error (read_of w id by r r' (Err error) run_is).client (sym f_is ∙ so)
   last_shut {r = r} {r' = r'} {s = s} {s' = s'} (not_ended why round f_is) born so =
-      let stands = read_stands s.offer.table id (seen id s) (seen id round.found.server) _
+      let stands = read_stands s.offer.table s.offer.hands_registries id (seen id s) (seen id round.found.server) _
       (read_of w id round.reads r r' (Ok round.handed) round.read_is).client in
       stands_shut (seen id s').part
       (subst Stands (sym (end_stays why is_not round.handles))

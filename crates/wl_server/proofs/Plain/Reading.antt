@@ -186,20 +186,20 @@ module _ {T U G C : Type 0} (sends : T → Queue → Result ℕ IoFault → T �
 
   handed_out : (h : Handed) (start : ReaderState T (Core U C)) (turns : List Turn) (end : ReaderState T (Core U C))
       → ComesOfLast sends receives a h start turns end
-      → IsHandedOut a.table a.client h (part_of end)
+      → IsHandedOut a.table a.hands_registries a.client h (part_of end)
   handed_out (Request sender opcode args is_destructor created) start turns end (earlier, es, before, split, led, (m, link, read, its)) =
       grind (arith, held, id_at, request_row)
   handed_out (Bind global object) start turns end
       (earlier, es, before, split, led, (m, link, read, (x, interface, version, kept, held_before, registry, args, there, named', may, of, of_interface, free, holds, open'))) = grind (arith, fresh_object)
   handed_out (Registry object) start turns end
       (earlier, es, before, split, led, (m, link, read, (x, held_before, display, hands, later, args, of, of_interface, free, holds, open'))) =
-      (of, of_interface, holds, open')
+      (hands, of, of_interface, holds, open')
 
   open_as : (start : ReaderState T (Core U C)) (turns : List Turn) (answer : Result Handed ActionError) (lacked : Bool) (left : ℕ)
       (end : ReaderState T (Core U C)) (s t : Seen T U C)
       → ReadingEnds sends receives a start turns answer lacked left end
       → t ≡ record { part = Some (part_of end); made = s.made ++ notes_in (end_deeds {U = U} end.core.ended) }
-      → OpenReadAs a.table a.client answer s (part_of end) t
+      → OpenReadAs a.table a.hands_registries a.client answer s (part_of end) t
   open_as start turns answer lacked left end s t ends is = grind (arith, handed_out, notes_in, end_deeds, append-nil, true≢false, answer)
 
 -- ---- the call
@@ -214,7 +214,7 @@ module _ {T U G C : Type 0} (w : World T G C) (before after : BackendState T U G
       ((action_content answer ≡ Err (Io fault.InvalidInput)) × (left ≡ r))
 
   module _ (one : IsReading) where
-    pub reads_as : ReadAs before.server.offer.table id (action_content answer) (seen id before.server) (seen id after.server)
+    pub reads_as : ReadAs before.server.offer.table before.server.offer.hands_registries id (action_content answer) (seen id before.server) (seen id after.server)
     reads_as =
         elim one.own [
           | not_stored none (says, l) calm same ↦ inl (none, says, same)

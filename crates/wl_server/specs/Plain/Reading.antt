@@ -1,7 +1,7 @@
 -- What a program finds of a client after a reading: what is handed out, and whether the client lives.
 --
 -- A contract that cites `ReadsClient` or `ReadsWithin` has another clause beside it, `call`, from which it follows.
-use Rattle.std.specs.Prelude.{◌≡◌, ◌⊎◌, ◌≤◌, ℕ, min, List, ◌∷◌, [], ◌++◌, true, false, Option, None, Some, IsSome, is_some, Result, Ok, Err}
+use Rattle.std.specs.Prelude.{◌≡◌, ◌⊎◌, ◌≤◌, ℕ, min, Bool, List, ◌∷◌, [], ◌++◌, true, false, Option, None, Some, IsSome, is_some, Result, Ok, Err}
 use Rattle.wl_wire.specs.declared.error.IoFault.{IoFault}
 use Rattle.wl_wire.specs.declared.error.IoFault.TheVariants as fault
 use Rattle.wl_wire.specs.MessageRows.{request_row}
@@ -25,11 +25,12 @@ use Rattle.wl_server.specs.Reading.{action_content}
 use Rattle.wl_server.specs.ReadingEnds.{MakesItsObject, ObjectsFit}
 use Rattle.wl_server.specs.Server.{Seen, seen}
 
-module _ {T U C : Type 0} (table : List InterfaceRow) (id : ClientParts) where
+module _ {T U C : Type 0} (table : List InterfaceRow) (hands_registries : Bool) (id : ClientParts) where
   -- A request: its sender is a kept object of the client, and the table has the request for the interface of that object. Each
   -- object argument is null, where the table allows that, or a kept object of an interface that fits. A request that makes an
   -- object has its id among its arguments, as a new id, and no other has one; the object has no data yet. A bind: its object is
-  -- new, and has no data yet. A registry: it is a new object, of the first version, and has no data yet. Each is open from now on.
+  -- new, and has no data yet. A registry: registries are handed out, and it is a new object, of the first version, that has no data
+  -- yet. Each is open from now on.
   abbrev pub IsHandedOut : Handed → Part T U C → Type 0
   IsHandedOut (Request sender opcode args is_destructor created) p =
       (x : Object (Kept U)) × (row : MessageRow) × (held p.store sender.number ≡ Some x) × (sender ≡ id_at id sender.number x)
@@ -41,8 +42,8 @@ module _ {T U C : Type 0} (table : List InterfaceRow) (id : ClientParts) where
       (version : ℕ) × (object.client ≡ id) × (held p.store object.number ≡ Some (fresh_object object.interface version object.serial None))
       × (p.action ≡ Some (opened.Bind object))
   IsHandedOut (Registry object) p =
-      (object.client ≡ id) × (object.interface ≡ registry_id) × (held p.store object.number ≡ Some (fresh_object registry_id 1 object.serial None))
-      × (p.action ≡ Some (opened.Bind object))
+      (hands_registries ≡ true) × (object.client ≡ id) × (object.interface ≡ registry_id)
+      × (held p.store object.number ≡ Some (fresh_object registry_id 1 object.serial None)) × (p.action ≡ Some (opened.Bind object))
 
   -- it lives on, and nothing is noted of it
   abbrev pub LivesOn : Seen T U C → Part T U C → Seen T U C → Type 0
@@ -92,7 +93,8 @@ module _ {T U G C : Type 0} where
   -- A reading: what it answers and leaves of its client. Each id but those that it made names what it named, and the other
   -- clients are as before.
   pub record ReadsClient (before : BackendState T U G C) (id : ClientParts) (answer : Result Action ActionError) (after : BackendState T U G C) : Type 0 where
-    pub client : ReadAs before.server.offer.table id (action_content answer) (seen id before.server) (seen id after.server)
+    pub client : ReadAs before.server.offer.table before.server.offer.hands_registries id (action_content answer)
+        (seen id before.server) (seen id after.server)
     pub objects : (other : IdParts) → IsOld (client_in before other.client) other → object_in after other ≡ object_in before other
     pub clients : OtherClientsStay before id after
     pub stored : (other : ClientParts) → is_some (client_in after other) ≡ is_some (client_in before other)

@@ -103,7 +103,8 @@ fn tell_named<T: Transport + Drop, U: Drop, G: GlobalHandler<C> + Drop, C: Drop>
 }
 
 impl<T: Transport + Drop, U: Drop, G: GlobalHandler<C> + Drop, C: Drop> Backend<T, U, G, C> {
-    /// Creates a global, and announces it by `wl_registry.global` to the registries of each live client that may see it.
+    /// Creates a global, and announces it by `wl_registry.global` to the registries of each live client that may see it. A registry
+    /// that was handed out (`hand_out_registries`) is told of nothing.
     ///
     /// It stands for `wayland_backend::server::Handle::create_global`. The global gets the least name that no other
     /// global has; while names are kept (`keep_global_names`), the least that was never in use. `version` is the greatest

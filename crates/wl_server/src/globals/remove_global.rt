@@ -75,7 +75,7 @@ fn tell_loss<T: Transport + Drop, U: Drop, C: Drop>(
 
 impl<T: Transport + Drop, U: Drop, G: GlobalHandler<C> + Drop, C: Drop> Backend<T, U, G, C> {
     /// Disables the global: it is no longer announced, and each registry of each live client is told by
-    /// `wl_registry.global_remove`.
+    /// `wl_registry.global_remove`, but those that were handed out (`hand_out_registries`).
     ///
     /// It stands for `wayland_backend::server::Handle::disable_global`. A registry is told whether or not it was told of
     /// the global before. The server keeps the global, and clients may still bind it. If the server does not have the

@@ -75,11 +75,16 @@ impl Breach<'_, '_> {
                 MessageFault::WrongArgument(*place, RequestFault::InvalidNewId(*number))
             }
             Breach::RefusedBind(global, version, interface) => {
-                MessageFault::RefusedBind(*global, *version, interface.is_some())
+                MessageFault::RefusedBind {
+                    global: *global,
+                    version: *version,
+                    has_name: interface.is_some(),
+                }
             }
-            Breach::SinceLater(_, version, since, _, _) => MessageFault::SinceLater(
-                *version, *since,
-            ),
+            Breach::SinceLater(_, version, since, _, _) => MessageFault::SinceLater {
+                version: *version,
+                since: *since,
+            },
             Breach::TooManyObjects(limit) => MessageFault::TooManyObjects(*limit),
             Breach::WrongArgument(_, _, place, fault) => MessageFault::WrongArgument(
                 *place, *fault,

@@ -17,7 +17,8 @@ use wl_wire::{ANONYMOUS_INTERFACE, ArgumentType, InterfaceId, Protocol, message_
 
 /// What was wrong with a message for which a client was killed. The arguments count from 0.
 ///
-/// A *malformed* message ends the client without a word. For each other one an error was posted on the client's display.
+/// A *malformed* message ends the client without a word. For each other one an error is posted on the client's display, if there is
+/// memory and room for it.
 #[derive(Clone, Copy, Debug)]
 pub enum MessageFault {
     /// Malformed: no object had the number in the header. libwayland says `invalid object`.
@@ -30,11 +31,22 @@ pub enum MessageFault {
     MissingBytes(usize),
     /// Malformed: the bytes of this argument, which is a string, had no zero at their end, or another zero.
     UnendedString(usize),
-    /// The object's version, and the least version that has the request.
-    SinceLater(u32, u32),
-    /// The client could not bind the global of this name in this version. Also says whether the interface had a name: its name
-    /// was not null.
-    RefusedBind(u32, u32, bool),
+    /// The request needs a higher version than its object has.
+    SinceLater {
+        /// The object's version.
+        version: u32,
+        /// The least version that has the request.
+        since: u32,
+    },
+    /// The client could not bind a global.
+    RefusedBind {
+        /// The name of the global that it asked for.
+        global: u32,
+        /// The version that it asked for.
+        version: u32,
+        /// Whether it named an interface: the name was not null.
+        has_name: bool,
+    },
     /// It would have made an object at a number above this limit (`Backend::set_object_limit`).
     TooManyObjects(u32),
     /// What was wrong with this argument, which was read.
