@@ -1,8 +1,8 @@
 -- Registries that are handed out: what is kept of them is what they are to be told of.
-use Rattle.std.proofs.Common.{◌≡◌, ◌⊎◌, ◌∙◌, ℕ, Bool, true, false, not, List, [], ◌∷◌, ◌++◌, map, Option, None, Some, is_some, Result, Ok, Err, refl, sym, ap, subst, true≢false, arith}
+use Rattle.std.proofs.Common.{◌≡◌, ◌≢◌, ◌⊎◌, ◌∙◌, ℕ, Bool, true, false, not, List, [], ◌∷◌, ◌++◌, map, Option, None, Some, is_some, Result, Ok, Err, refl, sym, ap, subst, true≢false, arith}
 use mathlib.Core.Bool.{cond}
 use mathlib.Core.Logic.{inl, inr}
-use Rattle.std.specs.List.{filter}
+use Rattle.std.specs.List.{filter, list_any}
 use Rattle.std.proofs.lemmas.List.Elements.{filter-append}
 use Rattle.wl_link.proofs.Calls.Branches.{either_option}
 use Rattle.wl_server.specs.declared.error.EventError.{EventError}
@@ -11,7 +11,7 @@ use Rattle.wl_server.specs.Ids.{GlobalParts, IdParts}
 use Rattle.wl_server.specs.Lookups.{object_info_of}
 use Rattle.wl_server.specs.Plain.{same_object}
 use Rattle.wl_host.specs.Calls.{CoreState, status_by}
-use Rattle.wl_host.specs.Registries.{AllTell, Announced, Announces, Called, IsThereMeanwhile, KeepsOutstanding, KeepsThere, Neither, Tells, TellsRemoval, TellsRemovals, Withdrawn, is_of, is_there, is_to, kept_after, outstanding, outstanding_after, registries_told, told_with, without_global}
+use Rattle.wl_host.specs.Registries.{AllTell, Announced, Announces, Called, IsThereMeanwhile, KeepsOutstanding, KeepsThere, Neither, Tells, TellsRemoval, TellsRemovals, Withdrawn, Withdraws, is_of, is_there, is_to, kept_after, outstanding, outstanding_after, registries_told, said_with, told_with, without_global}
 use Rattle.wl_host.specs.Server.{ServerState}
 use Rattle.wl_host.specs.Status.{of_event}
 use Rattle.wl_host.specs.declared.server.registries.Told.{Told}
@@ -34,6 +34,11 @@ module _ {A : Type 0} (p q : A → Bool) where
   filtered_among : (xs : List A) (x : A) → IsAmong (filter p xs) x → IsAmong xs x
   filtered_among [] x among = among
   filtered_among (y ∷ xs) x among = grind (arith, filter, p y, filtered_among xs x)
+
+  -- if it takes none, the others are all
+  none_taken : (xs : List A) → list_any p xs ≡ false → filter (λ x. not (p x)) xs ≡ xs
+  none_taken [] none = refl
+  none_taken (x ∷ xs) none = grind (arith, filter, list_any, p x, true≢false, none_taken xs)
 
   -- the filter of a smaller list is smaller
   filter_smaller : (xs ys : List A) → ((x : A) → IsAmong xs x → IsAmong ys x) → (x : A) → IsAmong (filter p xs) x → IsAmong (filter p ys) x
@@ -66,16 +71,17 @@ module _ {A : Type 0} where
 -- ---- the removals
 
 -- the registries that are told are those of the list, each in its turn
-module _ (name : ℕ) (global : GlobalParts) (before after : CoreState) (t : Told) (rest : List Told) where
+module _ (name : ℕ) (global : GlobalParts) (before after : CoreState) (t : Told) (rest : List Told) (so_far s : Status) where
   abbrev told_where : Bool → Type 0
-  told_where told = TellsRemovals name before (map (λ t. t.registry) (cond told (t ∷ filter (is_of global) rest) (filter (is_of global) rest))) after
+  told_where told = TellsRemovals name before (map (λ t. t.registry) (cond told (t ∷ filter (is_of global) rest) (filter (is_of global) rest))) so_far s after
 
-  pub first_told : (mid : CoreState) → is_of global t ≡ true → TellsRemoval name before t.registry mid
-      → TellsRemovals name mid (registries_told global rest) after → TellsRemovals name before (registries_told global (t ∷ rest)) after
-  first_told mid is told more = subst told_where (sym is) (mid, told, more)
+  pub first_told : (answer : Result (Unit {0}) EventError) (mid : CoreState) → is_of global t ≡ true → TellsRemoval name before t.registry answer mid
+      → TellsRemovals name mid (registries_told global rest) (said_with so_far answer) s after
+      → TellsRemovals name before (registries_told global (t ∷ rest)) so_far s after
+  first_told answer mid is told more = subst told_where (sym is) (answer, mid, told, more)
 
-  pub first_passed : is_of global t ≡ false → TellsRemovals name before (registries_told global rest) after
-      → TellsRemovals name before (registries_told global (t ∷ rest)) after
+  pub first_passed : is_of global t ≡ false → TellsRemovals name before (registries_told global rest) so_far s after
+      → TellsRemovals name before (registries_told global (t ∷ rest)) so_far s after
   first_passed is more = subst told_where (sym is) more
 
 -- ---- what is kept
@@ -107,6 +113,31 @@ announced before registry global after by =
         → told_with kept (record { registry = registry; global = global }) answer ≡ kept ++ record { registry = registry; global = global } ∷ []
     with_ok kept answer is = grind (arith, answer)
 
+-- what is kept after a removal is without the global
+withdrawn : (before : ServerState) (global : GlobalParts) (s : Status) (after : ServerState) → Withdraws before global s after
+    → after.told ≡ without_global global before.told
+withdrawn before global s after by =
+    elim by [
+      | inl (none, is, same) ↦ ap (λ (s : ServerState). s.told) same ∙ sym (none_taken (is_of global) (is_of global) before.told none)
+      | inr (some, tells, same) ↦ ap (λ (s : ServerState). s.told) same
+    ]
+
+-- an announcement that was refused leaves what was kept
+pub refused_keeps : (before : ServerState) (registry : IdParts) (global : GlobalParts) (s : Status) (after : ServerState) → Announces before registry global s after
+    → s ≢ status.Ok → KeepsThere before.core before.told after.told
+refused_keeps before registry global s after by failed =
+    elim (either_option _ by) [
+      | inl (none, (is, same)) ↦ inl (ap (λ (s : ServerState). s.told) same)
+      | inr (info, there, (kept, keeps, inl (is, same))) ↦ rw (ap (λ (s : ServerState). s.told) same) keeps
+      | inr (info, there, (kept, keeps, inr (event, answer, tells, calls, is, same))) ↦
+          rw (ap (λ (s : ServerState). s.told) same) (with_err kept answer is keeps)
+    ]
+  where
+    with_err : (kept : List Told) (answer : Result (Unit {0}) EventError) → s ≡ status_by of_event answer → KeepsThere before.core before.told kept
+        → KeepsThere before.core before.told (told_with kept (record { registry = registry; global = global }) answer)
+    with_err kept (Ok u) is keeps = absurd (failed is)
+    with_err kept (Err e) is keeps = keeps
+
 module _ (registry : IdParts) where
   abbrev of_it : List Told → List Told
   of_it told = filter (is_to registry) told
@@ -125,7 +156,7 @@ module _ (registry : IdParts) where
           (there_stays before.core registry before.told kept there keeps ∙ same)
           ∙ sym (filter-append (is_to registry) told _)
       go (Withdrawn g) by =
-          ap (λ (s : ServerState). of_it s.told) by.1 ∙ filters_swap (is_to registry) (λ t. not (is_of g t)) before.told
+          ap of_it (withdrawn before g by.0 c.after by.1) ∙ filters_swap (is_to registry) (λ t. not (is_of g t)) before.told
           ∙ ap (without_global g) same ∙ sym (filters_swap (is_to registry) (λ t. not (is_of g t)) told)
       go Neither by = there_stays before.core registry before.told c.after.told there by ∙ same
 
@@ -147,7 +178,7 @@ call_smaller before c told by smaller = go c.call by
         let (kept, keeps, is) = announced before r g c.after by in
         rw is (one_more kept told (record { registry = r; global = g }) (λ t among. smaller t (there_smaller before.core before.told kept keeps t among)))
     go (Withdrawn g) by =
-        rw (ap (λ (s : ServerState). s.told) by.1)
+        rw (withdrawn before g by.0 c.after by.1)
         (filter_smaller (λ t. not (is_of g t)) (λ t. not (is_of g t)) before.told told smaller)
     go Neither by = λ t among. smaller t (there_smaller before.core before.told c.after.told by t among)
 

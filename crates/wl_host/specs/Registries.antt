@@ -1,7 +1,7 @@
 -- Registries that are handed out: the host tells them of globals. It is kept which of them was told of which global, and of the
 -- removal of a global exactly those are told.
-use Rattle.std.specs.Prelude.{◌≡◌, ◌⊎◌, ℕ, List, [], ◌∷◌, ◌++◌, map, Bool, true, not, ◌==◌, ◌&&◌, Some, is_some, Result, Ok, Err, MatchOption}
-use Rattle.std.specs.List.{filter}
+use Rattle.std.specs.Prelude.{◌≡◌, ◌⊎◌, ℕ, List, [], ◌∷◌, ◌++◌, map, Bool, true, false, not, ◌==◌, ◌&&◌, Some, is_some, Result, Ok, Err, MatchOption}
+use Rattle.std.specs.List.{filter, list_any}
 use Rattle.wl_wire.specs.declared.argument.Argument.TheVariants as arg
 use Rattle.wl_wire.specs.declared.argument.Token.{Token}
 use Rattle.wl_wire.specs.declared.message.Message.{Message}
@@ -91,23 +91,33 @@ KillsUntold id (Err event_error.OutOfMemory) before after =
     Calls world before (step.KillClient id reason.ConnectionClosed) reply.KillClient after
 KillsUntold id _ before after = after ≡ before
 
-abbrev pub TellsRemoval : ℕ → CoreState → IdParts → CoreState → Type 0
-TellsRemoval name before registry after =
-    (event : Message IdParts Token) × (answer : Result (Unit {0}) EventError) × (mid : CoreState)
+-- one registry is told, with this answer of the core
+abbrev pub TellsRemoval : ℕ → CoreState → IdParts → Result (Unit {0}) EventError → CoreState → Type 0
+TellsRemoval name before registry answer after =
+    (event : Message IdParts Token) × (mid : CoreState)
     × IsRemovalEvent registry name event × Calls world before (step.SendEvent event) (reply.SendEvent answer) mid
     × KillsUntold registry.client answer mid after
 
--- these registries are told, one after another, and the core is asked for nothing else
-abbrev pub TellsRemovals : ℕ → CoreState → List IdParts → CoreState → Type 0
-TellsRemovals name before [] after = after ≡ before
-TellsRemovals name before (registry ∷ registries) after =
-    (mid : CoreState) × TellsRemoval name before registry mid × TellsRemovals name mid registries after
+-- the status so far, and of one more answer: memory ran out if it did for one registry
+abbrev pub said_with : Status → Result (Unit {0}) EventError → Status
+said_with s (Err event_error.OutOfMemory) = status.OutOfMemory
+said_with s _ = s
 
--- exactly the registries that were told of the global are told of its removal, and it is no longer kept of any that it was
-abbrev pub Withdraws : ServerState → GlobalParts → ServerState → Type 0
-Withdraws before global after =
-    TellsRemovals global.name before.core (registries_told global before.told) after.core
-    × (after ≡ record (told_all before after.core) { told = without_global global before.told })
+-- These registries are told, one after another, and the core is asked for nothing else. Of those before them the status is `so_far`.
+abbrev pub TellsRemovals : ℕ → CoreState → List IdParts → Status → Status → CoreState → Type 0
+TellsRemovals name before [] so_far s after = (s ≡ so_far) × (after ≡ before)
+TellsRemovals name before (registry ∷ registries) so_far s after =
+    (answer : Result (Unit {0}) EventError) × (mid : CoreState) × TellsRemoval name before registry answer mid
+    × TellsRemovals name mid registries (said_with so_far answer) s after
+
+-- Exactly the registries that were told of the global are told of its removal, and it is no longer kept of any that it was. If none
+-- was told, nothing is changed.
+abbrev pub Withdraws : ServerState → GlobalParts → Status → ServerState → Type 0
+Withdraws before global s after =
+    ((list_any (is_of global) before.told ≡ false) × (s ≡ status.Ok) × (after ≡ before))
+    ⊎ ((list_any (is_of global) before.told ≡ true)
+    × TellsRemovals global.name before.core (registries_told global before.told) status.Ok s after.core
+    × (after ≡ record (told_all before after.core) { told = without_global global before.told }))
 
 -- ---- over calls
 
@@ -126,7 +136,7 @@ pub record Called : Type 0 where
 -- a call leads from one state of the session to another; one that does neither drops nothing that is kept of a registry that is there
 abbrev pub Tells : ServerState → Telling → ServerState → Type 0
 Tells before (Announced registry global) after = Announces before registry global status.Ok after
-Tells before (Withdrawn global) after = Withdraws before global after
+Tells before (Withdrawn global) after = (s : Status) × Withdraws before global s after
 Tells before Neither after = KeepsThere before.core before.told after.told
 
 -- the calls lead on from this state, one after another

@@ -1,11 +1,11 @@
 //! What follows from the definitions alone. Each function has a law as its contract, and does nothing.
 
-ghost use Rattle.std.specs.Prelude.{◌≡◌, ◌<◌, ◌^◌, ℕ, ℤ, Bool, Err, List, Ok, Option, Result, Some, length, true};
+ghost use Rattle.std.specs.Prelude.{◌≡◌, ◌≢◌, ◌<◌, ◌^◌, ℕ, ℤ, Bool, Err, List, Ok, Option, Result, Some, length, true};
 ghost use Rattle.std.specs.List.{AllByRecursion};
 ghost use Rattle.wl_client.specs.ObjectId.{IdParts as ProxyParts};
 ghost use Rattle.wl_link.specs.declared.mailbox.Ending.{Ending};
 ghost use Rattle.wl_server.specs.Backend.{Calls};
-ghost use Rattle.wl_server.specs.Ids.{ClientParts, IdParts};
+ghost use Rattle.wl_server.specs.Ids.{ClientParts, GlobalParts, IdParts};
 ghost use Rattle.wl_server.specs.declared.runs.step.Reply.TheVariants as reply;
 ghost use Rattle.wl_server.specs.declared.runs.step.Step.TheVariants as step;
 ghost use Rattle.wl_wire.specs.declared.argument.Argument.{Argument};
@@ -28,7 +28,7 @@ ghost use Rattle.wl_host.specs.Flat.{flat_proxy, flat_resource, proxy_of, resour
 ghost use Rattle.wl_host.specs.Killed.{IsSettled, KnowsEnd, StaysSettled};
 ghost use Rattle.wl_host.specs.Notes.{NextNote};
 ghost use Rattle.wl_host.specs.Nulls.{TellsNull, forbidden_null};
-ghost use Rattle.wl_host.specs.Registries.{AllTell, Called, KeepsOutstanding};
+ghost use Rattle.wl_host.specs.Registries.{AllTell, Announces, Called, KeepsOutstanding, Neither, Tells};
 ghost use Rattle.wl_host.specs.Rows.{said_by};
 ghost use Rattle.wl_host.specs.Server.{Ends, NextWritable, Received, Sent, ServerState};
 ghost use Rattle.wl_host.specs.Tables.{AddsInterfaces, ExtendsClient, ExtendsInterfaces, IsNewServer};
@@ -131,9 +131,20 @@ pub fn a_cleanup_looks_for_the_killed()
 /// A registry that was handed out is told of the removal of exactly those globals that it was told of.
 ///
 /// `withdraw_global` tells the registries of which it is kept that they were told of the global, and no others. Whatever is called
-/// between: it is kept only of registries that were told of it (`announce_global`), and not of its removal since; and of a registry
-/// that is there all the while it is kept as often, and in the order, as it was told of globals. What is of a registry that
-/// is gone may be kept no longer.
+/// between: it is kept only of registries of which `announce_global` answered `Ok`, and which were not told of the removal since; and
+/// of a registry that is there all the while it is kept as often, and in the order, as that was answered. After `Ok` the registry was
+/// told, or its client had been killed. What is of a registry that is gone may be kept no longer.
+///
+/// An announcement that was refused, and each call that leaves `told` as it was (`beside`), is one that does neither: so are
+/// the calls that are named, and by `beside` those whose clauses name all that they change.
 pub fn a_registry_is_told_of_the_removal_of_what_it_was_told_of()
-    ensures { (before : ServerState) (run : List Called) → AllTell before run → KeepsOutstanding before run }
+    ensures outstanding { (before : ServerState) (run : List Called) → AllTell before run → KeepsOutstanding before run }
+    ensures refused { (before after : ServerState) (registry : IdParts) (global : GlobalParts) (s : Status) → Announces before registry global s after → s ≢ status.Ok → Tells before Neither after }
+    ensures received { (before after : ServerState) (id : ClientParts) (bytes : List ℕ) (descriptors : List ℤ) (s : Status) → Received before id bytes descriptors s after → Tells before Neither after }
+    ensures next_action { (before after : ServerState) (id : ClientParts) (arguments : List FlatArgument) (bytes : List ℕ) (s : Status) (lent : Lent) (came_out : List ℤ) → NextAction before id arguments bytes s lent came_out after → Tells before Neither after }
+    ensures finish_request { (before after : ServerState) (id : ClientParts) (user_data : Option ℕ) (result : Result Bool Status) → EndsRequest before id user_data result after → Tells before Neither after }
+    ensures finish_bind { (before after : ServerState) (id : ClientParts) (user_data : ℕ) (result : Result Bool Status) → EndsBind before id user_data result after → Tells before Neither after }
+    ensures send_event { (before after : ServerState) (passed : Passed) (s : Status) → SendsEvent before passed s after → Tells before Neither after }
+    ensures cleanup { (before after : ServerState) (s : Status) → CleansUp before s after → Tells before Neither after }
+    ensures beside { (before after : ServerState) → after.told ≡ before.told → Tells before Neither after }
 {}

@@ -1,12 +1,12 @@
 //! Registries that are handed out: the host tells them of globals, and of the removal of those that it told.
 
 use crate::tests::acts::{Act, FIRST, SECOND};
-use crate::tests::args::id;
+use crate::tests::args::{arg, id};
 use crate::tests::chosen::Choice;
 use crate::tests::server::{BIND_FIRST, REGISTRY};
-use crate::tests::session::{Entry, Run, run_tells};
+use crate::tests::session::{End, Entry, Run, run_tells};
 use std::test::Fail;
-use wl_host::{FlatClientId, FlatGlobalId, FlatObjectId, Server, Status};
+use wl_host::{FlatArgument, FlatClientId, FlatGlobalId, FlatObjectId, Server, Status};
 
 /// One call of a server's session about these.
 pub enum Telling {
@@ -256,16 +256,62 @@ static RUNS: [Run<Act>; 6] = [
     },
 ];
 
+/// The `note` that is made for the first client.
+const NOTE: FlatObjectId = id!(FIRST, 5 @ 0xff000000, serial 2);
+
+/// The arguments of `note.said` with an array of 4036 bytes, so that the event takes 4064.
+const LONG_SAID: &[FlatArgument] = &[
+    arg!(string: 0, 3),
+    arg!(array: 3, 4036),
+    arg!(fixed: 384),
+    arg!(fd: 99),
+    arg!(uint: 7),
+];
+
+/// A registry is told of a global, and with an event after that 4088 bytes wait for the client.
+static FULL: Run<Act> = Run {
+    name: "a removal in want",
+    first: HANDED_OUT,
+    entries: &[
+        (Act::FinishBind(FIRST, 33), "Ok kept true"),
+        (Act::AddNote, "Ok"),
+        (Act::Create(FIRST, 5, 44), "Ok 5@4278190080"),
+        (Act::Tell(Telling::Announce(FIRST_REGISTRY, ONE)), "Ok"),
+        (Act::Send(NOTE, 0, LONG_SAID, &[120; 4039]), "Ok"),
+    ],
+};
+
+/// The removal takes 12 bytes, so the buffer of 4096 grows. If there is no memory for that, the host hears of it, and the client is
+/// killed as if its connection had ended.
+static REMOVAL_END: End<Act> = End {
+    acts: &[
+        Act::Tell(Telling::Withdraw(ONE)),
+        Act::Cleanup,
+        Act::Note,
+        Act::Note,
+    ],
+    told: "Ok
+Ok
+Ok kind 1 client 0:1
+WouldBlock
+",
+    refused: "Ok
+Ok
+Ok kind 1 client 0:1
+Ok kind 2 client 0:1
+",
+};
+
 /// Each of them tells what it has to.
 #[test]
 fn rows(rt: HostRuntime) -> Result<(), Fail> {
     for run in &RUNS {
         run_tells::<Server>(&rt, run, None, false)?;
     }
-    Ok(())
+    run_tells::<Server>(&rt, &FULL, Some(&REMOVAL_END), false)
 }
 
-/// A registry that is told of two globals, and of their removal.
+/// A registry that is told of two globals, and of the removal of one.
 static DRILL: Run<Act> = Run {
     name: "a registry in want",
     first: HANDED_OUT,
@@ -279,11 +325,24 @@ static DRILL: Run<Act> = Run {
             "Ok [ 02 00 00 00 00 00 18 00 01 00 00 00 04 00 00 00 70 61 64 00 02 00 00 00 \
              02 00 00 00 00 00 18 00 02 00 00 00 04 00 00 00 70 61 64 00 02 00 00 00 ] [ ]",
         ),
+        (Act::Sent(FIRST, 48), "Ok"),
+        (Act::Tell(Telling::Withdraw(ONE)), "Ok"),
+        (Act::Writable, "Ok client 0:1"),
+        (
+            Act::ToSend(FIRST),
+            "Ok [ 02 00 00 00 01 00 0c 00 01 00 00 00 ] [ ]",
+        ),
     ],
 };
 
-/// Whatever memory is refused, the registry is told of each global once.
+/// Whatever memory is refused, the registry is told of each global once, and of the removal.
 #[test]
 fn drill_of_a_registry(rt: HostRuntime) -> Result<(), Fail> {
     run_tells::<Server>(&rt, &DRILL, None, true)
+}
+
+/// Whatever memory is refused, the registry is told of the removal, or its client is killed.
+#[test]
+fn drill_of_a_removal(rt: HostRuntime) -> Result<(), Fail> {
+    run_tells::<Server>(&rt, &FULL, Some(&REMOVAL_END), true)
 }

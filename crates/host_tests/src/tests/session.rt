@@ -3,8 +3,9 @@
 //! One function owns the session, and lends it to those that do the acts.
 //!
 //! A run can be a drill, which judges itself whichever allocation is refused. A call that is refused memory says so, and changes
-//! nothing: the same call again, for which there is memory now, and all after it tell the same as with ample memory. If the test
-//! itself asked for that memory, it ends with the want, and nothing is judged. `./refusal-drill` refuses each allocation in turn.
+//! nothing: the same call again, for which there is memory now, and all after it tell the same as with ample memory. What else may
+//! come of a want is the end of a run. If the test itself asked for that memory, it ends with the want, and nothing is judged.
+//! `./refusal-drill` refuses each allocation in turn.
 
 use std::alloc::Global;
 use std::test::Fail;
@@ -39,7 +40,8 @@ pub struct Run<A: 'static> {
     pub entries: &'static [Entry<A>],
 }
 
-/// The end of a run whose last entry may find no memory, and cannot say so.
+/// The end of a run. Its last entry may find no memory, and cannot say so; or the first of these acts, which says so, but did its
+/// work all the same.
 pub struct End<A: 'static> {
     /// The acts.
     pub acts: &'static [A],
@@ -68,6 +70,15 @@ fn begun<S: Session>(alloc: Global, again: bool) -> Result<S, Fail> {
     }
 }
 
+/// What an act answered.
+#[derive(Drop)]
+struct Answer {
+    /// Its status.
+    status: Status,
+    /// Whether it was refused memory, and done once more.
+    was_refused: bool,
+}
+
 /// Does the act, and tells what came of it except the status, which it returns. If it was refused memory, it may be done once
 /// more.
 fn done<S: Session>(
@@ -75,26 +86,35 @@ fn done<S: Session>(
     session: &mut S,
     act: &S::Act,
     again: bool,
-) -> Result<Status, Fail> {
+) -> Result<Answer, Fail> {
     let status = session.act(text, act)?;
-    if !again || status != Status::OutOfMemory {
-        return Ok(status);
+    let was_refused = again && status == Status::OutOfMemory;
+    if !was_refused {
+        return Ok(Answer {
+            status,
+            was_refused,
+        });
     }
     text.clear();
-    session.act(text, act)
+    let status = session.act(text, act)?;
+    Ok(Answer {
+        status,
+        was_refused,
+    })
 }
 
-/// Does the act, and answers its status and what it tells.
-fn line<S: Session>(
-    alloc: Global,
+/// Does the act, and writes its status and what it tells into the line. Returns whether it was refused memory.
+fn tell<S: Session>(
+    line: &mut String,
     session: &mut S,
     act: &S::Act,
     again: bool,
-) -> Result<String, Fail> {
-    let mut text = String::new(alloc);
-    let status = done(&mut text, session, act, again)?;
-    let text = text.as_str();
-    Ok(format!(in alloc; "{status:?}{text}")?)
+) -> Result<bool, Fail> {
+    let mut text = String::new(*line.allocator());
+    let answer = done(&mut text, session, act, again)?;
+    let (status, text) = (answer.status, text.as_str());
+    write!(line, "{status:?}{text}")?;
+    Ok(answer.was_refused)
 }
 
 /// Does the acts of the entries, and fails if one tells anything else.
@@ -106,25 +126,26 @@ fn play<S: Session>(
     again: bool,
 ) -> Result<(), Fail> {
     for (act, text) in entries {
-        let told = line(rt.alloc(), session, act, again)?;
-        row_tells(rt, name, Ok(told), text)?;
+        let mut line = String::new(rt.alloc());
+        tell(&mut line, session, act, again)?;
+        row_tells(rt, name, Ok(line), text)?;
     }
     Ok(())
 }
 
-/// Does the acts, and tells each in a line.
+/// Does the acts, and tells each in a line. Returns whether one of them was refused memory.
 fn tell_lines<S: Session>(
     log: &mut String,
     session: &mut S,
     acts: &[S::Act],
     again: bool,
-) -> Result<(), Fail> {
+) -> Result<bool, Fail> {
+    let mut was_refused = false;
     for act in acts {
-        let line = line(*log.allocator(), session, act, again)?;
-        let line = line.as_str();
-        writeln!(log, "{line}")?;
+        was_refused |= tell(log, session, act, again)?;
+        writeln!(log)?;
     }
-    Ok(())
+    Ok(was_refused)
 }
 
 /// Does what comes last, and fails if it tells anything else. Where memory was refused there are two things that it may tell.
@@ -135,9 +156,9 @@ fn play_end<S: Session>(
     end: &End<S::Act>,
     again: bool,
 ) -> Result<(), Fail> {
-    let was_refused = session.was_refused();
+    let mut was_refused = session.was_refused();
     let mut log = String::new(rt.alloc());
-    tell_lines(&mut log, session, end.acts, again)?;
+    was_refused |= tell_lines(&mut log, session, end.acts, again)?;
     let text = if was_refused && log.as_str() == end.refused {
         end.refused
     } else {

@@ -67,9 +67,8 @@ pub extern "C" fn nb_server_withdraw_global(
 ) -> u32
     ensures none { place.old.kept.held ≡ None → (result ≡ 1) × (place.new.kept.held ≡ None) }
     ensures stays { IsSome place.old.kept.held → IsSome place.new.kept.held }
-    ensures call { Did place.old.kept.held result place.new.kept.held (λ s status t. Withdraws s (global_of global.now) t) }
+    ensures call { Did place.old.kept.held result place.new.kept.held (λ s status t. Withdraws s (global_of global.now) status t) }
     ensures descriptors { Did place.old.kept.held result place.new.kept.held (λ s status t. Conserves kept_by_server s [] [] t) }
-    ensures status { IsSome place.old.kept.held → result ≡ 0 }
 {
     let Some(mut session) = place.take(alloc) else {
         return Status::NoSession.code();

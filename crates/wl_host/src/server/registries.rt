@@ -1,13 +1,13 @@
 //! Registries that are handed out: the host tells them of globals, and of their removal exactly those that it told.
 
 ghost use Rattle.std.specs.Prelude.{[], ◌≡◌, ◌∷◌, ◌<◌, ◌==◌, ℕ, IfErr, IfOk, OnOk, Some, not, vec_capacity, vec_len};
-ghost use Rattle.std.specs.List.{filter};
+ghost use Rattle.std.specs.List.{filter, list_any};
 ghost use Rattle.wl_wire.specs.declared.argument.Argument.TheVariants as arg;
 ghost use Rattle.wl_wire.specs.Table.{name_of};
 ghost use Rattle.wl_host.specs.Calls.{world};
 ghost use Rattle.wl_host.specs.Descriptors.{Conserves};
 ghost use Rattle.wl_host.specs.Flat.{global_of, resource_of};
-ghost use Rattle.wl_host.specs.Registries.{Announces, IsGlobalEvent, KeepsThere, TellsRemoval, TellsRemovals, Withdraws, is_there, registries_told, without_global};
+ghost use Rattle.wl_host.specs.Registries.{Announces, IsGlobalEvent, KeepsThere, TellsRemoval, TellsRemovals, Withdraws, is_of, is_there, registries_told, said_with, without_global};
 ghost use Rattle.wl_host.specs.Server.{kept_by_server};
 ghost use Rattle.wl_server.specs.Backend.{Calls};
 ghost use Rattle.wl_server.specs.declared.runs.step.Reply.TheVariants as reply;
@@ -79,15 +79,14 @@ fn write_global(
     ensures why { IfErr result (λ s. s ≡ status.OutOfMemory) }
 {
     let interface = name_text(alloc, core, info.interface)?;
-    let mut args = SmallVec::new(alloc);
-    args.push_reserved(Argument::Uint(name));
-    args.push_reserved(Argument::Str(Some(interface)));
-    args.push_reserved(Argument::Uint(info.version));
-    *event = Message {
-        sender_id: registry,
-        opcode: GLOBAL,
-        args,
-    };
+    event.sender_id = registry;
+    event.opcode = GLOBAL;
+    event.args.clear();
+    // It is at least four, as that of each such list: so there is room for three.
+    let _capacity = event.args.capacity();
+    event.args.push_reserved(Argument::Uint(name));
+    event.args.push_reserved(Argument::Str(Some(interface)));
+    event.args.push_reserved(Argument::Uint(info.version));
     Ok(())
 }
 
@@ -106,35 +105,62 @@ fn removal_event(alloc: Global, name: u32) -> Message<ObjectId, Token>
 }
 
 /// Tells the registry by the event, whose sender it becomes, that the name is that of no global any more. If there is no memory
-/// for that, its client is killed.
-fn tell_removal(core: &mut Core, event: &mut Message<ObjectId, Token>, registry: ObjectId)
+/// for that, its client is killed. Returns what the core answered.
+fn tell_removal(
+    core: &mut Core,
+    event: &mut Message<ObjectId, Token>,
+    registry: ObjectId,
+) -> Result<(), EventError>
     requires opcode { event.old.opcode ≡ 1 }
-    ensures told { (name : ℕ) → event.old.args.items ≡ arg.Uint name ∷ [] → TellsRemoval name core.old registry core.new }
+    ensures told { (name : ℕ) → event.old.args.items ≡ arg.Uint name ∷ [] → TellsRemoval name core.old registry result core.new }
     ensures opcode { event.new.opcode ≡ event.old.opcode }
     ensures args { event.new.args ≡ event.old.args }
 {
     event.sender_id = registry;
-    if let Err(EventError::OutOfMemory) = core.send_event_lent(event) {
+    let answer = core.send_event_lent(event);
+    if let Err(EventError::OutOfMemory) = answer {
         core.kill_client(&registry.client(), DisconnectReason::ConnectionClosed);
+    }
+    answer
+}
+
+/// The status so far, and of one more registry, which was told with this answer.
+fn said_with(so_far: Status, answer: Result<(), EventError>) -> Status
+    ensures { result ≡ said_with so_far answer }
+{
+    match answer {
+        Err(EventError::OutOfMemory) => Status::OutOfMemory,
+        _ => so_far,
     }
 }
 
-/// Tells each registry that was told of the global that it is removed, by the event.
+/// Tells each registry that was told of the global that it is removed, by the event. The status is `OutOfMemory` if there was no
+/// memory for one of them, and else `Ok`.
 fn tell_removals(
     core: &mut Core,
     event: &mut Message<ObjectId, Token>,
     told: &[Told],
     global: &GlobalId,
-)
+) -> Status
     requires opcode { event.old.opcode ≡ 1 }
     requires args { event.old.args.items ≡ arg.Uint global.now.name ∷ [] }
-    ensures { TellsRemovals global.now.name core.old (registries_told global.now told.now) core.new }
+    ensures { TellsRemovals global.now.name core.old (registries_told global.now told.now) status.Ok result core.new }
 {
+    let mut status = Status::Ok;
     for one in told {
         if one.global == *global {
-            tell_removal(core, event, one.registry);
+            let answer = tell_removal(core, event, one.registry);
+            status = said_with(status, answer);
         }
     }
+    status
+}
+
+/// Whether a registry was told of the global.
+fn any_told(told: &[Told], global: &GlobalId) -> bool
+    ensures { result ≡ list_any (is_of global.now) told.now }
+{
+    told.iter().any(|one| one.global == *global)
 }
 
 /// Keeps no longer which registries were told of the global.
@@ -204,18 +230,20 @@ impl Server {
     /// often as it was told, and not if it was told of that since. No other registry is told. So a host calls it where it disables
     /// or removes a global, or shows it to nobody any more.
     ///
-    /// A client that cannot be told for want of memory is killed, as if its connection had ended. `memory_refused` says whether
-    /// memory ran out as the last of them was told.
+    /// A client that cannot be told for want of memory is killed, as if its connection had ended, and the others are told all the
+    /// same. The status is `OutOfMemory` then, and else `Ok`.
     pub fn withdraw_global(&mut self, global: &FlatGlobalId) -> Status
-        ensures call { Withdraws self.old (global_of global.now) self.new }
+        ensures call { Withdraws self.old (global_of global.now) result self.new }
         ensures descriptors { Conserves kept_by_server self.old [] [] self.new }
-        ensures status { result ≡ status.Ok }
     {
         let global = global.id();
+        if !any_told(self.told.as_slice(), &global) {
+            return Status::Ok;
+        }
         let mut event = removal_event(self.alloc(), global.name());
-        tell_removals(&mut self.core, &mut event, self.told.as_slice(), &global);
+        let status = tell_removals(&mut self.core, &mut event, self.told.as_slice(), &global);
         forget_global(&mut self.told, &global);
         self.tells_all();
-        Status::Ok
+        status
     }
 }

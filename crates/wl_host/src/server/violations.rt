@@ -98,7 +98,7 @@ fn with_wrong(violation: FlatViolation, place: usize, fault: RequestFault) -> Fl
     }
 }
 
-/// The same without an argument, and without what stands in `wanted` and `found`.
+/// The same with this kind.
 fn of_kind(violation: FlatViolation, kind: u32) -> FlatViolation
     ensures { result ≡ record violation { kind = kind } }
 {
