@@ -374,8 +374,8 @@ enum { NB_REQUEST = 1, NB_BIND = 2, NB_REGISTRY = 3 };
 
 /* What a client asks of the server: 120 bytes. It is open until it is finished. */
 typedef struct {
-    uint32_t kind;           /* NB_REQUEST; NB_BIND: an object was bound to a global; or NB_REGISTRY: a registry was made, which
-                                the host tells of globals (only after nb_server_hand_out_registries) */
+    uint32_t kind;           /* NB_REQUEST; NB_BIND: an object was bound to a global; or NB_REGISTRY: a registry was made,
+                                which the host tells of globals (only after nb_server_hand_out_registries) */
     uint32_t opcode;         /* of a request; its index among the requests of the sender's interface */
     uint32_t arguments;      /* of a request: how many */
     uint32_t is_destructor;  /* of a request: whether finishing it ends its sender (0 or 1) */
@@ -461,7 +461,7 @@ typedef struct {
 } nb_note;
 
 /* What was wrong with a message for which a client was killed. The first five are malformed messages, which end the
- * client without a word; for the others wl_display.error was sent. */
+ * client without a word; for the others wl_display.error is sent, if there is memory and room for it. */
 enum {
     NB_VIOLATION_UNKNOWN_SENDER = 1,   /* no object had the number */
     NB_VIOLATION_UNKNOWN_OPCODE = 2,   /* the interface has no such request */
@@ -470,7 +470,7 @@ enum {
     NB_VIOLATION_UNENDED_STRING = 5,   /* the argument, a string, had no zero at its end, or another zero */
     NB_VIOLATION_SINCE_LATER = 6,      /* the request is there since the version `wanted`, the object has `found` */
     NB_VIOLATION_REFUSED_BIND = 7,     /* the global `number` could not be bound in the version `wanted` */
-    NB_VIOLATION_NULL_NAME = 8,        /* the same; the name of the interface was null */
+    NB_VIOLATION_NULL_NAME = 8,        /* such a bind, in which the name of the interface was null */
     NB_VIOLATION_INVALID_NEW_ID = 9,   /* the client could not make an object `number` */
     NB_VIOLATION_UNKNOWN_ID = 10,      /* there was no object `number` */
     NB_VIOLATION_WRONG_INTERFACE = 11, /* the object `number` was of the interface `found`, not `wanted` */
@@ -478,13 +478,13 @@ enum {
     NB_VIOLATION_TOO_MANY_OBJECTS = 13 /* an object at a number above the limit of objects, which is `wanted` */
 };
 
-/* How a client broke the protocol by a message: 32 bytes. What a kind does not name is 0. */
+/* How a client broke the protocol by a message: 32 bytes. Of the last three what a kind does not name is 0. */
 typedef struct {
     uint32_t kind;      /* one of those above */
     uint32_t sender;    /* the number of the object that the message was sent to */
     uint32_t interface; /* of that object; 0 if no object had the number */
     uint32_t opcode;
-    uint32_t argument; /* its place, from 0 */
+    uint32_t argument; /* of the kinds 4, 5 and 9 to 12: its place, from 0. Else 0 */
     uint32_t number, wanted, found;
 } nb_violation;
 
@@ -571,7 +571,8 @@ nb_status nb_server_merge_interfaces(nb_server *place, const uint8_t *text, size
  * next_dropped; and any other that answers from what the host keeps, or answers NB_OUT_OF_MEMORY for its own copies.
  * After nb_server_next_action refused a request for a null (nb_server_refuse_nulls), this says only whether malloc
  * refused as the request was finished, and not whether it did as the client was told; after a cleanup that dropped notes
- * (nb_server_keep_notes), only whether it did as these were taken. */
+ * (nb_server_keep_notes), only whether it did as these were taken. It says nothing of nb_server_withdraw_global, whose
+ * status does. */
 nb_status nb_server_memory_refused(nb_server *place, uint32_t *is_refused);
 
 /* Sets whether requests with a null that the table forbids are refused: they are if `is_on` is not 0. At first they are
@@ -805,11 +806,12 @@ nb_status nb_server_next_client_id(nb_server *place, nb_client_id *client);
  * its data ready before clients hear of it. Statuses: NB_FULL. */
 nb_status nb_server_next_global_id(nb_server *place, nb_global_id *global);
 
-/* Creates a global, and announces it to each client that sees it, now and later. Those are the clients that have a bit
- * of `groups` in common with it, unless one of the two lists the other as hidden: `hidden` are the clients that do not
- * see this global (nb_server_insert_client). A global whose `groups` is 0 is hidden from everybody. The list is copied;
- * it may have any order, and ids that name nothing. `version` is the greatest that clients may bind. A client that
- * cannot be told is killed. nb_offer, below, is shorter.
+/* Creates a global, and announces it to each client that sees it, now and later, by each of its registries that was not
+ * handed out (nb_server_hand_out_registries). Those are the clients that have a bit of `groups` in common with it,
+ * unless one of the two lists the other as hidden: `hidden` are the clients that do not see this global
+ * (nb_server_insert_client). A global whose `groups` is 0 is hidden from everybody. The list is copied; it may have any
+ * order, and ids that name nothing. `version` is the greatest that clients may bind. A client that cannot be told is
+ * killed. nb_offer, below, is shorter.
  *
  * Statuses: NB_OUT_OF_MEMORY (for a copy of the list); NB_UNKNOWN_INTERFACE; NB_VERSION_TOO_HIGH; NB_FULL (no name or
  * no serial is left); NB_OUT_OF_MEMORY. */
@@ -817,14 +819,14 @@ nb_status nb_server_create_global(nb_server *place, uint32_t interface, uint32_t
                                   uint64_t groups, const nb_client_id *hidden, size_t hidden_count,
                                   nb_global_id *global);
 
-/* Announces a global no more, and tells all registries that it is gone, also those of clients that do not see it.
- * Clients that see it may still bind it, since a bind may be on its way. An unknown global is no error: nothing is
- * done. */
+/* Announces a global no more, and tells each registry that was not handed out that it is gone, also those of clients
+ * that do not see it. Clients that see it may still bind it, since a bind may be on its way. An unknown global is no
+ * error: nothing is done. */
 nb_status nb_server_disable_global(nb_server *place, const nb_global_id *global);
 
-/* Removes a global: its name is free for another, unless names are kept. If it was not disabled, registries are told
- * first. Disable it, and remove it some seconds later, so that no client breaks the protocol by a bind that was on its
- * way. An unknown global is no error: nothing is done. */
+/* Removes a global: its name is free for another, unless names are kept. If it was not disabled, those registries are
+ * told first. Disable it, and remove it some seconds later, so that no client breaks the protocol by a bind that was on
+ * its way. An unknown global is no error: nothing is done. */
 nb_status nb_server_remove_global(nb_server *place, const nb_global_id *global);
 
 /* Keeps the names of globals as long as `keep` is not 0: a new global gets only a name that was never in use, and a bind of
@@ -856,15 +858,20 @@ nb_status nb_server_global_name(nb_server *place, const nb_global_id *global, co
 nb_status nb_server_hand_out_registries(nb_server *place, uint32_t hand_out);
 
 /* Tells a registry that was handed out of a global (wl_registry.global), and keeps that it was. It is not looked at whether
- * the global is disabled, or whether the client sees it. To a client that was killed nothing is sent.
+ * the global is disabled, or whether the client sees it. To a client that was killed nothing is sent, and one for whose
+ * buffer the event is too long is killed: the answer is NB_OK.
  *
  * Statuses: NB_INVALID_ID (of the global); NB_OUT_OF_MEMORY; then those of nb_server_send_event: NB_INVALID_ID (of the
- * registry); NB_UNKNOWN_OPCODE or NB_BAD_SIGNATURE (it is no registry); NB_OUT_OF_MEMORY. Then nothing was told. */
+ * registry); NB_OUT_OF_MEMORY; and for an object that is no registry what it answers of such an event. Then nothing was
+ * told. */
 nb_status nb_server_announce_global(nb_server *place, const nb_object_id *registry, const nb_global_id *global);
 
 /* Tells each registry that was told of the global by nb_server_announce_global that it is gone (wl_registry.global_remove),
  * and no other: as often as it was told of it, and not if it was told of that already. Call it where you disable or
- * remove the global. A client that cannot be told is killed. */
+ * remove the global. A client that cannot be told is killed.
+ *
+ * Statuses: NB_OUT_OF_MEMORY (a client was killed since there was no memory to tell it. The others were told: do not call
+ * again). */
 nb_status nb_server_withdraw_global(nb_server *place, const nb_global_id *global);
 
 /* ======== A server's session: sending, and the end of a round */

@@ -1,5 +1,6 @@
-/* Requests and binds as calls of the program's functions, and registries. It touches the session's open action, which it finishes before
- * it calls the program: an object that the request has made has no data then, and gets them by wl_resource_create. */
+/* Requests and binds as calls of the program's functions, and registries. It touches the session's open action, which it
+ * finishes before it calls the program: an object that the request has made has no data then, and gets them by
+ * wl_resource_create. */
 #include "server.h"
 #include "call.h"
 #include "signature.h"

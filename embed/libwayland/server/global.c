@@ -38,7 +38,8 @@ void registry_begin(struct wl_client *client, const nb_object_id *object)
         return;
     }
     wl_signal_emit_mutable(&client->resource_created_signal, registry);
-    if (resource_at(client, object->number) != registry)
+    /* Another resource at the number may have the memory of this one. */
+    if (resource_at(client, object->number) != registry || !nb_same_object(&registry->core, object))
         return;
     wl_list_insert(&client->display->registries, &registry->link);
     registry->is_told = true;

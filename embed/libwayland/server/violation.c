@@ -5,15 +5,10 @@
 /* The request, as the program declares it; NULL if it is not known. */
 static const struct wl_message *request_of(struct wl_client *client, const nb_violation *violation)
 {
-    const struct wl_interface *interface = NULL;
+    const struct wl_resource *resource = resource_at(client, violation->sender);
+    const struct wl_interface *interface = resource ? resource->object.interface : NULL;
     if (violation->interface == NB_INTERFACE_DISPLAY)
         interface = &wl_display_interface;
-    else if (violation->interface == NB_INTERFACE_REGISTRY)
-        interface = &wl_registry_interface;
-    else {
-        const struct wl_resource *resource = resource_at(client, violation->sender);
-        interface = resource ? resource->object.interface : NULL;
-    }
     if (!interface || violation->opcode >= (uint32_t)interface->method_count)
         return NULL;
     return &interface->methods[violation->opcode];
@@ -23,8 +18,6 @@ static const struct wl_message *request_of(struct wl_client *client, const nb_vi
 static const char *found_of(struct wl_client *client, const nb_violation *violation)
 {
     const struct wl_resource *resource = resource_at(client, violation->number);
-    if (violation->found == NB_INTERFACE_REGISTRY)
-        return wl_registry_interface.name;
     return resource ? resource->object.interface->name : "unknown";
 }
 
@@ -38,7 +31,7 @@ void log_violation(struct wl_client *client)
     switch (violation.kind) {
     case NB_VIOLATION_SHORT_HEADER: log_line("message too short, invalid header\n"); break;
     case NB_VIOLATION_MISSING_BYTES:
-        log_line("message too short, object (%u), message %s(%s)\n", violation.sender, name, signature);
+        log_line("message too short, object (%d), message %s(%s)\n", (int)violation.sender, name, signature);
         break;
     case NB_VIOLATION_UNENDED_STRING:
         log_line("string not nul-terminated, message %s(%s)\n", name, signature);

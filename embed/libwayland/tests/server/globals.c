@@ -215,6 +215,31 @@ static void filtered(int which)
     show();
 }
 
+static void tell(void *data, enum wl_protocol_logger_type type, const struct wl_protocol_logger_message *message)
+{
+    (void)data;
+    if (type == WL_PROTOCOL_LOGGER_EVENT)
+        printf("  told of %s@%u.%s\n", wl_resource_get_class(message->resource), wl_resource_get_id(message->resource),
+               message->message->name);
+}
+
+/* The filter changes its answer between the announcement and the removal. */
+static void filter_changed(int which)
+{
+    begin();
+    struct wl_protocol_logger *logger = which & 2 ? wl_display_add_protocol_logger(display, tell, NULL) : NULL;
+    wl_display_set_global_filter(display, filter, NULL);
+    is_allowed = which & 1;
+    struct wl_global *global = wl_global_create(display, &part_interface, 2, "parts", bind_part);
+    get_registry(2);
+    turn();
+    is_allowed = !is_allowed;
+    wl_global_destroy(global);
+    turn();
+    if (logger)
+        wl_protocol_logger_destroy(logger);
+}
+
 /* A filter with a fixed answer: the second client sees what the first does not. */
 static const struct wl_client *chosen;
 static bool for_one(const struct wl_client *of, const struct wl_global *global, void *data)
@@ -271,7 +296,10 @@ const struct test global_tests[] = {
     { "two-structs", two_structs, 0 },  { "two-structs", two_structs, 1 }, { "two-structs", two_structs, 2 },
     { "longer-struct", longer_struct, 0 }, { "longer-struct", longer_struct, 1 },
     { "filter", filtered, 0 },          { "filter", filtered, 1 },         { "filter", filtered, 2 },
-    { "filter", filtered, 3 },          { "filter-for-one", filtered_for_one, 0 },
+    { "filter", filtered, 3 },          { "filter-changed", filter_changed, 0 },
+    { "filter-changed", filter_changed, 1 }, { "filter-changed", filter_changed, 2 },
+    { "filter-changed", filter_changed, 3 },
+    { "filter-for-one", filtered_for_one, 0 },
     { "filter-for-one", filtered_for_one, 1 },
     { 0 }
 };

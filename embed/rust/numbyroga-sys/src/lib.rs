@@ -534,35 +534,35 @@ plain! {
     }
 }
 
-/// A violation, malformed: no object had the number.
+/// A violation by a malformed message: no object had the number.
 pub const NB_VIOLATION_UNKNOWN_SENDER: u32 = 1;
-/// A violation, malformed: the interface has no such request.
+/// A violation by a malformed message: the interface has no such request.
 pub const NB_VIOLATION_UNKNOWN_OPCODE: u32 = 2;
-/// A violation, malformed: by its header the message had fewer bytes than a header.
+/// A violation by a malformed message: by its header the message had fewer bytes than a header.
 pub const NB_VIOLATION_SHORT_HEADER: u32 = 3;
-/// A violation, malformed: the message ended before the argument did.
+/// A violation by a malformed message: the message ended before the argument did.
 pub const NB_VIOLATION_MISSING_BYTES: u32 = 4;
-/// A violation, malformed: the argument, a string, had no zero at its end, or another zero.
+/// A violation by a malformed message: the argument, a string, had no zero at its end, or another zero.
 pub const NB_VIOLATION_UNENDED_STRING: u32 = 5;
-/// A violation, the request is there since the version `wanted`, the object has `found`.
+/// A violation: the request is there since the version `wanted`, the object has `found`.
 pub const NB_VIOLATION_SINCE_LATER: u32 = 6;
-/// A violation, the global `number` could not be bound in the version `wanted`.
+/// A violation: the global `number` could not be bound in the version `wanted`.
 pub const NB_VIOLATION_REFUSED_BIND: u32 = 7;
-/// A violation, the same; the name of the interface was null.
+/// A violation: the name of the interface was null in a bind of the global `number` in the version `wanted`.
 pub const NB_VIOLATION_NULL_NAME: u32 = 8;
-/// A violation, the client could not make an object `number`.
+/// A violation: the client could not make an object `number`.
 pub const NB_VIOLATION_INVALID_NEW_ID: u32 = 9;
-/// A violation, there was no object `number`.
+/// A violation: there was no object `number`.
 pub const NB_VIOLATION_UNKNOWN_ID: u32 = 10;
-/// A violation, the object `number` was of the interface `found`, not `wanted`.
+/// A violation: the object `number` was of the interface `found`, not `wanted`.
 pub const NB_VIOLATION_WRONG_INTERFACE: u32 = 11;
-/// A violation, the object was null, and the table does not allow that.
+/// A violation: the object was null, and the table does not allow that.
 pub const NB_VIOLATION_NULL_OBJECT: u32 = 12;
-/// A violation, an object at a number above the limit of objects, which is `wanted`.
+/// A violation: an object at a number above the limit of objects, which is `wanted`.
 pub const NB_VIOLATION_TOO_MANY_OBJECTS: u32 = 13;
 
 plain! {
-    /// How a client broke the protocol by a message. What a kind does not name is 0.
+    /// How a client broke the protocol by a message. What has no meaning for a kind is 0.
     nb_violation: 32, 4 {
         /// What was wrong: [`NB_VIOLATION_UNKNOWN_SENDER`], ..
         kind: u32 = 0,
@@ -572,7 +572,7 @@ plain! {
         interface: u32 = 8,
         /// The opcode.
         opcode: u32 = 12,
-        /// The place of the argument, from 0.
+        /// The place of the argument, from 0, of the kinds 4, 5 and 9 to 12.
         argument: u32 = 16,
         /// An object, or a global.
         number: u32 = 20,
