@@ -1,5 +1,6 @@
 -- What other calls leave: which registries were told of which globals.
 use Rattle.std.proofs.Common.{◌≡◌, ◌∙◌, ℕ, ℤ, Bool, true, false, List, [], Option, None, Some, Result, Ok, Err, refl, ap}
+use mathlib.Core.Logic.{inl, inr}
 use Rattle.std.specs.Global.{Global}
 use Rattle.std.specs.Prelude.{MatchResult, Vec}
 use Rattle.wl_link.proofs.Calls.Branches.{either_option}

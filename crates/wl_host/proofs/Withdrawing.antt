@@ -8,7 +8,7 @@ use Rattle.wl_link.proofs.Calls.Branches.{either_option}
 use Rattle.wl_server.specs.declared.error.EventError.{EventError}
 use Rattle.wl_server.specs.Deeds.{IsAmong}
 use Rattle.wl_server.specs.Ids.{GlobalParts, IdParts}
-use Rattle.wl_server.specs.Lookups.{object_info_of}
+use Rattle.wl_server.specs.Lookups.{global_info_by, object_info_of}
 use Rattle.wl_server.specs.Plain.{same_object}
 use Rattle.wl_host.specs.Calls.{CoreState, status_by}
 use Rattle.wl_host.specs.Registries.{AllTell, Announced, Announces, Called, IsThereMeanwhile, KeepsOutstanding, KeepsThere, Neither, Tells, TellsRemoval, TellsRemovals, Withdrawn, Withdraws, is_of, is_there, is_to, kept_after, outstanding, outstanding_after, registries_told, said_with, told_with, without_global}
@@ -103,7 +103,7 @@ there_smaller core before after (inr same) t among = filtered_among (is_there co
 announced : (before : ServerState) (registry : IdParts) (global : GlobalParts) (after : ServerState) → Announces before registry global status.Ok after
     → (kept : List Told) × KeepsThere before.core before.told kept × (after.told ≡ kept ++ record { registry = registry; global = global } ∷ [])
 announced before registry global after by =
-    elim (either_option _ by) [
+    elim (either_option (global_info_by before.core.server global) by) [
       | inl (none, (is, same)) ↦ absurd cc
       | inr (info, there, (kept, keeps, inl (is, same))) ↦ absurd cc
       | inr (info, there, (kept, keeps, inr (event, answer, tells, calls, is, same))) ↦ (kept, keeps, ap (λ (s : ServerState). s.told) same ∙ with_ok kept answer is)
@@ -126,7 +126,7 @@ withdrawn before global s after by =
 pub refused_keeps : (before : ServerState) (registry : IdParts) (global : GlobalParts) (s : Status) (after : ServerState) → Announces before registry global s after
     → s ≢ status.Ok → KeepsThere before.core before.told after.told
 refused_keeps before registry global s after by failed =
-    elim (either_option _ by) [
+    elim (either_option (global_info_by before.core.server global) by) [
       | inl (none, (is, same)) ↦ inl (ap (λ (s : ServerState). s.told) same)
       | inr (info, there, (kept, keeps, inl (is, same))) ↦ rw (ap (λ (s : ServerState). s.told) same) keeps
       | inr (info, there, (kept, keeps, inr (event, answer, tells, calls, is, same))) ↦

@@ -4,11 +4,12 @@ ghost use Rattle.std.specs.Prelude.{[], ◌≡◌, ◌∷◌, ◌<◌, ◌==◌,
 ghost use Rattle.std.specs.List.{filter, list_any};
 ghost use Rattle.wl_wire.specs.declared.argument.Argument.TheVariants as arg;
 ghost use Rattle.wl_wire.specs.Table.{name_of};
-ghost use Rattle.wl_host.specs.Calls.{world};
+ghost use Rattle.wl_host.specs.Calls.{status_by, world};
 ghost use Rattle.wl_host.specs.Descriptors.{Conserves};
 ghost use Rattle.wl_host.specs.Flat.{global_of, resource_of};
-ghost use Rattle.wl_host.specs.Registries.{Announces, IsGlobalEvent, KeepsThere, TellsRemoval, TellsRemovals, Withdraws, is_of, is_there, registries_told, said_with, without_global};
+ghost use Rattle.wl_host.specs.Registries.{Announces, IsGlobalEvent, KeepsThere, KillsUntold, TellsRemoval, TellsRemovals, Withdraws, is_of, is_there, registries_told, said_with, told_with, without_global};
 ghost use Rattle.wl_host.specs.Server.{kept_by_server};
+ghost use Rattle.wl_host.specs.Status.{of_event};
 ghost use Rattle.wl_server.specs.Backend.{Calls};
 ghost use Rattle.wl_server.specs.declared.runs.step.Reply.TheVariants as reply;
 ghost use Rattle.wl_server.specs.declared.runs.step.Step.TheVariants as step;
@@ -20,7 +21,7 @@ use crate::server::{Core, Server};
 use crate::status::Status;
 use smallvec::SmallVec;
 use std::alloc::Global;
-use wl_server::{DisconnectReason, EventError, GlobalId, GlobalInfo, ObjectId};
+use wl_server::{ClientId, DisconnectReason, EventError, GlobalId, GlobalInfo, ObjectId};
 use wl_wire::opcodes::{GLOBAL, GLOBAL_REMOVE};
 use wl_wire::{Argument, CString, InterfaceId, Message, OutOfMemory, Token};
 
@@ -52,6 +53,21 @@ fn make_room(core: &Core, told: &mut Vec<Told>) -> Result<(), OutOfMemory>
     drop_gone(core, told);
     told.reserve(told.len().saturating_add(1))?;
     Ok(())
+}
+
+/// Keeps that a registry was told of a global, unless the core refused that. Returns the status of what it answered.
+fn keep_told(told: &mut Vec<Told>, one: Told, answer: Result<(), EventError>) -> Status
+    requires room { vec_len told.old < vec_capacity told.old }
+    ensures told { told.new.items ≡ told_with told.old.items one answer }
+    ensures status { result ≡ status_by of_event answer }
+{
+    match answer {
+        Ok(()) => {
+            told.push_reserved(one);
+            Status::Ok
+        }
+        Err(error) => Status::from(error),
+    }
 }
 
 /// The name of the interface, for the wire.
@@ -104,6 +120,15 @@ fn removal_event(alloc: Global, name: u32) -> Message<ObjectId, Token>
     }
 }
 
+/// Kills the client if there was no memory to tell it: then the core answered so.
+fn kill_untold(core: &mut Core, client: &ClientId, answer: Result<(), EventError>)
+    ensures { KillsUntold client.now answer core.old core.new }
+{
+    if let Err(EventError::OutOfMemory) = answer {
+        core.kill_client(client, DisconnectReason::ConnectionClosed);
+    }
+}
+
 /// Tells the registry by the event, whose sender it becomes, that the name is that of no global any more. If there is no memory
 /// for that, its client is killed. Returns what the core answered.
 fn tell_removal(
@@ -118,9 +143,7 @@ fn tell_removal(
 {
     event.sender_id = registry;
     let answer = core.send_event_lent(event);
-    if let Err(EventError::OutOfMemory) = answer {
-        core.kill_client(&registry.client(), DisconnectReason::ConnectionClosed);
-    }
+    kill_untold(core, &registry.client(), answer);
     answer
 }
 
@@ -214,13 +237,8 @@ impl Server {
         ) {
             return status;
         }
-        let status = match self.core.send_event_lent(&self.event) {
-            Ok(()) => {
-                self.told.push_reserved(Told { registry, global });
-                Status::Ok
-            }
-            Err(error) => Status::from(error),
-        };
+        let answer = self.core.send_event_lent(&self.event);
+        let status = keep_told(&mut self.told, Told { registry, global }, answer);
         self.seats.list(registry.client().slot());
         self.mark();
         status

@@ -12,6 +12,7 @@ after c = record {
   may_have_notes = c.self.inside.may_have_notes;
   refuses_nulls = c.self.inside.refuses_nulls;
   keeps_notes = c.self.inside.keeps_notes;
+  told = c.self.inside.told.items;
 }
 
 pub returns-clause-call : goal.returns-clause-call

@@ -1,7 +1,5 @@
-use Rattle.std.proofs.Common.{◌≡◌, ◌+◌, ◌∷◌, ◌∙◌, true, false, drop, get_or, sym, add-one, drop-cons}
-use Rattle.wl_host.specs.Flat.{global_of, no_global, no_object, resource_of}
+use Rattle.std.proofs.Common.{◌≡◌, ◌+◌, ◌∷◌, ◌∙◌, true, false, drop, sym, add-one, drop-cons}
 use Rattle.wl_host.specs.Registries.{is_of}
-use Rattle.wl_host.specs.declared.server.registries.Told.{Told}
 use Rattle.wl_host.proofs.Withdrawing.{first_passed, first_told}
 use Rattle.wl_host.proofs.server.registries.tell_removals.Goals.{then-eq, else-eq}
 use Rattle.wl_host.proofs.server.registries.tell_removals.Goals as goal
@@ -11,10 +9,9 @@ loop-one-preserved c =
     let l = c.loop-one in
     let told = c.args.told.now in
     let global = c.args.global.now in
-    let none : Told = record { registry = resource_of no_object; global = global_of no_global } in
-    let t = get_or told l.one-index none in
+    let t = c.one-item.result in
     let rest = drop (l.one-index + 1) told in
-    let d : drop l.one-index told ≡ t ∷ rest = let k = drop-cons told l.one-index none c.loop-one-test.true in let o = add-one l.one-index in cc in
+    let d : drop l.one-index told ≡ t ∷ rest = let k = drop-cons told l.one-index t c.loop-one-test.true in let i = c.one-item.is in let o = add-one l.one-index in cc in
     elim c.if-eq.branch [
       | then-eq w ↦
           let answer = w.tell_removal-answer in
