@@ -1,14 +1,17 @@
 /* What the files of libwayland-client.so.0 share. Below it are a client's session of numbyroga.h, and the queues and
  * readers there.
  *
- * One lock of a display lies over its session, its queues, its readers, its numbers and the fields of its proxies, but
- * for those that a program sets and reads by itself (user data, tag). Functions whose name ends in `_locked` are called
- * with it, those that call listeners never hold it.
+ * One lock of a display lies over its session, its queues, its readers and the fields of its proxies, but for those that
+ * a program sets and reads by itself (user data, tag). Functions whose name ends in `_locked` are called with it, those
+ * that call listeners never hold it.
+ *
+ * The session's data of an object are its proxy, until the program destroys that. Functions that answer an error answer
+ * 0, or that number of errno.
  *
  * Who may free what:
  *
  *   - a proxy, wrappers too: free_unused_locked in proxy.c, once nb_queues_next_unused tells that it is unused;
- *   - an event: event_end_locked in event.c, once it has left its queue; and give_up_locked, if it never came into one;
+ *   - an event: event_end_locked in event.c, once it has left its queue; and put_event_locked, if it never came into one;
  *   - a queue: wl_event_queue_destroy in queue.c. Who dispatches it has its number alone, which is never used again;
  *   - a display: unlock in connection.c, once it is closed and the program has no proxy or queue of it any more. */
 #ifndef CLIENT_H
@@ -16,7 +19,6 @@
 
 #include "../common/common.h"
 #include "../common/table.h"
-#include "numbers.h"
 #include <numbyroga.h>
 #include <pthread.h>
 #include <time.h>
@@ -28,12 +30,11 @@
 struct wl_proxy {
     struct wl_object object; /* its id is 0 as long as no request has made it */
     uint32_t version;
-    struct wl_display *display;
-    size_t slot;     /* in the display's queues */
-    uint64_t serial; /* of the session's id */
-    uint32_t row;    /* of its interface in the session's table */
     bool is_wrapper;
     bool is_untold; /* an event made it, and no event has told the program of it */
+    struct wl_display *display;
+    size_t slot;     /* in the display's queues */
+    nb_object_id id; /* in the session; its interface is there before its number */
     void *user_data;
     wl_dispatcher_func_t dispatcher;
     const char *const *tag;
@@ -51,26 +52,21 @@ static inline struct wl_proxy *proxy_of(struct wl_object *object)
     return CONTAINER(object, struct wl_proxy, object);
 }
 
-static inline nb_object_id session_id(const struct wl_proxy *proxy)
+static inline struct wl_proxy *proxy_of_data(uint64_t data)
 {
-    nb_object_id id = nb_null();
-    id.serial = proxy->serial;
-    id.interface = proxy->row;
-    id.number = proxy->object.id;
-    return id;
+    return (struct wl_proxy *)(uintptr_t)data;
 }
 
-static inline void set_session_id(struct wl_proxy *proxy, const nb_object_id *id)
+static inline void set_id(struct wl_proxy *proxy, const nb_object_id *id)
 {
-    proxy->serial = id->serial;
-    proxy->row = id->interface;
+    proxy->id = *id;
     proxy->object.id = id->number;
 }
 
 /* ======== Events */
 
-/* An event that was read: an error of the display if it has no message. It is one block of memory with all that its
- * arguments name but the proxies. In the queues it is the content, and names its sender and those proxies. */
+/* An event that was read. It is one block of memory with all that its arguments name but the proxies. In the queues it
+ * is the content, and names its sender and those proxies. */
 struct event {
     uint64_t ticket; /* if it is in hand */
     bool is_dropped; /* it is not: no listener may see it */
@@ -78,24 +74,11 @@ struct event {
     struct wl_proxy *sender;
     const struct wl_message *message;
     uint32_t opcode, count;
-    struct event_error {
-        uint32_t code, number;
-        const char *text;
-    } error;
     uint8_t kinds[MOST_ARGUMENTS]; /* of the arguments, as of nb_argument */
     union wl_argument arguments[];
 };
 
 /* ======== Displays */
-
-/* Bytes that came and are no whole message yet, and descriptors that no message has taken yet. Those that the session
- * has come back with their events, or once it has ended. */
-struct input {
-    uint8_t *bytes;
-    size_t count;
-    int32_t *descriptors;
-    size_t descriptor_count, descriptor_room;
-};
 
 struct wl_display {
     struct wl_proxy proxy; /* object 1 */
@@ -108,14 +91,13 @@ struct wl_display {
     struct wl_list made_queues; /* the others that the program has */
     size_t own_queue;           /* of the errors of the display itself: they are handed out first */
     size_t errors;              /* the slot that they are for */
-    struct proxies slots;       /* the program's proxies, by their slots */
+    struct wl_array slots;      /* the program's proxies, by their slots; NULL where there is none */
     size_t proxy_count;         /* how many those are */
-    struct proxies numbers[2];  /* those of the client's numbers, and of the server's */
     int deleted;                /* how often the server has freed a number since events were dispatched */
     struct table table;
-    struct input input;
-    uint8_t *text; /* of an event: its strings and arrays */
-    size_t text_room;
+    struct wl_array input;       /* bytes that came and are no whole message yet */
+    struct wl_array descriptors; /* those that came and no message has taken yet */
+    struct wl_array text;        /* of an event: its strings and arrays, in all of the room */
     size_t unsent, most_unsent; /* bytes that wait to be sent, and how many may; 0 is no limit */
     size_t send_above;          /* what waits is sent by itself before it is more than this */
     uint32_t unsent_descriptors;

@@ -13,51 +13,43 @@
 #include <string.h>
 #include <wayland-client-protocol.h>
 
-enum {
-    LIBWAYLAND_ROOM = 4096, /* what libwayland keeps before it sends by itself */
-    FIRST_TEXT = 64
-};
+enum { LIBWAYLAND_ROOM = 4096 /* what libwayland keeps before it sends by itself */ };
 
 bool is_logging;
 
 /* ======== Sending */
 
-/* Sends as much as the socket takes. */
-static int send_all(struct wl_display *display)
+/* Sends as much as the socket takes, and counts the bytes. The error; EAGAIN if some still waits. */
+static int send_all(struct wl_display *display, int *sent)
 {
     uint8_t bytes[LIBWAYLAND_ROOM];
     int32_t descriptors[NB_MOST_DESCRIPTORS];
     nb_counts counts;
-    int sent = 0;
     for (;;) {
-        if (nb_client_flush(&display->session) == NB_OUT_OF_MEMORY) {
-            errno = ENOMEM;
-            return -1;
-        }
+        if (nb_client_flush(&display->session) == NB_OUT_OF_MEMORY)
+            return ENOMEM;
         nb_status status =
             nb_client_to_send(&display->session, bytes, sizeof bytes, descriptors, NB_MOST_DESCRIPTORS, &counts);
         if (status != NB_OK || counts.bytes == 0)
-            return sent;
+            return 0;
         ssize_t taken = socket_send(display->socket, bytes, counts.bytes, descriptors, counts.descriptors);
-        if (taken < 0) {
-            errno = (int)-taken;
-            return -1;
-        }
+        if (taken < 0)
+            return (int)-taken;
         nb_client_sent(&display->session, (uint32_t)taken);
         close_all(descriptors, counts.descriptors);
-        sent += (int)taken;
+        *sent += (int)taken;
         display->unsent -= (size_t)taken;
         display->unsent_descriptors -= counts.descriptors;
     }
 }
 
 /* While the socket is full it is tried again whenever as much more waits as libwayland keeps. */
-int send_waiting_locked(struct wl_display *display)
+static int send_waiting_locked(struct wl_display *display, int *sent)
 {
-    int sent = send_all(display);
-    display->is_full = sent < 0 && errno == EAGAIN;
+    const int error = send_all(display, sent);
+    display->is_full = error == EAGAIN;
     display->send_above = display->is_full ? display->unsent + LIBWAYLAND_ROOM : LIBWAYLAND_ROOM;
-    return sent;
+    return error;
 }
 
 static bool is_too_much(const struct wl_display *display, size_t bytes)
@@ -69,32 +61,32 @@ static bool is_too_much(const struct wl_display *display, size_t bytes)
 int make_room_locked(struct wl_display *display, size_t bytes, uint32_t descriptors)
 {
     bool has_many = !display->is_full && display->unsent_descriptors + descriptors > NB_MOST_DESCRIPTORS;
+    int sent = 0;
     if (display->has_failed || display->unsent == 0 ||
         (display->unsent + bytes <= display->send_above && !has_many && !is_too_much(display, bytes)))
         return 0;
-    if (send_waiting_locked(display) < 0 && errno != EAGAIN)
-        return -1;
-    if (display->unsent == 0 || !is_too_much(display, bytes))
-        return 0;
-    errno = E2BIG;
-    return -1;
+    const int error = send_waiting_locked(display, &sent);
+    if (error != 0 && error != EAGAIN)
+        return error;
+    return display->unsent > 0 && is_too_much(display, bytes) ? E2BIG : 0;
 }
 
 EXPORT int wl_display_flush(struct wl_display *display)
 {
+    int sent = 0;
     pthread_mutex_lock(&display->lock);
-    int answer = -1, error = display->last_error;
+    int error = display->last_error;
     if (error == 0) {
-        answer = send_waiting_locked(display);
-        error = errno;
+        error = send_waiting_locked(display, &sent);
         /* A server that has gone may have said why: that is still to be read. */
-        if (answer < 0 && error != EAGAIN && error != EPIPE)
+        if (error != 0 && error != EAGAIN && error != EPIPE)
             fail_locked(display, error);
     }
     pthread_mutex_unlock(&display->lock);
-    if (answer < 0)
-        errno = error;
-    return answer;
+    if (error == 0)
+        return sent;
+    errno = error;
+    return -1;
 }
 
 /* Newer than the headers of 1.21. */
@@ -130,23 +122,21 @@ static int errno_of_code(uint32_t code)
     }
 }
 
-void take_error_locked(struct wl_display *display, const struct event_error *error)
+void take_error_locked(struct wl_display *display, const struct event *event)
 {
-    struct wl_proxy *proxy = numbers_proxy(display->numbers, error->number);
-    if (is_logging) {
-        const union wl_argument arguments[] = { { .o = proxy ? &proxy->object : NULL },
-                                                { .u = error->code },
-                                                { .s = error->text } };
-        print_message("", &display->proxy.object, &wl_display_interface.events[0], arguments, true);
-    }
-    if (proxy)
-        log_line("%s@%u: error %u: %s\n", proxy->object.interface->name, error->number, error->code, error->text);
+    const struct wl_object *object = event->arguments[0].o;
+    const uint32_t code = event->arguments[1].u;
+    const char *text = event->arguments[2].s;
+    if (is_logging)
+        print_event("", event);
+    if (object)
+        log_line("%s@%u: error %u: %s\n", object->interface->name, object->id, code, text);
     else
-        log_line("[destroyed object]: error %u: %s\n", error->code, error->text);
-    display->protocol_error.code = error->code;
-    display->protocol_error.id = proxy ? error->number : 0;
-    display->protocol_error.interface = proxy ? proxy->object.interface : NULL;
-    fail_locked(display, proxy == &display->proxy ? errno_of_code(error->code) : EPROTO);
+        log_line("[destroyed object]: error %u: %s\n", code, text);
+    display->protocol_error.code = code;
+    display->protocol_error.id = object ? object->id : 0;
+    display->protocol_error.interface = object ? object->interface : NULL;
+    fail_locked(display, object == &display->proxy.object ? errno_of_code(code) : EPROTO);
 }
 
 EXPORT int wl_display_get_error(struct wl_display *display)
@@ -266,14 +256,15 @@ static bool begin_session(struct wl_display *display)
     const nb_table nothing = { 0 };
     nb_table_fault fault;
     nb_object_id id;
-    if (!grow_text(display, FIRST_TEXT) || nb_client_start(&display->session, &nothing, &fault) != NB_OK)
+    if (nb_client_start(&display->session, &nothing, &fault) != NB_OK)
         return false;
     nb_client_set_room(&display->session, LIBWAYLAND_ROOM);
     nb_client_pass_over_unknown_senders(&display->session, 1);
     nb_client_display(&display->session, &id);
-    set_session_id(&display->proxy, &id);
+    nb_client_set_object_data(&display->session, &id, (uintptr_t)&display->proxy);
+    set_id(&display->proxy, &id);
     display->proxy.object.interface = &wl_display_interface;
-    return numbers_put(display->numbers, &display->proxy);
+    return true;
 }
 
 EXPORT struct wl_display *wl_display_connect_to_fd(int fd)
@@ -301,21 +292,6 @@ EXPORT struct wl_display *wl_display_connect_to_fd(int fd)
 
 /* ======== Disconnecting */
 
-/* Closes the descriptors that were not sent. */
-static void drop_unsent(struct wl_display *display)
-{
-    nb_counts counts;
-    uint8_t bytes[LIBWAYLAND_ROOM];
-    int32_t descriptors[NB_MOST_DESCRIPTORS];
-    while (nb_client_flush(&display->session) != NB_OUT_OF_MEMORY &&
-           nb_client_to_send(&display->session, bytes, sizeof bytes, descriptors, NB_MOST_DESCRIPTORS, &counts) ==
-               NB_OK &&
-           counts.bytes > 0) {
-        close_all(descriptors, counts.descriptors);
-        nb_client_sent(&display->session, counts.bytes);
-    }
-}
-
 /* Programs destroy proxies and queues after they have disconnected: so the display stays as long as there are any. */
 void unlock(struct wl_display *display)
 {
@@ -324,7 +300,7 @@ void unlock(struct wl_display *display)
     if (stays)
         return;
     nb_queues_end(&display->queues);
-    proxies_end(&display->slots);
+    free(display->slots.data);
     pthread_mutex_destroy(&display->lock);
     pthread_cond_destroy(&display->was_read);
     free(display);
@@ -334,20 +310,16 @@ EXPORT void wl_display_disconnect(struct wl_display *display)
 {
     struct wl_event_queue *queue;
     pthread_mutex_lock(&display->lock);
-    drop_unsent(display);
     fail_locked(display, EPIPE);
-    end_session_locked(display);
     wl_list_for_each(queue, &display->made_queues, link) empty_locked(display, queue->number);
     empty_locked(display, display->default_queue.number);
     empty_locked(display, display->own_queue);
     nb_client_end(&display->session);
     table_end(&display->table);
-    proxies_end(&display->numbers[0]);
-    proxies_end(&display->numbers[1]);
-    close_all(display->input.descriptors, display->input.descriptor_count);
-    free(display->input.descriptors);
-    free(display->input.bytes);
-    free(display->text);
+    close_all(display->descriptors.data, display->descriptors.size / sizeof(int32_t));
+    free(display->descriptors.data);
+    free(display->input.data);
+    free(display->text.data);
     close(display->socket);
     display->is_closed = true;
     unlock(display);

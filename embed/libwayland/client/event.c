@@ -15,24 +15,6 @@
 
 /* ======== Making */
 
-/* An event without arguments, and with room for so many and for their text, which is where `*text` says. */
-static struct event *event_new(struct wl_proxy *sender, const struct wl_message *message, uint32_t count, size_t length,
-                               uint8_t **text)
-{
-    const size_t at_text = sizeof(struct event) + count * sizeof(union wl_argument);
-    struct event *event = malloc(at_text + length);
-    if (!event) {
-        errno = ENOMEM;
-        return NULL;
-    }
-    event->is_dropped = event->is_told = false;
-    event->sender = sender;
-    event->message = message;
-    event->opcode = event->count = 0;
-    *text = (uint8_t *)event + at_text;
-    return event;
-}
-
 static bool is_object(const struct event *event, uint32_t i)
 {
     return (event->kinds[i] == NB_OBJECT || event->kinds[i] == NB_NEW_ID) && event->arguments[i].o;
@@ -50,48 +32,22 @@ static void give_back_locked(struct event *event)
     }
 }
 
-/* The event does not come into a queue, for this error: false, with errno. */
-static bool give_up_locked(struct event *event, int error)
-{
-    struct wl_display *display = event->sender->display;
-    give_back_locked(event);
-    free(event);
-    free_unused_locked(display);
-    errno = error;
-    return false;
-}
-
-/* The event waits in the queue of the object in this slot. False, with errno, if there is no memory. */
-static bool put_locked(struct wl_display *display, size_t slot, struct event *event)
+/* The event waits in the queue of the object in this slot. */
+static int put_locked(struct wl_display *display, size_t slot, struct event *event)
 {
     size_t objects[MOST_ARGUMENTS], count = 0;
     for (uint32_t i = 0; i < event->count; i++)
         if (is_object(event, i))
             objects[count++] = proxy_of(event->arguments[i].o)->slot;
-    return nb_queues_put(&display->queues, slot, objects, count, (uintptr_t)event) == NB_OK ||
-           give_up_locked(event, ENOMEM);
-}
-
-/* The message of the error is in the display's text. */
-bool put_error_locked(struct wl_display *display, const nb_error *error)
-{
-    uint8_t *text;
-    struct event *event = event_new(&display->proxy, NULL, 0, (size_t)error->message_length + 1, &text);
-    if (!event)
-        return false;
-    memcpy(text, display->text, error->message_length);
-    text[error->message_length] = 0;
-    event->error = (struct event_error){ error->code, error->object_number, (const char *)text };
-    return put_locked(display, display->errors, event);
+    return nb_queues_put(&display->queues, slot, objects, count, (uintptr_t)event) == NB_OK ? 0 : ENOMEM;
 }
 
 /* ======== Arguments */
 
-static bool refuse(const char *why, const struct wl_message *message)
+static int refuse(const char *why, const struct wl_message *message)
 {
     log_line("%s, message %s(%s)\n", why, message->name, message->signature);
-    errno = EINVAL;
-    return false;
+    return EINVAL;
 }
 
 static bool is_of_type(const struct wl_proxy *proxy, const struct wl_interface *type)
@@ -100,72 +56,58 @@ static bool is_of_type(const struct wl_proxy *proxy, const struct wl_interface *
 }
 
 /* One that the program has destroyed is NULL, whatever the message says of null. */
-static bool fill_object(struct event *event, uint32_t i, const nb_argument *from, const struct wl_interface *type)
+static int fill_object(struct event *event, uint32_t i, const nb_argument *from, const struct wl_interface *type)
 {
-    struct wl_proxy *proxy = numbers_proxy(event->sender->display->numbers, from->object.number);
+    struct wl_proxy *proxy = proxy_of_data(from->data);
     if (from->object.number == 0 && !signature_is_nullable(event->message->signature, i))
         return refuse("NULL object received on non-nullable type", event->message);
     if (proxy && !is_of_type(proxy, type)) {
         log_line("invalid object (%u), type (%s), message %s(%s)\n", proxy->object.id, proxy->object.interface->name,
                  event->message->name, event->message->signature);
-        errno = EINVAL;
-        return false;
+        return EINVAL;
     }
     event->arguments[i].o = proxy ? &proxy->object : NULL;
-    return true;
+    return 0;
 }
 
-static bool fill_new(struct event *event, uint32_t i, const nb_argument *from, const struct wl_interface *type)
+static int fill_new(struct event *event, uint32_t i, const nb_argument *from, const struct wl_interface *type)
 {
     struct wl_proxy *sender = event->sender;
     if (!type)
         return refuse("new object without an interface", event->message);
     struct wl_proxy *proxy = proxy_new_locked(sender, type, sender->version);
     if (!proxy)
-        return false;
+        return errno;
     proxy->is_untold = true;
-    set_session_id(proxy, &from->object);
-    if (!numbers_put(sender->display->numbers, proxy)) {
-        proxy->object.id = 0;
-        proxy_destroy_locked(proxy);
-        errno = ENOMEM;
-        return false;
-    }
+    set_id(proxy, &from->object);
+    nb_client_set_object_data(&sender->display->session, &proxy->id, (uintptr_t)proxy);
     event->arguments[i].o = &proxy->object;
-    return true;
+    return 0;
 }
 
 /* `count` of the event is how many of its arguments are there, so that those can be given back. The text is as the
  * session wrote it, and `arrays` has a struct for each array. */
-static bool fill(struct event *event, const nb_argument *arguments, uint32_t count, uint8_t *text,
-                 struct wl_array *arrays)
+static int fill(struct event *event, const nb_argument *arguments, uint32_t count, uint8_t *text,
+                struct wl_array *arrays)
 {
     const struct wl_interface **types = event->message->types;
     for (uint32_t i = 0; i < count; i++) {
         const nb_argument *from = &arguments[i];
-        bool is_well = true;
+        int error = 0;
         event->kinds[i] = (uint8_t)from->kind;
-        switch (from->kind) {
-        case NB_NULL_STRING:
-            event->arguments[i].s = NULL;
-            is_well = signature_is_nullable(event->message->signature, i) ||
-                      refuse("NULL string received on non-nullable type", event->message);
-            break;
-        case NB_OBJECT: is_well = fill_object(event, i, from, types ? types[i] : NULL); break;
-        case NB_NEW_ID: is_well = fill_new(event, i, from, types ? types[i] : NULL); break;
-        case NB_ARRAY: unpack(&event->arguments[i], from, text, arrays++); break;
-        default: unpack(&event->arguments[i], from, text, NULL);
-        }
-        if (!is_well)
-            return false;
+        if (from->kind == NB_OBJECT)
+            error = fill_object(event, i, from, types ? types[i] : NULL);
+        else if (from->kind == NB_NEW_ID)
+            error = fill_new(event, i, from, types ? types[i] : NULL);
+        else if (from->kind == NB_NULL_STRING && !signature_is_nullable(event->message->signature, i))
+            error = refuse("NULL string received on non-nullable type", event->message);
+        else
+            unpack(&event->arguments[i], from, text, &arrays[i]);
+        if (error != 0)
+            return error;
         event->count++;
     }
-    return true;
-}
-
-static bool is_pointer(uint8_t kind)
-{
-    return kind == NB_STRING || kind == NB_NULL_STRING || kind == NB_ARRAY || kind == NB_OBJECT || kind == NB_NEW_ID;
+    return 0;
 }
 
 static bool has_form(const char *signature, const nb_argument *arguments, uint32_t count)
@@ -190,32 +132,36 @@ static const struct wl_message *message_of(const struct wl_proxy *sender, const 
     if (is_there && has_form(interface->events[from->opcode].signature, arguments, from->arguments))
         return &interface->events[from->opcode];
     log_line("interface '%s' has no event %u%s\n", interface->name, from->opcode, is_there ? " of this form" : "");
-    errno = EINVAL;
     return NULL;
 }
 
-bool put_event_locked(struct wl_proxy *sender, const nb_event *from, const nb_argument *arguments)
+/* A struct for each array stands behind the arguments, and the text behind those. */
+int put_event_locked(struct wl_proxy *sender, size_t slot, const nb_event *from, const nb_argument *arguments)
 {
+    struct wl_display *display = sender->display;
     const struct wl_message *message = message_of(sender, from, arguments);
-    struct event *event = NULL;
-    uint8_t *text;
-    size_t arrays = 0;
-    for (uint32_t i = 0; i < from->arguments; i++)
-        arrays += arguments[i].kind == NB_ARRAY;
-    if (message)
-        event = event_new(sender, message, from->arguments, from->bytes + arrays * sizeof(struct wl_array), &text);
+    const uint32_t count = from->arguments;
+    const size_t at_arrays = sizeof(struct event) + count * sizeof(union wl_argument);
+    const size_t at_text = at_arrays + count * sizeof(struct wl_array);
+    struct event *event = message ? malloc(at_text + from->bytes) : NULL;
     if (!event) {
-        close_descriptors(arguments, from->arguments);
-        return false;
+        close_descriptors(arguments, count);
+        return message ? ENOMEM : EINVAL;
     }
-    event->opcode = from->opcode;
+    *event = (struct event){ .sender = sender, .message = message, .opcode = from->opcode };
+    uint8_t *memory = (uint8_t *)event;
     if (from->bytes > 0)
-        memcpy(text, sender->display->text, from->bytes);
-    if (fill(event, arguments, from->arguments, text, (struct wl_array *)(void *)(text + from->bytes)))
-        return put_locked(sender->display, sender->slot, event);
-    int error = errno;
-    close_descriptors(arguments + event->count, from->arguments - event->count);
-    return give_up_locked(event, error);
+        memcpy(memory + at_text, display->text.data, from->bytes);
+    int error = fill(event, arguments, count, memory + at_text, (struct wl_array *)(void *)(memory + at_arrays));
+    if (error == 0)
+        error = put_locked(display, slot, event);
+    if (error == 0)
+        return 0;
+    close_descriptors(arguments + event->count, count - event->count);
+    give_back_locked(event);
+    free(event);
+    free_unused_locked(display);
+    return error;
 }
 
 /* ======== Handing out and ending */
@@ -256,6 +202,11 @@ void event_told_locked(struct event *event)
             proxy_of(event->arguments[i].o)->is_untold = false;
 }
 
+static bool is_number(uint8_t kind)
+{
+    return kind == NB_INT || kind == NB_UINT || kind == NB_FIXED || kind == NB_DESCRIPTOR;
+}
+
 void hand_out(struct event *event, wl_dispatcher_func_t dispatcher, const void *implementation)
 {
     struct wl_proxy *proxy = event->sender;
@@ -270,7 +221,7 @@ void hand_out(struct event *event, wl_dispatcher_func_t dispatcher, const void *
     uintptr_t words[MOST_WORDS];
     memcpy(words, first, sizeof first);
     for (uint32_t i = 0; i < event->count; i++)
-        words[i + 2] = is_pointer(event->kinds[i]) ? (uintptr_t)event->arguments[i].s : event->arguments[i].u;
+        words[i + 2] = is_number(event->kinds[i]) ? event->arguments[i].u : (uintptr_t)event->arguments[i].s;
     call_words(listener[event->opcode], words, event->count + 2);
 }
 

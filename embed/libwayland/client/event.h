@@ -4,12 +4,9 @@
 
 #include "client.h"
 
-/* Puts the event that the session handed out into the queue of its sender. What it makes gets its proxy here. False,
- * with errno, if it is malformed or there is no memory; its descriptors are closed then. */
-bool put_event_locked(struct wl_proxy *sender, const nb_event *from, const nb_argument *arguments);
-
-/* An error of the display itself, in its queue. False, with errno, if there is no memory. */
-bool put_error_locked(struct wl_display *display, const nb_error *error);
+/* Puts the event that the session handed out into the queue of the object in this slot. What it makes gets its proxy
+ * here. The error if it is malformed or there is no memory; its descriptors are closed then. */
+int put_event_locked(struct wl_proxy *sender, size_t slot, const nb_event *from, const nb_argument *arguments);
 
 /* Takes the first event out of the queue: it is in hand then, or dropped. Its objects that were destroyed are NULL, but
  * for the sender. NULL if none waits, or if there is no memory, with which the display fails. */

@@ -1,10 +1,17 @@
 /* Proxies: making, destroying, what a program sets and asks of them. It touches proxies, tells the session which
- * objects are destroyed, and is the one file that frees a proxy. */
+ * objects are destroyed, and is the one file that frees a proxy.
+ *
+ * A number of the client's may be used again when two things have happened: the program has destroyed the object, and
+ * the server has said that it knows of that, by wl_display.delete_id. Programs see events later than they are read, and
+ * interfaces do not say which events end an object: so mostly delete_id is read while the program still has the object
+ * (a frame's wp_presentation_feedback, ..). The session remembers that, and nb_client_reclaim frees the number when the
+ * object is destroyed. */
 #include "proxy.h"
 #include "../common/log.h"
 #include "connection.h"
 #include <errno.h>
 #include <stdlib.h>
+#include <string.h>
 
 /* ======== Making and destroying */
 
@@ -20,20 +27,32 @@ bool proxy_is_alive_locked(const struct wl_proxy *proxy)
     return object_of_locked(proxy).fate == NB_SLOT_ALIVE;
 }
 
+/* Where the slot's proxy stands; NULL if there is no place and no memory. */
+static struct wl_proxy **place_of_locked(struct wl_display *display, size_t slot)
+{
+    const size_t wanted = (slot + 1) * sizeof(struct wl_proxy *), size = display->slots.size;
+    if (wanted > size) {
+        void *added = wl_array_add(&display->slots, wanted - size);
+        if (!added)
+            return NULL;
+        memset(added, 0, wanted - size);
+    }
+    return (struct wl_proxy **)display->slots.data + slot;
+}
+
 /* A proxy with zeros in it, in the queue of this one. A listener may use its object once more after it has destroyed
  * it. NULL, with errno, if there is no memory. */
 static struct wl_proxy *proxy_beside_locked(const struct wl_proxy *other)
 {
     struct wl_display *display = other->display;
-    struct wl_proxy *proxy = NULL;
     size_t slot;
     if (nb_queues_add(&display->queues, object_of_locked(other).queue, &slot) == NB_OK) {
-        if (proxies_put(&display->slots, slot, NULL) && (proxy = calloc(1, sizeof *proxy))) {
-            display->slots.at[slot] = proxy;
+        struct wl_proxy **place = place_of_locked(display, slot);
+        if (place && (*place = calloc(1, sizeof **place))) {
             display->proxy_count++;
-            proxy->display = display;
-            proxy->slot = slot;
-            return proxy;
+            (*place)->display = display;
+            (*place)->slot = slot;
+            return *place;
         }
         nb_queues_destroy(&display->queues, slot);
         free_unused_locked(display);
@@ -45,16 +64,14 @@ static struct wl_proxy *proxy_beside_locked(const struct wl_proxy *other)
 struct wl_proxy *proxy_new_locked(struct wl_proxy *factory, const struct wl_interface *interface, uint32_t version)
 {
     struct wl_display *display = factory->display;
-    int before = errno;
     errno = EINVAL; /* of an interface that has no place; what finds no memory sets another one */
     uint32_t row = display->is_closed ? 0 : table_number(&display->table, interface);
     struct wl_proxy *proxy = row != 0 ? proxy_beside_locked(factory) : NULL;
     if (!proxy)
         return NULL;
-    errno = before;
     proxy->object.interface = interface;
     proxy->version = version;
-    proxy->row = row;
+    proxy->id.interface = row;
     return proxy;
 }
 
@@ -66,11 +83,14 @@ void drop_notes_locked(struct wl_display *display)
     }
 }
 
+/* The session may know the object for longer, and not its proxy. */
 void proxy_destroy_locked(struct wl_proxy *proxy)
 {
     struct wl_display *display = proxy->display;
     if (proxy->object.id != 0 && !proxy->is_wrapper) {
-        number_destroyed_locked(proxy);
+        nb_client_set_object_data(&display->session, &proxy->id, 0);
+        nb_client_destroy_object(&display->session, &proxy->id);
+        nb_client_reclaim(&display->session, &proxy->id);
         drop_notes_locked(display);
     }
     nb_queues_destroy(&display->queues, proxy->slot);
@@ -81,9 +101,9 @@ void free_unused_locked(struct wl_display *display)
 {
     size_t slot;
     while (nb_queues_next_unused(&display->queues, &slot) == NB_OK) {
-        struct wl_proxy *unused = proxies_get(&display->slots, slot);
+        struct wl_proxy **place = place_of_locked(display, slot), *unused = place ? *place : NULL;
         if (unused) {
-            display->slots.at[slot] = NULL;
+            *place = NULL;
             display->proxy_count--;
         }
         free(unused);
@@ -99,15 +119,20 @@ EXPORT struct wl_proxy *wl_proxy_create(struct wl_proxy *factory, const struct w
     return proxy;
 }
 
-EXPORT void wl_proxy_destroy(struct wl_proxy *proxy)
+static void destroy(struct wl_proxy *proxy)
 {
     struct wl_display *display = proxy->display;
-    if (proxy->is_wrapper)
-        log_and_abort("Tried to destroy wrapper with wl_proxy_destroy()\n");
     pthread_mutex_lock(&display->lock);
     proxy_destroy_locked(proxy);
     free_unused_locked(display);
     unlock(display);
+}
+
+EXPORT void wl_proxy_destroy(struct wl_proxy *proxy)
+{
+    if (proxy->is_wrapper)
+        log_and_abort("Tried to destroy wrapper with wl_proxy_destroy()\n");
+    destroy(proxy);
 }
 
 /* A wrapper is a proxy of the same object that gets no events: what it makes has its queue. It keeps the number, and
@@ -119,10 +144,8 @@ EXPORT void *wl_proxy_create_wrapper(void *wrapped)
     struct wl_proxy *wrapper = proxy_beside_locked(of);
     if (wrapper) {
         wrapper->object.interface = of->object.interface;
-        wrapper->object.id = of->object.id;
+        set_id(wrapper, &of->id);
         wrapper->version = of->version;
-        wrapper->serial = of->serial;
-        wrapper->row = of->row;
         wrapper->is_wrapper = true;
     }
     pthread_mutex_unlock(&of->display->lock);
@@ -132,13 +155,9 @@ EXPORT void *wl_proxy_create_wrapper(void *wrapped)
 EXPORT void wl_proxy_wrapper_destroy(void *proxy_wrapper)
 {
     struct wl_proxy *wrapper = proxy_wrapper;
-    struct wl_display *display = wrapper->display;
     if (!wrapper->is_wrapper)
         log_and_abort("Tried to destroy non-wrapper proxy with wl_proxy_wrapper_destroy\n");
-    pthread_mutex_lock(&display->lock);
-    proxy_destroy_locked(wrapper);
-    free_unused_locked(display);
-    unlock(display);
+    destroy(wrapper);
 }
 
 /* ======== What a program sets */

@@ -98,10 +98,10 @@ static int dispatch_all_locked(struct wl_display *display, size_t queue)
     struct event *event;
     int count = 0;
     for (; display->last_error == 0 && (event = event_take_locked(display, queue)); count++) {
-        if (event->message)
-            dispatch_event_locked(display, event);
+        if (event->sender == &display->proxy)
+            take_error_locked(display, event);
         else
-            take_error_locked(display, &event->error);
+            dispatch_event_locked(display, event);
         event_end_locked(display, event);
     }
     return count;
@@ -182,8 +182,9 @@ static void read_or_wait_locked(struct wl_display *display)
     if (nb_readers_begin(&display->readers, &turn) != NB_OK)
         return; /* the thread has not prepared */
     if (turn.reads) {
-        if (receive_locked(display) < 0 && errno != EAGAIN)
-            fail_locked(display, errno);
+        const int error = receive_locked(display);
+        if (error != 0 && error != EAGAIN)
+            fail_locked(display, error);
         nb_readers_end(&display->readers);
         pthread_cond_broadcast(&display->was_read);
     }

@@ -24,7 +24,7 @@ static void add_ids(struct packed *packed, const union wl_argument *arguments, s
         if (slot->kind == NB_NEW_ID)
             *made = proxy;
         else
-            slot->object = session_id(proxy);
+            slot->object = proxy->id;
     }
 }
 
@@ -53,58 +53,43 @@ static void print_request(const struct wl_proxy *proxy, const struct wl_message 
 
 /* ======== Sending */
 
-static int errno_of(nb_status status)
-{
-    return status == NB_OUT_OF_MEMORY ? ENOMEM : EINVAL;
-}
-
 /* Hands the request to the session. `made` gets the number of what it makes, if it makes something. */
 static int hand_over(struct wl_proxy *proxy, uint32_t opcode, const struct packed *packed, struct wl_proxy *made)
 {
-    struct wl_display *display = proxy->display;
     nb_object_id created;
-    const bool is_bind = made && proxy->row == NB_INTERFACE_REGISTRY;
-    const nb_request request = { .sender = session_id(proxy),
+    const bool is_bind = made && proxy->id.interface == NB_INTERFACE_REGISTRY;
+    const nb_request request = { .sender = proxy->id,
                                  .opcode = opcode,
                                  .has_data = 1,
+                                 .data = (uintptr_t)made,
                                  .has_child = is_bind,
-                                 .child_interface = is_bind ? made->row : 0,
+                                 .child_interface = is_bind ? made->id.interface : 0,
                                  .child_version = is_bind ? made->version : 0 };
-    nb_status status = nb_client_send_request(&display->session, &request, packed->arguments, packed->count,
+    nb_status status = nb_client_send_request(&proxy->display->session, &request, packed->arguments, packed->count,
                                               packed->bytes, packed->length, &created);
-    if (status != NB_OK) {
-        errno = errno_of(status);
-        return -1;
-    }
-    if (made && !nb_is_null(&created)) {
-        set_session_id(made, &created);
-        if (!numbers_put(display->numbers, made)) {
-            errno = ENOMEM;
-            return -1;
-        }
-    }
+    if (status != NB_OK)
+        return status == NB_OUT_OF_MEMORY ? ENOMEM : EINVAL;
+    if (made && !nb_is_null(&created))
+        set_id(made, &created);
     return 0;
 }
 
 static int send_packed(struct wl_proxy *proxy, uint32_t opcode, struct packed *packed, union wl_argument *arguments,
-                       struct wl_proxy *made, bool *is_taken)
+                       struct wl_proxy *made)
 {
     struct wl_display *display = proxy->display;
-    const struct wl_message *message = &proxy->object.interface->methods[opcode];
     add_ids(packed, arguments, &made);
-    if (packed->size > UINT16_MAX) {
-        errno = E2BIG;
-        return -1;
-    }
-    if (make_room_locked(display, packed->size, packed->descriptors) < 0 || hand_over(proxy, opcode, packed, made) < 0)
-        return -1;
-    *is_taken = true;
+    int error = packed->size > UINT16_MAX ? E2BIG : make_room_locked(display, packed->size, packed->descriptors);
+    if (error == 0)
+        error = hand_over(proxy, opcode, packed, made);
+    if (error != 0)
+        return error;
     if (display->has_failed)
         close_dropped_locked(display);
     display->unsent += packed->size;
     display->unsent_descriptors += packed->descriptors;
     if (is_logging)
-        print_request(proxy, message, arguments, packed);
+        print_request(proxy, &proxy->object.interface->methods[opcode], arguments, packed);
     return 0;
 }
 
@@ -113,14 +98,12 @@ static void send_locked(struct wl_proxy *proxy, uint32_t opcode, union wl_argume
 {
     const struct wl_message *message = &proxy->object.interface->methods[opcode];
     struct packed packed;
-    bool is_taken = false;
     put_made(message->signature, arguments, made);
-    int answer = pack(&packed, message->signature, arguments, true) ? 0 : -1;
-    if (answer == 0)
-        answer = send_packed(proxy, opcode, &packed, arguments, made, &is_taken);
-    int error = errno;
-    packed_end(&packed, is_taken);
-    if (answer == 0 || proxy->display->last_error != 0)
+    int error = pack(&packed, message->signature, arguments, true) ? 0 : errno;
+    if (error == 0)
+        error = send_packed(proxy, opcode, &packed, arguments, made);
+    packed_end(&packed, error == 0);
+    if (error == 0 || proxy->display->last_error != 0)
         return;
     if (packed.fault[0])
         log_line("error marshalling arguments for %s (signature %s): %s\n", message->name, message->signature,
