@@ -19,11 +19,8 @@ typedef nb_status table_merge(void *session, const nb_table *rows, nb_extension_
 struct table {
     table_merge *merge;
     void *session;
-    struct table_row *rows; /* those from NB_INTERFACE_FIRST on */
-    uint32_t count, room;
-    const struct wl_interface **keys; /* a hash of the structs that were named; an empty place is NULL */
-    uint32_t *numbers;
-    uint32_t key_count, key_room;
+    struct wl_array rows; /* those from NB_INTERFACE_FIRST on */
+    struct wl_array keys; /* the structs that were named, with their numbers */
     bool is_of_client;
 };
 

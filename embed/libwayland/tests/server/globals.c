@@ -136,6 +136,23 @@ static void two_structs(int which)
     show();
 }
 
+/* Another struct of the same messages, of which one has a null, or an object of any interface, that the first forbids. */
+static void laxer_struct(int which)
+{
+    static const struct wl_interface *of_any[20];
+    static struct wl_message requests[THING_REQUESTS];
+    struct wl_interface laxer = thing_interface;
+    memcpy(requests, thing_interface.methods, sizeof requests);
+    if (which == 0)
+        requests[THING_STRINGS].signature = "?s?s";
+    else
+        requests[THING_OBJECTS].types = of_any;
+    laxer.methods = requests;
+    begin();
+    struct wl_global *second = wl_global_create(display, &laxer, 5, "second", bind_part);
+    printf("  a second struct: %s\n", second ? "taken" : "refused");
+}
+
 static const struct wl_message longer_requests[] = {
     { "destroy", "", NULL }, { "number", "i", NULL }, { "late", "2i", NULL }, { "more", "i", NULL }
 };
@@ -295,6 +312,7 @@ const struct test global_tests[] = {
     { "sync-serial", sync_serial, 0 },  { "sync-serial", sync_serial, 3 },
     { "two-structs", two_structs, 0 },  { "two-structs", two_structs, 1 }, { "two-structs", two_structs, 2 },
     { "longer-struct", longer_struct, 0 }, { "longer-struct", longer_struct, 1 },
+    { "laxer-struct", laxer_struct, 0 }, { "laxer-struct", laxer_struct, 1 },
     { "filter", filtered, 0 },          { "filter", filtered, 1 },         { "filter", filtered, 2 },
     { "filter", filtered, 3 },          { "filter-changed", filter_changed, 0 },
     { "filter-changed", filter_changed, 1 }, { "filter-changed", filter_changed, 2 },
