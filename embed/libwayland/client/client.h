@@ -52,11 +52,6 @@ static inline struct wl_proxy *proxy_of(struct wl_object *object)
     return CONTAINER(object, struct wl_proxy, object);
 }
 
-static inline struct wl_proxy *proxy_of_data(uint64_t data)
-{
-    return (struct wl_proxy *)(uintptr_t)data;
-}
-
 static inline void set_id(struct wl_proxy *proxy, const nb_object_id *id)
 {
     proxy->id = *id;
@@ -101,7 +96,6 @@ struct wl_display {
     size_t unsent, most_unsent; /* bytes that wait to be sent, and how many may; 0 is no limit */
     size_t send_above;          /* what waits is sent by itself before it is more than this */
     uint32_t unsent_descriptors;
-    bool is_full; /* the socket took no more */
     int socket;
     int last_error;  /* what the program is told */
     bool has_failed; /* the session has an error */
@@ -114,5 +108,80 @@ struct wl_display {
 
 /* Whether WAYLAND_DEBUG asks for a log. */
 extern bool is_logging;
+
+/* ======== proxy.c */
+
+/* A proxy without a number, in the queue of its factory. NULL, with errno, if there is no memory or the interface has
+ * no place in the session's table. */
+struct wl_proxy *proxy_new_locked(struct wl_proxy *factory, const struct wl_interface *interface, uint32_t version);
+
+/* The proxy of an object of the session; NULL if the program has none, or has destroyed it. */
+struct wl_proxy *proxy_of_id_locked(struct wl_display *display, const nb_object_id *id);
+
+/* What the queues say of it: its queue, and whether the program has destroyed it. */
+nb_queued_object proxy_state_locked(const struct wl_proxy *proxy);
+
+/* The program has destroyed it. Its memory goes with the next free_unused_locked that finds it unused. */
+void proxy_destroy_locked(struct wl_proxy *proxy);
+
+/* The session keeps a note of each object that is gone. Nobody needs it here. */
+void drop_notes_locked(struct wl_display *display);
+
+/* Frees all proxies that are unused. */
+void free_unused_locked(struct wl_display *display);
+
+/* ======== event.c */
+
+/* Puts the event that the session handed out into the queue of the object in this slot. What it makes gets its proxy
+ * here. The error if it is malformed or there is no memory; its descriptors are closed then. */
+int put_event_locked(struct wl_proxy *sender, size_t slot, const nb_event *from, const nb_argument *arguments);
+
+/* Takes the first event out of the queue: it is in hand then, or dropped. Its objects that were destroyed are NULL, but
+ * for the sender. NULL if none waits, or if there is no memory, with which the display fails. */
+struct event *event_take_locked(struct wl_display *display, size_t queue);
+
+/* Ends an event that was taken. What the program was not told of is closed and destroyed. */
+void event_end_locked(struct wl_display *display, struct event *event);
+
+/* Hands an event to the listener or dispatcher of its sender, if there is one: what the event has is the program's then.
+ * The lock is given up meanwhile; the event keeps its objects. */
+void event_dispatch_locked(struct wl_display *display, struct event *event);
+
+void print_event(const char *before, const struct event *event);
+
+/* ======== reading.c */
+
+/* Receives once, and puts the events of all whole messages into their queues. The error; EAGAIN if nothing is there. */
+int receive_locked(struct wl_display *display);
+
+/* Closes the descriptors that the session had and will not hand out. */
+void close_dropped_locked(struct wl_display *display);
+
+/* Closes the descriptors that came and no message has taken. */
+void close_held_locked(struct wl_display *display);
+
+/* Ends the session, so that it keeps nothing any more of what is sent. What came before is thrown away. */
+void end_session_locked(struct wl_display *display);
+
+/* ======== connection.c, and empty_locked in queue.c */
+
+/* Sends what waits before this much is added, if it would be more than libwayland keeps. The error if the connection
+ * cannot go on. */
+int make_room_locked(struct wl_display *display, size_t bytes, uint32_t descriptors);
+
+/* The display has this error from now on, if it has none. Nothing more is read or sent, and who waits is woken. */
+void fail_locked(struct wl_display *display, int error);
+
+/* The server's error is handed out: the program is told. */
+void take_error_locked(struct wl_display *display, const struct event *event);
+
+/* Ends all events that wait in a queue that is dropped, or after the display has failed. */
+void empty_locked(struct wl_display *display, size_t queue);
+
+/* What a call answers: -1 with errno, if there is an error, or the count. */
+int answer(int error, int count);
+
+/* Gives up the lock. A display that is closed goes with the last proxy and queue that the program has of it. */
+void unlock(struct wl_display *display);
 
 #endif

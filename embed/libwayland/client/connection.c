@@ -1,12 +1,9 @@
 /* The connection of a display: how it begins and ends, what is sent, and its error. It touches the socket, the
  * environment, and all that a display has. */
-#include "connection.h"
+#include "client.h"
 #include "../../socket.h"
 #include "../common/log.h"
 #include "../common/print.h"
-#include "event.h"
-#include "proxy.h"
-#include "reading.h"
 #include <errno.h>
 #include <fcntl.h>
 #include <stdlib.h>
@@ -19,12 +16,14 @@ bool is_logging;
 
 /* ======== Sending */
 
-/* Sends as much as the socket takes, and counts the bytes. The error; EAGAIN if some still waits. */
-static int send_all(struct wl_display *display, int *sent)
+/* Sends as much as the socket takes, and counts the bytes. The error; EAGAIN if some still waits. While the socket is full
+ * it is tried again whenever as much more waits as libwayland keeps. */
+static int send_waiting_locked(struct wl_display *display, int *sent)
 {
     uint8_t bytes[LIBWAYLAND_ROOM];
     int32_t descriptors[NB_MOST_DESCRIPTORS];
     nb_counts counts;
+    display->send_above = LIBWAYLAND_ROOM;
     for (;;) {
         if (nb_client_flush(&display->session) == NB_OUT_OF_MEMORY)
             return ENOMEM;
@@ -33,6 +32,8 @@ static int send_all(struct wl_display *display, int *sent)
         if (status != NB_OK || counts.bytes == 0)
             return 0;
         ssize_t taken = socket_send(display->socket, bytes, counts.bytes, descriptors, counts.descriptors);
+        if (taken == -EAGAIN)
+            display->send_above += display->unsent;
         if (taken < 0)
             return (int)-taken;
         nb_client_sent(&display->session, (uint32_t)taken);
@@ -43,32 +44,20 @@ static int send_all(struct wl_display *display, int *sent)
     }
 }
 
-/* While the socket is full it is tried again whenever as much more waits as libwayland keeps. */
-static int send_waiting_locked(struct wl_display *display, int *sent)
-{
-    const int error = send_all(display, sent);
-    display->is_full = error == EAGAIN;
-    display->send_above = display->is_full ? display->unsent + LIBWAYLAND_ROOM : LIBWAYLAND_ROOM;
-    return error;
-}
-
-static bool is_too_much(const struct wl_display *display, size_t bytes)
-{
-    return display->most_unsent > 0 && display->unsent + bytes > display->most_unsent;
-}
-
 /* A server that does not read is no error: what it does not take waits, up to the limit that the program has set. */
 int make_room_locked(struct wl_display *display, size_t bytes, uint32_t descriptors)
 {
-    bool has_many = !display->is_full && display->unsent_descriptors + descriptors > NB_MOST_DESCRIPTORS;
+    const size_t wanted = display->unsent + bytes, most = display->most_unsent > 0 ? display->most_unsent : SIZE_MAX;
+    const bool is_full = display->send_above > LIBWAYLAND_ROOM;
+    const bool has_many = !is_full && display->unsent_descriptors + descriptors > NB_MOST_DESCRIPTORS;
     int sent = 0;
     if (display->has_failed || display->unsent == 0 ||
-        (display->unsent + bytes <= display->send_above && !has_many && !is_too_much(display, bytes)))
+        (wanted <= display->send_above && wanted <= most && !has_many))
         return 0;
     const int error = send_waiting_locked(display, &sent);
     if (error != 0 && error != EAGAIN)
         return error;
-    return display->unsent > 0 && is_too_much(display, bytes) ? E2BIG : 0;
+    return display->unsent > 0 && display->unsent + bytes > most ? E2BIG : 0;
 }
 
 EXPORT int wl_display_flush(struct wl_display *display)
@@ -83,10 +72,7 @@ EXPORT int wl_display_flush(struct wl_display *display)
             fail_locked(display, error);
     }
     pthread_mutex_unlock(&display->lock);
-    if (error == 0)
-        return sent;
-    errno = error;
-    return -1;
+    return answer(error, sent);
 }
 
 /* Newer than the headers of 1.21. */
@@ -101,6 +87,14 @@ EXPORT void wl_display_set_max_buffer_size(struct wl_display *display, size_t ma
 
 /* ======== Errors */
 
+int answer(int error, int count)
+{
+    if (error == 0)
+        return count;
+    errno = error;
+    return -1;
+}
+
 void fail_locked(struct wl_display *display, int error)
 {
     if (display->last_error != 0)
@@ -111,19 +105,12 @@ void fail_locked(struct wl_display *display, int error)
     pthread_cond_broadcast(&display->was_read);
 }
 
-static int errno_of_code(uint32_t code)
-{
-    switch (code) {
-    case WL_DISPLAY_ERROR_INVALID_OBJECT:
-    case WL_DISPLAY_ERROR_INVALID_METHOD: return EINVAL;
-    case WL_DISPLAY_ERROR_NO_MEMORY: return ENOMEM;
-    case WL_DISPLAY_ERROR_IMPLEMENTATION: return EPROTO;
-    default: return EFAULT;
-    }
-}
-
 void take_error_locked(struct wl_display *display, const struct event *event)
 {
+    static const int errors[] = { [WL_DISPLAY_ERROR_INVALID_OBJECT] = EINVAL,
+                                  [WL_DISPLAY_ERROR_INVALID_METHOD] = EINVAL,
+                                  [WL_DISPLAY_ERROR_NO_MEMORY] = ENOMEM,
+                                  [WL_DISPLAY_ERROR_IMPLEMENTATION] = EPROTO };
     const struct wl_object *object = event->arguments[0].o;
     const uint32_t code = event->arguments[1].u;
     const char *text = event->arguments[2].s;
@@ -136,7 +123,8 @@ void take_error_locked(struct wl_display *display, const struct event *event)
     display->protocol_error.code = code;
     display->protocol_error.id = object ? object->id : 0;
     display->protocol_error.interface = object ? object->interface : NULL;
-    fail_locked(display, object == &display->proxy.object ? errno_of_code(code) : EPROTO);
+    const int of_display = code < sizeof errors / sizeof *errors ? errors[code] : EFAULT;
+    fail_locked(display, object == &display->proxy.object ? of_display : EPROTO);
 }
 
 EXPORT int wl_display_get_error(struct wl_display *display)
@@ -162,48 +150,32 @@ EXPORT uint32_t wl_display_get_protocol_error(struct wl_display *display, const 
 
 /* ======== Connecting */
 
-/* The address of a name in $XDG_RUNTIME_DIR, or of a path. -1 with errno. */
-static int find_socket(const char *name, struct sockaddr_un *address, socklen_t *length)
+/* Connects to a name in $XDG_RUNTIME_DIR, or to a path. -1 with errno. */
+static int connect_to(const char *name)
 {
-    const char *folder = getenv("XDG_RUNTIME_DIR");
+    struct sockaddr_un address = { .sun_family = AF_UNIX };
+    const size_t room = sizeof address.sun_path;
+    const char *folder = getenv("XDG_RUNTIME_DIR"), *between = "/";
     if (!name)
         name = getenv("WAYLAND_DISPLAY");
     if (!name)
         name = "wayland-0";
-    bool is_path = name[0] == '/';
-    if (!is_path && (!folder || folder[0] != '/')) {
+    if (name[0] == '/')
+        folder = between = "";
+    else if (!folder || folder[0] != '/') {
         log_line("error: XDG_RUNTIME_DIR is invalid or not set in the environment.\n");
-        errno = ENOENT;
-        return -1;
+        return answer(ENOENT, -1);
     }
-    memset(address, 0, sizeof *address);
-    address->sun_family = AF_UNIX;
-    int size = snprintf(address->sun_path, sizeof address->sun_path, "%s%s%s", is_path ? "" : folder,
-                        is_path ? "" : "/", name);
-    if (size < 0 || (size_t)size >= sizeof address->sun_path) {
-        log_line("error: socket path \"%s%s%s\" plus null terminator exceeds %zu bytes\n", is_path ? "" : folder,
-                 is_path ? "" : "/", name, sizeof address->sun_path);
-        errno = ENAMETOOLONG;
-        return -1;
+    if ((size_t)snprintf(address.sun_path, room, "%s%s%s", folder, between, name) >= room) {
+        log_line("error: socket path \"%s%s%s\" plus null terminator exceeds %zu bytes\n", folder, between, name, room);
+        return answer(ENAMETOOLONG, -1);
     }
-    *length = (socklen_t)(offsetof(struct sockaddr_un, sun_path) + (size_t)size + 1);
-    return 0;
-}
-
-static int connect_to(const char *name)
-{
-    struct sockaddr_un address;
-    socklen_t length;
-    if (find_socket(name, &address, &length) < 0)
-        return -1;
     int connection = socket(AF_UNIX, SOCK_STREAM | SOCK_CLOEXEC, 0);
-    if (connection >= 0 && connect(connection, (struct sockaddr *)&address, length) < 0) {
-        int error = errno;
-        close(connection);
-        errno = error;
-        return -1;
-    }
-    return connection;
+    if (connection < 0 || connect(connection, (struct sockaddr *)&address, sizeof address) == 0)
+        return connection;
+    int error = errno;
+    close(connection);
+    return answer(error, -1);
 }
 
 /* The descriptor that WAYLAND_SOCKET names. No program that this one starts may take it, too. */
@@ -237,33 +209,24 @@ static nb_status merge(void *session, const nb_table *rows, nb_extension_fault *
 /* Its events are handled here. A program that looks sees a listener, and cannot add another one. */
 static const struct wl_display_listener own_listener;
 
-/* Neither its own proxy nor the object of its errors is among `slots`: they go with the display. */
-static bool begin_queues(struct wl_display *display)
-{
-    display->proxy.object.implementation = &own_listener;
-    display->proxy.user_data = display;
-    display->proxy.display = display->default_queue.display = display;
-    wl_list_init(&display->made_queues);
-    return nb_queues_start(&display->queues) == NB_OK &&
-           nb_queues_add(&display->queues, display->default_queue.number, &display->proxy.slot) == NB_OK &&
-           nb_queues_new_queue(&display->queues, &display->own_queue) == NB_OK &&
-           nb_queues_add(&display->queues, display->own_queue, &display->errors) == NB_OK;
-}
-
-/* Object 1 is there from the start. */
-static bool begin_session(struct wl_display *display)
+/* Neither its own proxy nor the object of its errors is among `slots`: they go with the display. Object 1 is there from
+ * the start. */
+static bool begin(struct wl_display *display)
 {
     const nb_table nothing = { 0 };
     nb_table_fault fault;
     nb_object_id id;
-    if (nb_client_start(&display->session, &nothing, &fault) != NB_OK)
+    if (nb_queues_start(&display->queues) != NB_OK ||
+        nb_queues_add(&display->queues, display->default_queue.number, &display->proxy.slot) != NB_OK ||
+        nb_queues_new_queue(&display->queues, &display->own_queue) != NB_OK ||
+        nb_queues_add(&display->queues, display->own_queue, &display->errors) != NB_OK ||
+        nb_client_start(&display->session, &nothing, &fault) != NB_OK)
         return false;
     nb_client_set_room(&display->session, LIBWAYLAND_ROOM);
     nb_client_pass_over_unknown_senders(&display->session, 1);
     nb_client_display(&display->session, &id);
     nb_client_set_object_data(&display->session, &id, (uintptr_t)&display->proxy);
     set_id(&display->proxy, &id);
-    display->proxy.object.interface = &wl_display_interface;
     return true;
 }
 
@@ -279,11 +242,16 @@ EXPORT struct wl_display *wl_display_connect_to_fd(int fd)
     }
     display->socket = fd;
     display->send_above = LIBWAYLAND_ROOM;
+    display->proxy.object.interface = &wl_display_interface;
+    display->proxy.object.implementation = &own_listener;
+    display->proxy.user_data = display;
+    display->proxy.display = display->default_queue.display = display;
+    wl_list_init(&display->made_queues);
     pthread_mutex_init(&display->lock, NULL);
     pthread_cond_init(&display->was_read, NULL);
     table_begin(&display->table, merge, &display->session);
     display->table.is_of_client = true;
-    if (begin_queues(display) && begin_session(display))
+    if (begin(display))
         return display;
     wl_display_disconnect(display);
     errno = ENOMEM;
@@ -316,7 +284,7 @@ EXPORT void wl_display_disconnect(struct wl_display *display)
     empty_locked(display, display->own_queue);
     nb_client_end(&display->session);
     table_end(&display->table);
-    close_all(display->descriptors.data, display->descriptors.size / sizeof(int32_t));
+    close_held_locked(display);
     free(display->descriptors.data);
     free(display->input.data);
     free(display->text.data);

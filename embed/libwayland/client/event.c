@@ -1,13 +1,12 @@
 /* Events between their reading and the listener. It touches the memory of events, puts them into the queues and takes
- * them out, and closes the descriptors of those that the program is not told of. */
-#include "event.h"
+ * them out, closes the descriptors of those that the program is not told of, and calls listeners, for which it gives up
+ * the lock. */
+#include "client.h"
 #include "../common/arguments.h"
 #include "../common/call.h"
 #include "../common/log.h"
 #include "../common/print.h"
 #include "../common/signature.h"
-#include "connection.h"
-#include "proxy.h"
 #include <errno.h>
 #include <stdlib.h>
 #include <string.h>
@@ -50,24 +49,18 @@ static int refuse(const char *why, const struct wl_message *message)
     return EINVAL;
 }
 
-static bool is_of_type(const struct wl_proxy *proxy, const struct wl_interface *type)
-{
-    return !type || proxy->object.interface == type || strcmp(proxy->object.interface->name, type->name) == 0;
-}
-
 /* One that the program has destroyed is NULL, whatever the message says of null. */
 static int fill_object(struct event *event, uint32_t i, const nb_argument *from, const struct wl_interface *type)
 {
-    struct wl_proxy *proxy = proxy_of_data(from->data);
+    struct wl_proxy *proxy = proxy_of_id_locked(event->sender->display, &from->object);
     if (from->object.number == 0 && !signature_is_nullable(event->message->signature, i))
         return refuse("NULL object received on non-nullable type", event->message);
-    if (proxy && !is_of_type(proxy, type)) {
-        log_line("invalid object (%u), type (%s), message %s(%s)\n", proxy->object.id, proxy->object.interface->name,
-                 event->message->name, event->message->signature);
-        return EINVAL;
-    }
     event->arguments[i].o = proxy ? &proxy->object : NULL;
-    return 0;
+    if (!proxy || !type || proxy->object.interface == type || strcmp(proxy->object.interface->name, type->name) == 0)
+        return 0;
+    log_line("invalid object (%u), type (%s), message %s(%s)\n", proxy->object.id, proxy->object.interface->name,
+             event->message->name, event->message->signature);
+    return EINVAL;
 }
 
 static int fill_new(struct event *event, uint32_t i, const nb_argument *from, const struct wl_interface *type)
@@ -178,7 +171,7 @@ struct event *event_take_locked(struct wl_display *display, size_t queue)
     event->ticket = next.ticket;
     event->is_dropped = next.outcome != NB_HANDED;
     for (uint32_t i = 0; i < event->count; i++)
-        if (is_object(event, i) && !proxy_is_alive_locked(proxy_of(event->arguments[i].o)))
+        if (is_object(event, i) && proxy_state_locked(proxy_of(event->arguments[i].o)).fate != NB_SLOT_ALIVE)
             event->arguments[i].o = NULL;
     return event;
 }
@@ -194,20 +187,13 @@ void event_end_locked(struct wl_display *display, struct event *event)
     free_unused_locked(display);
 }
 
-void event_told_locked(struct event *event)
+void print_event(const char *before, const struct event *event)
 {
-    event->is_told = true;
-    for (uint32_t i = 0; i < event->count; i++)
-        if (is_object(event, i))
-            proxy_of(event->arguments[i].o)->is_untold = false;
+    print_message(before, &event->sender->object, event->message, event->arguments, true);
 }
 
-static bool is_number(uint8_t kind)
-{
-    return kind == NB_INT || kind == NB_UINT || kind == NB_FIXED || kind == NB_DESCRIPTOR;
-}
-
-void hand_out(struct event *event, wl_dispatcher_func_t dispatcher, const void *implementation)
+/* Calls the listener or dispatcher. A number is the low half of its word. */
+static void hand_out(struct event *event, wl_dispatcher_func_t dispatcher, const void *implementation)
 {
     struct wl_proxy *proxy = event->sender;
     if (dispatcher) {
@@ -217,15 +203,27 @@ void hand_out(struct event *event, wl_dispatcher_func_t dispatcher, const void *
     void (*const *listener)(void) = implementation;
     if (!listener[event->opcode])
         log_and_abort("listener function for opcode %u of %s is NULL\n", event->opcode, proxy->object.interface->name);
-    const uintptr_t first[FEW_WORDS] = { (uintptr_t)proxy->user_data, (uintptr_t)proxy };
-    uintptr_t words[MOST_WORDS];
-    memcpy(words, first, sizeof first);
-    for (uint32_t i = 0; i < event->count; i++)
-        words[i + 2] = is_number(event->kinds[i]) ? event->arguments[i].u : (uintptr_t)event->arguments[i].s;
+    _Static_assert(sizeof(union wl_argument) == sizeof(uintptr_t), "an argument has one word");
+    uintptr_t words[MOST_WORDS] = { (uintptr_t)proxy->user_data, (uintptr_t)proxy };
+    memcpy(words + 2, event->arguments, event->count * sizeof *words);
     call_words(listener[event->opcode], words, event->count + 2);
 }
 
-void print_event(const char *before, const struct event *event)
+void event_dispatch_locked(struct wl_display *display, struct event *event)
 {
-    print_message(before, &event->sender->object, event->message, event->arguments, true);
+    wl_dispatcher_func_t dispatcher = event->sender->dispatcher;
+    const void *implementation = event->sender->object.implementation;
+    if (event->is_dropped && is_logging)
+        print_event("discarded ", event);
+    if (event->is_dropped || (!dispatcher && !implementation))
+        return;
+    event->is_told = true;
+    for (uint32_t i = 0; i < event->count; i++)
+        if (is_object(event, i))
+            proxy_of(event->arguments[i].o)->is_untold = false;
+    pthread_mutex_unlock(&display->lock);
+    if (is_logging)
+        print_event("", event);
+    hand_out(event, dispatcher, implementation);
+    pthread_mutex_lock(&display->lock);
 }

@@ -6,25 +6,26 @@
  * interfaces do not say which events end an object: so mostly delete_id is read while the program still has the object
  * (a frame's wp_presentation_feedback, ..). The session remembers that, and nb_client_reclaim frees the number when the
  * object is destroyed. */
-#include "proxy.h"
+#include "client.h"
 #include "../common/log.h"
-#include "connection.h"
 #include <errno.h>
 #include <stdlib.h>
 #include <string.h>
 
 /* ======== Making and destroying */
 
-static nb_queued_object object_of_locked(const struct wl_proxy *proxy)
+struct wl_proxy *proxy_of_id_locked(struct wl_display *display, const nb_object_id *id)
+{
+    uint64_t data = 0;
+    nb_client_object_data(&display->session, id, &data);
+    return (struct wl_proxy *)(uintptr_t)data;
+}
+
+nb_queued_object proxy_state_locked(const struct wl_proxy *proxy)
 {
     nb_queued_object object = { 0, NB_SLOT_FREE };
     nb_queues_object(&proxy->display->queues, proxy->slot, &object);
     return object;
-}
-
-bool proxy_is_alive_locked(const struct wl_proxy *proxy)
-{
-    return object_of_locked(proxy).fate == NB_SLOT_ALIVE;
 }
 
 /* Where the slot's proxy stands; NULL if there is no place and no memory. */
@@ -46,7 +47,7 @@ static struct wl_proxy *proxy_beside_locked(const struct wl_proxy *other)
 {
     struct wl_display *display = other->display;
     size_t slot;
-    if (nb_queues_add(&display->queues, object_of_locked(other).queue, &slot) == NB_OK) {
+    if (nb_queues_add(&display->queues, proxy_state_locked(other).queue, &slot) == NB_OK) {
         struct wl_proxy **place = place_of_locked(display, slot);
         if (place && (*place = calloc(1, sizeof **place))) {
             display->proxy_count++;
@@ -64,11 +65,13 @@ static struct wl_proxy *proxy_beside_locked(const struct wl_proxy *other)
 struct wl_proxy *proxy_new_locked(struct wl_proxy *factory, const struct wl_interface *interface, uint32_t version)
 {
     struct wl_display *display = factory->display;
+    const int before = errno;
     errno = EINVAL; /* of an interface that has no place; what finds no memory sets another one */
     uint32_t row = display->is_closed ? 0 : table_number(&display->table, interface);
     struct wl_proxy *proxy = row != 0 ? proxy_beside_locked(factory) : NULL;
     if (!proxy)
         return NULL;
+    errno = before;
     proxy->object.interface = interface;
     proxy->version = version;
     proxy->id.interface = row;
@@ -256,7 +259,7 @@ EXPORT struct wl_event_queue *wl_proxy_get_queue(const struct wl_proxy *proxy)
     struct wl_display *display = proxy->display;
     struct wl_event_queue *queue, *found = &display->default_queue;
     pthread_mutex_lock(&display->lock);
-    const size_t number = object_of_locked(proxy).queue;
+    const size_t number = proxy_state_locked(proxy).queue;
     wl_list_for_each(queue, &display->made_queues, link) if (queue->number == number) found = queue;
     pthread_mutex_unlock(&display->lock);
     return found;

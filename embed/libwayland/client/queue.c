@@ -1,12 +1,9 @@
-/* Event queues as programs have them: dispatching, and who reads. It touches queues, and calls listeners, for which it
- * gives up the lock.
+/* Event queues as programs have them: dispatching, and who reads. It touches queues, waits for the socket, and gives up
+ * the lock meanwhile.
  *
  * A queue is freed when the program destroys it. Who dispatches it has its number, by which nb_queues_next_of tells
  * that it is empty from then on; and its proxies have the default queue. */
-#include "connection.h"
-#include "event.h"
-#include "proxy.h"
-#include "reading.h"
+#include "client.h"
 #include <errno.h>
 #include <poll.h>
 #include <stdatomic.h>
@@ -26,17 +23,16 @@ int wl_display_dispatch_queue_timeout(struct wl_display *display, struct wl_even
 EXPORT struct wl_event_queue *wl_display_create_queue_with_name(struct wl_display *display, const char *name)
 {
     struct wl_event_queue *queue = calloc(1, sizeof *queue);
-    if (!queue || (name && !(queue->name = strdup(name)))) {
-        free(queue);
+    if (!queue)
         return NULL;
-    }
     queue->display = display;
     pthread_mutex_lock(&display->lock);
-    const nb_status status = nb_queues_new_queue(&display->queues, &queue->number);
-    if (status == NB_OK)
+    const bool is_well = (!name || (queue->name = strdup(name))) &&
+                         nb_queues_new_queue(&display->queues, &queue->number) == NB_OK;
+    if (is_well)
         wl_list_insert(&display->made_queues, &queue->link);
     pthread_mutex_unlock(&display->lock);
-    if (status == NB_OK)
+    if (is_well)
         return queue;
     free(queue->name);
     free(queue);
@@ -75,23 +71,6 @@ EXPORT void wl_event_queue_destroy(struct wl_event_queue *queue)
 
 /* ======== Dispatching */
 
-/* Hands an event to its listener. The lock is given up meanwhile; the event keeps its objects. */
-static void dispatch_event_locked(struct wl_display *display, struct event *event)
-{
-    wl_dispatcher_func_t dispatcher = event->sender->dispatcher;
-    const void *implementation = event->sender->object.implementation;
-    if (event->is_dropped && is_logging)
-        print_event("discarded ", event);
-    if (event->is_dropped || (!dispatcher && !implementation))
-        return;
-    event_told_locked(event);
-    pthread_mutex_unlock(&display->lock);
-    if (is_logging)
-        print_event("", event);
-    hand_out(event, dispatcher, implementation);
-    pthread_mutex_lock(&display->lock);
-}
-
 /* How many events were handed out or dropped, until none waits or the display has an error. */
 static int dispatch_all_locked(struct wl_display *display, size_t queue)
 {
@@ -101,21 +80,18 @@ static int dispatch_all_locked(struct wl_display *display, size_t queue)
         if (event->sender == &display->proxy)
             take_error_locked(display, event);
         else
-            dispatch_event_locked(display, event);
+            event_dispatch_locked(display, event);
         event_end_locked(display, event);
     }
     return count;
 }
 
-/* -1 with errno if the display has an error, and else the count. */
+/* Gives up the lock. -1 with errno if the display has an error, and else the count. */
 static int answer_locked(struct wl_display *display, int count)
 {
     const int error = display->last_error;
     pthread_mutex_unlock(&display->lock);
-    if (error == 0)
-        return count;
-    errno = error;
-    return -1;
+    return answer(error, count);
 }
 
 EXPORT int wl_display_dispatch_queue_pending(struct wl_display *display, struct wl_event_queue *queue)
@@ -142,10 +118,7 @@ EXPORT int wl_display_prepare_read_queue(struct wl_display *display, struct wl_e
     nb_queues_has_events(&display->queues, queue->number, &has_events);
     const nb_status status = nb_readers_prepare(&display->readers, has_events);
     pthread_mutex_unlock(&display->lock);
-    if (status == NB_OK)
-        return 0;
-    errno = EAGAIN;
-    return -1;
+    return answer(status == NB_OK ? 0 : EAGAIN, 0);
 }
 
 EXPORT int wl_display_prepare_read(struct wl_display *display)
@@ -168,13 +141,6 @@ EXPORT void wl_display_cancel_read(struct wl_display *display)
     pthread_mutex_unlock(&display->lock);
 }
 
-static bool is_same_turn_locked(const struct wl_display *display, const nb_turn *turn)
-{
-    uint64_t ended = turn->ended;
-    nb_readers_ended(&display->readers, &ended);
-    return ended == turn->ended && display->last_error == 0;
-}
-
 /* Reads as the last of those that have prepared, or waits until that one has read. */
 static void read_or_wait_locked(struct wl_display *display)
 {
@@ -188,8 +154,11 @@ static void read_or_wait_locked(struct wl_display *display)
         nb_readers_end(&display->readers);
         pthread_cond_broadcast(&display->was_read);
     }
-    while (!turn.reads && is_same_turn_locked(display, &turn))
+    uint64_t ended = turn.ended;
+    while (!turn.reads && ended == turn.ended && display->last_error == 0) {
         pthread_cond_wait(&display->was_read, &display->lock);
+        nb_readers_ended(&display->readers, &ended);
+    }
 }
 
 EXPORT int wl_display_read_events(struct wl_display *display)
@@ -204,42 +173,32 @@ EXPORT int wl_display_read_events(struct wl_display *display)
 
 /* ======== Waiting */
 
-static struct timespec sum(struct timespec one, struct timespec other)
+#define SECOND  INT64_C(1000000000)
+#define FOREVER INT64_MAX
+
+/* The time in nanoseconds. */
+static int64_t now(void)
 {
-    long nanoseconds = one.tv_nsec + other.tv_nsec;
-    one.tv_sec += other.tv_sec + nanoseconds / 1000000000;
-    one.tv_nsec = nanoseconds % 1000000000;
-    return one;
+    struct timespec time;
+    clock_gettime(CLOCK_MONOTONIC, &time);
+    return time.tv_sec * SECOND + time.tv_nsec;
 }
 
-/* How long it is until then; nothing if that has passed. */
-static struct timespec time_until(struct timespec end)
-{
-    struct timespec now;
-    clock_gettime(CLOCK_MONOTONIC, &now);
-    end.tv_sec -= now.tv_sec;
-    end.tv_nsec -= now.tv_nsec;
-    if (end.tv_nsec < 0) {
-        end.tv_sec--;
-        end.tv_nsec += 1000000000;
-    }
-    return end.tv_sec >= 0 ? end : (struct timespec){ 0, 0 };
-}
-
-/* Waits until the socket is ready; or until `end`, if it is not NULL, and then the answer is 0. */
-static int wait_until(struct wl_display *display, short events, const struct timespec *end)
+/* Waits until the socket is ready; or until this time, and then the answer is 0. */
+static int wait_until(struct wl_display *display, short events, int64_t end)
 {
     struct pollfd wait = { .fd = display->socket, .events = events };
-    int answer;
+    int ready;
     do {
-        struct timespec left = end ? time_until(*end) : (struct timespec){ 0, 0 };
-        answer = ppoll(&wait, 1, end ? &left : NULL, NULL);
-    } while (answer < 0 && errno == EINTR);
-    return answer;
+        const int64_t left = end == FOREVER ? FOREVER : end - now();
+        const struct timespec time = { left > 0 ? left / SECOND : 0, left > 0 ? left % SECOND : 0 };
+        ready = ppoll(&wait, 1, end == FOREVER ? NULL : &time, NULL);
+    } while (ready < 0 && errno == EINTR);
+    return ready;
 }
 
 /* Sends all that waits, and waits until something comes. Above 0 if something came; 0 if the time is over. */
-static int exchange_until(struct wl_display *display, const struct timespec *end)
+static int exchange_until(struct wl_display *display, int64_t end)
 {
     while (wl_display_flush(display) < 0) {
         if (errno == EPIPE)
@@ -251,7 +210,7 @@ static int exchange_until(struct wl_display *display, const struct timespec *end
     return wait_until(display, POLLIN, end);
 }
 
-static int dispatch_until(struct wl_display *display, struct wl_event_queue *queue, const struct timespec *end)
+static int dispatch_until(struct wl_display *display, struct wl_event_queue *queue, int64_t end)
 {
     if (wl_display_prepare_read_queue(display, queue) < 0)
         return wl_display_dispatch_queue_pending(display, queue);
@@ -259,8 +218,7 @@ static int dispatch_until(struct wl_display *display, struct wl_event_queue *que
     if (ready <= 0) {
         int error = errno;
         wl_display_cancel_read(display);
-        errno = error;
-        return ready;
+        return answer(ready < 0 ? error : 0, 0);
     }
     if (wl_display_read_events(display) < 0)
         return -1;
@@ -269,7 +227,7 @@ static int dispatch_until(struct wl_display *display, struct wl_event_queue *que
 
 EXPORT int wl_display_dispatch_queue(struct wl_display *display, struct wl_event_queue *queue)
 {
-    return dispatch_until(display, queue, NULL);
+    return dispatch_until(display, queue, FOREVER);
 }
 
 EXPORT int wl_display_dispatch(struct wl_display *display)
@@ -280,12 +238,9 @@ EXPORT int wl_display_dispatch(struct wl_display *display)
 EXPORT int wl_display_dispatch_queue_timeout(struct wl_display *display, struct wl_event_queue *queue,
                                              const struct timespec *timeout)
 {
-    struct timespec end;
-    if (!timeout)
-        return dispatch_until(display, queue, NULL);
-    clock_gettime(CLOCK_MONOTONIC, &end);
-    end = sum(end, *timeout);
-    return dispatch_until(display, queue, &end);
+    const bool ends = timeout && timeout->tv_sec < FOREVER / SECOND / 2;
+    const int64_t seconds = ends && timeout->tv_sec > 0 ? timeout->tv_sec : 0;
+    return dispatch_until(display, queue, ends ? now() + seconds * SECOND + timeout->tv_nsec : FOREVER);
 }
 
 EXPORT int wl_display_dispatch_timeout(struct wl_display *display, const struct timespec *timeout)

@@ -4,13 +4,11 @@
  * has not read. This file looks at the head of each message for three reasons: one whose descriptors did not come is an
  * error, as in libwayland; delete_id is counted and logged; and a log has a line for each message that the session
  * passes over or drops. */
-#include "reading.h"
+#include "client.h"
 #include "../../socket.h"
 #include "../common/arguments.h"
 #include "../common/log.h"
 #include "../common/print.h"
-#include "event.h"
-#include "proxy.h"
 #include <errno.h>
 #include <stdlib.h>
 #include <string.h>
@@ -22,13 +20,6 @@ enum {
 };
 
 /* ======== Events of the session */
-
-static struct wl_proxy *proxy_of_id_locked(struct wl_display *display, const nb_object_id *id)
-{
-    uint64_t data = 0;
-    nb_client_object_data(&display->session, id, &data);
-    return proxy_of_data(data);
-}
 
 static bool grow_text(struct wl_array *text, size_t wanted)
 {
@@ -45,19 +36,6 @@ static nb_status finish(struct wl_display *display, const nb_event *event)
     if (!made)
         nb_client_destroy_object(&display->session, &event->created);
     return nb_client_finish_event_with(&display->session, (uintptr_t)made, &is_kept);
-}
-
-static int take_event(struct wl_display *display, const nb_event *event, const nb_argument *arguments)
-{
-    struct wl_proxy *sender = proxy_of_data(event->data);
-    int error = 0;
-    if (sender)
-        error = put_event_locked(sender, sender->slot, event, arguments);
-    else
-        close_descriptors(arguments, event->arguments);
-    if (error != 0)
-        return error;
-    return finish(display, event) == NB_OK ? 0 : ENOMEM;
 }
 
 /* The session has an error. One that the server sent waits in the display's queue, as its events do. */
@@ -78,9 +56,8 @@ static int take_failure(struct wl_display *display)
     }
     nb_object_id id = { .number = error.object_number };
     nb_client_object_for_protocol_id(&display->session, error.object_number, &id);
-    nb_argument arguments[] = { nb_object(id), nb_uint(error.code), nb_string(0, error.message_length) };
+    const nb_argument arguments[] = { nb_object(id), nb_uint(error.code), nb_string(0, error.message_length) };
     const nb_event event = { .arguments = 3, .bytes = error.message_length + 1 };
-    arguments[0].data = (uintptr_t)proxy_of_id_locked(display, &id);
     return put_event_locked(&display->proxy, display->errors, &event, arguments);
 }
 
@@ -108,11 +85,16 @@ static int take_events(struct wl_display *display)
     nb_event event;
     nb_argument arguments[MOST_ARGUMENTS];
     nb_status status;
-    int error = 0;
-    while (error == 0 && (status = next_event(display, &event, arguments)) == NB_OK)
-        error = take_event(display, &event, arguments);
-    if (error != 0 || status == NB_WOULD_BLOCK)
-        return error;
+    while ((status = next_event(display, &event, arguments)) == NB_OK) {
+        struct wl_proxy *sender = proxy_of_id_locked(display, &event.sender);
+        if (!sender)
+            close_descriptors(arguments, event.arguments);
+        const int error = sender ? put_event_locked(sender, sender->slot, &event, arguments) : 0;
+        if (error != 0 || finish(display, &event) != NB_OK)
+            return error != 0 ? error : ENOMEM;
+    }
+    if (status == NB_WOULD_BLOCK)
+        return 0;
     return status == NB_FAILED ? take_failure(display) : ENOMEM;
 }
 
@@ -149,6 +131,12 @@ static bool read_head(const uint8_t *bytes, size_t left, struct head *head)
 static size_t held(const struct wl_display *display)
 {
     return display->descriptors.size / sizeof(int32_t);
+}
+
+void close_held_locked(struct wl_display *display)
+{
+    close_all(display->descriptors.data, held(display));
+    display->descriptors.size = 0;
 }
 
 /* Messages that are handed to the session together, and how many of the descriptors that came are theirs. */
@@ -216,28 +204,32 @@ static bool goes_on(const struct wl_display *display, const struct wl_proxy *sen
            !strchr(sender->object.interface->events[opcode].signature, 'n');
 }
 
-/* Adds a message to the run. If its sender is unknown, it takes no descriptor. */
+/* Adds a message to the run. If its sender is unknown, it takes no descriptor. One that is passed over the session never
+ * has: it lacks a descriptor, and its object is not there; or it frees a number of the server's, which means nothing. */
 static int take_message(struct wl_display *display, struct run *run, const struct head *head)
 {
     nb_object_id id = nb_null();
     nb_client_object_for_protocol_id(&display->session, head->sender, &id);
     const struct wl_proxy *sender = proxy_of_id_locked(display, &id);
     const uint32_t needed = table_event_descriptors(&display->table, id.interface, head->opcode);
+    const bool is_delete = head->sender == 1 && head->opcode == 1 && head->size == 12;
+    bool is_passed_over = is_delete && is_of_server(head->number);
     int error = 0;
     if (is_logging && !sender)
         print_thrown_away(word_for_missing(display, &id), head->sender, head->opcode, needed, head->size);
-    if (head->sender == 1 && head->opcode == 1 && head->size == 12)
+    if (is_delete)
         note_deleted(display, head->number);
-    if (run->descriptors + needed > held(display) || run->descriptors + needed > NB_MOST_DESCRIPTORS)
+    if (is_passed_over || run->descriptors + needed > held(display) || run->descriptors + needed > NB_MOST_DESCRIPTORS)
         error = feed(display, run);
+    if (error == 0 && needed > held(display)) {
+        is_passed_over = !sender;
+        error = sender ? lacks_descriptor(sender, head) : 0;
+        close_held_locked(display);
+    }
     if (error != 0)
         return error;
-    if (needed > held(display)) {
-        if (sender)
-            return lacks_descriptor(sender, head);
-        close_all(display->descriptors.data, held(display));
-        display->descriptors.size = 0;
-        run->bytes += head->size; /* it is passed over */
+    if (is_passed_over) {
+        run->bytes += head->size;
         return 0;
     }
     run->size += head->size;
@@ -250,12 +242,10 @@ static int keep_rest(struct wl_array *input, const uint8_t *rest, size_t size)
 {
     free(input->data);
     wl_array_init(input);
-    if (size == 0)
-        return 0;
-    if (!wl_array_add(input, size))
-        return ENOMEM;
-    memcpy(input->data, rest, size);
-    return 0;
+    void *kept = size > 0 ? wl_array_add(input, size) : NULL;
+    if (kept)
+        memcpy(kept, rest, size);
+    return kept || size == 0 ? 0 : ENOMEM;
 }
 
 /* Takes the whole messages out of what came, until the session has an error. */
@@ -275,18 +265,6 @@ static int take_input(struct wl_display *display, const uint8_t *bytes, size_t l
     return error;
 }
 
-/* Descriptors wait here for the messages that take them. A server that sends many more than that is broken. */
-static int keep_descriptors(struct wl_display *display, const int32_t *came, size_t count)
-{
-    const bool are_many = held(display) + count > MOST_HELD;
-    void *at = are_many ? NULL : wl_array_add(&display->descriptors, count * sizeof(int32_t));
-    if (at)
-        memcpy(at, came, count * sizeof(int32_t));
-    else
-        close_all(came, count);
-    return at ? 0 : are_many ? EOVERFLOW : ENOMEM;
-}
-
 /* How many bytes are looked at together: as many as libwayland does, or those of a message that is longer. */
 static size_t room_of(const struct wl_array *input)
 {
@@ -297,23 +275,26 @@ static size_t room_of(const struct wl_array *input)
     return word >> 16;
 }
 
-/* Receives behind what was kept, into memory of this size. */
+/* Receives behind what was kept, into memory of this size. Descriptors wait for the messages that take them: a server
+ * that sends many more than that is broken. */
 static int receive_into(struct wl_display *display, uint8_t *bytes, size_t room)
 {
     const size_t kept = display->input.size;
-    int32_t descriptors[NB_MOST_DESCRIPTORS];
     size_t count;
+    int32_t *descriptors = wl_array_add(&display->descriptors, NB_MOST_DESCRIPTORS * sizeof(int32_t));
+    if (!descriptors)
+        return ENOMEM;
     ssize_t came = socket_receive(display->socket, bytes + kept, room - kept, descriptors, &count);
+    display->descriptors.size -= (NB_MOST_DESCRIPTORS - count) * sizeof(int32_t);
     if (came <= 0)
         return came == 0 ? EPIPE : (int)-came;
     if (display->has_failed) { /* the program has not been told yet; what comes after that has no meaning */
-        close_all(descriptors, count);
+        close_held_locked(display);
         return 0;
     }
     if (kept > 0)
         memcpy(bytes, display->input.data, kept);
-    const int error = count > 0 ? keep_descriptors(display, descriptors, count) : 0;
-    return error != 0 ? error : take_input(display, bytes, kept + (size_t)came);
+    return held(display) > MOST_HELD ? EOVERFLOW : take_input(display, bytes, kept + (size_t)came);
 }
 
 int receive_locked(struct wl_display *display)

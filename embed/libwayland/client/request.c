@@ -1,12 +1,10 @@
 /* Requests: from the program's arguments to the session. It touches the arguments, and makes the proxy of what a
  * request makes. */
+#include "client.h"
 #include "../common/arguments.h"
 #include "../common/log.h"
 #include "../common/print.h"
 #include "../common/signature.h"
-#include "connection.h"
-#include "proxy.h"
-#include "reading.h"
 #include <errno.h>
 #include <stdarg.h>
 #include <string.h>
@@ -54,9 +52,11 @@ static void print_request(const struct wl_proxy *proxy, const struct wl_message 
 /* ======== Sending */
 
 /* Hands the request to the session. `made` gets the number of what it makes, if it makes something. */
-static int hand_over(struct wl_proxy *proxy, uint32_t opcode, const struct packed *packed, struct wl_proxy *made)
+static int hand_over(struct wl_proxy *proxy, uint32_t opcode, struct packed *packed,
+                     const union wl_argument *arguments, struct wl_proxy *made)
 {
     nb_object_id created;
+    add_ids(packed, arguments, &made);
     const bool is_bind = made && proxy->id.interface == NB_INTERFACE_REGISTRY;
     const nb_request request = { .sender = proxy->id,
                                  .opcode = opcode,
@@ -74,42 +74,33 @@ static int hand_over(struct wl_proxy *proxy, uint32_t opcode, const struct packe
     return 0;
 }
 
-static int send_packed(struct wl_proxy *proxy, uint32_t opcode, struct packed *packed, union wl_argument *arguments,
-                       struct wl_proxy *made)
-{
-    struct wl_display *display = proxy->display;
-    add_ids(packed, arguments, &made);
-    int error = packed->size > UINT16_MAX ? E2BIG : make_room_locked(display, packed->size, packed->descriptors);
-    if (error == 0)
-        error = hand_over(proxy, opcode, packed, made);
-    if (error != 0)
-        return error;
-    if (display->has_failed)
-        close_dropped_locked(display);
-    display->unsent += packed->size;
-    display->unsent_descriptors += packed->descriptors;
-    if (is_logging)
-        print_request(proxy, &proxy->object.interface->methods[opcode], arguments, packed);
-    return 0;
-}
-
 /* Sends a request. If it cannot be sent, the display fails. */
 static void send_locked(struct wl_proxy *proxy, uint32_t opcode, union wl_argument *arguments, struct wl_proxy *made)
 {
+    struct wl_display *display = proxy->display;
     const struct wl_message *message = &proxy->object.interface->methods[opcode];
     struct packed packed;
     put_made(message->signature, arguments, made);
     int error = pack(&packed, message->signature, arguments, true) ? 0 : errno;
     if (error == 0)
-        error = send_packed(proxy, opcode, &packed, arguments, made);
+        error = packed.size > UINT16_MAX ? E2BIG : make_room_locked(display, packed.size, packed.descriptors);
+    if (error == 0)
+        error = hand_over(proxy, opcode, &packed, arguments, made);
     packed_end(&packed, error == 0);
-    if (error == 0 || proxy->display->last_error != 0)
-        return;
-    if (packed.fault[0])
-        log_line("error marshalling arguments for %s (signature %s): %s\n", message->name, message->signature,
-                 packed.fault);
-    log_line("Error %s request: %s\n", packed.fault[0] ? "marshalling" : "sending", strerror(error));
-    fail_locked(proxy->display, error);
+    if (error == 0) {
+        if (display->has_failed)
+            close_dropped_locked(display);
+        display->unsent += packed.size;
+        display->unsent_descriptors += packed.descriptors;
+        if (is_logging)
+            print_request(proxy, message, arguments, &packed);
+    } else if (display->last_error == 0) {
+        if (packed.fault[0])
+            log_line("error marshalling arguments for %s (signature %s): %s\n", message->name, message->signature,
+                     packed.fault);
+        log_line("Error %s request: %s\n", packed.fault[0] ? "marshalling" : "sending", strerror(error));
+        fail_locked(display, error);
+    }
 }
 
 EXPORT struct wl_proxy *wl_proxy_marshal_array_flags(struct wl_proxy *proxy, uint32_t opcode,

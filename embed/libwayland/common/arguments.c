@@ -63,23 +63,21 @@ static bool fail(struct packed *packed, int error, const char *format, ...)
 static uint8_t *room_for(struct packed *to, size_t length)
 {
     uint8_t *into = to->many ? to->many : to->few;
-    if (!to->many && to->length + length > sizeof to->few) {
+    if (!to->many && to->length + length > sizeof to->few)
         into = to->many = malloc(NB_MOST_BYTES);
-        if (!into) {
-            fail(to, ENOMEM, "there is no memory");
-            return NULL;
-        }
-    }
+    if (!into)
+        return NULL;
     if (to->bytes != into)
         memcpy(into, to->bytes, to->length);
     to->bytes = into;
     return into + to->length;
 }
 
-/* A string or array that is alone is not copied. A message has its length and the zero that it ends in, if it does, and
- * is filled up to whole words. */
-static bool add_text(struct packed *to, const void *text, size_t length, size_t zero)
+/* Packs a string or an array: one that is alone is not copied. A message has its length and the zero that it ends in, if
+ * it does, and is filled up to whole words. */
+static bool pack_text(struct packed *to, const void *text, size_t length, bool is_string)
 {
+    const uint32_t at = (uint32_t)to->length;
     if (length > NB_MOST_BYTES - to->length)
         return fail(to, E2BIG, "it is longer than a message can be");
     if (to->length == 0)
@@ -87,29 +85,12 @@ static bool add_text(struct packed *to, const void *text, size_t length, size_t 
     else if (length > 0) {
         uint8_t *into = room_for(to, length);
         if (!into)
-            return false;
+            return fail(to, ENOMEM, "there is no memory");
         memcpy(into, text, length);
     }
+    to->arguments[to->count] = is_string ? nb_string(at, (uint32_t)length) : nb_array(at, (uint32_t)length);
     to->length += length;
-    to->size += 4 + ((length + zero + 3) & ~(size_t)3);
-    return true;
-}
-
-static bool pack_string(struct packed *to, nb_argument *slot, const char *text)
-{
-    const size_t at = to->length, length = strlen(text);
-    if (!add_text(to, text, length, 1))
-        return false;
-    *slot = nb_string((uint32_t)at, (uint32_t)length);
-    return true;
-}
-
-static bool pack_array(struct packed *to, nb_argument *slot, const struct wl_array *array)
-{
-    const size_t at = to->length;
-    if (!add_text(to, array->data, array->size, 0))
-        return false;
-    *slot = nb_array((uint32_t)at, (uint32_t)array->size);
+    to->size += 4 + ((length + is_string + 3) & ~(size_t)3);
     return true;
 }
 
@@ -147,8 +128,8 @@ static bool pack_one(struct packed *to, char letter, bool may_be_null, const uni
     if (is_pointer(letter) && !argument->o)
         return may_be_null ? pack_null(to, slot, letter) : fail(to, EINVAL, "null value passed for arg %u", to->count);
     switch (letter) {
-    case 's': return pack_string(to, slot, argument->s);
-    case 'a': return pack_array(to, slot, argument->a);
+    case 's': return pack_text(to, argument->s, strlen(argument->s), true);
+    case 'a': return pack_text(to, argument->a->data, argument->a->size, false);
     case 'o':
     case 'n': return pack_null(to, slot, letter);
     case 'h': return pack_descriptor(to, slot, argument->h);

@@ -2,7 +2,6 @@
 #include "log.h"
 #include <stdarg.h>
 #include <stdio.h>
-#include <stdlib.h>
 
 WL_PRINTF(1, 0) static void to_standard_error(const char *format, va_list list)
 {
@@ -17,13 +16,4 @@ void log_line(const char *format, ...)
     va_start(list, format);
     log_handler(format, list);
     va_end(list);
-}
-
-void log_and_abort(const char *format, ...)
-{
-    va_list list;
-    va_start(list, format);
-    log_handler(format, list);
-    va_end(list);
-    abort();
 }

@@ -2,6 +2,7 @@
 #ifndef LOG_H
 #define LOG_H
 
+#include <stdlib.h>
 #include <wayland-util.h>
 
 /* Whom the words go to: standard error, until the program sets another one. */
@@ -10,6 +11,6 @@ extern wl_log_func_t log_handler;
 void log_line(const char *format, ...) WL_PRINTF(1, 2);
 
 /* For what the program did that no call can mend. */
-_Noreturn void log_and_abort(const char *format, ...) WL_PRINTF(1, 2);
+#define log_and_abort(...) (log_line(__VA_ARGS__), abort())
 
 #endif

@@ -226,26 +226,23 @@ static bool add_row(const struct table *table, struct rows *rows, const struct k
     return append(&rows->text, name, row.name_length) && append(&rows->interfaces, &row, sizeof row);
 }
 
-/* Gives the struct a new row, without messages so far. Behind a name that rows before it have it has a number, which no
- * interface has: in a client's table alone there are such. */
+/* Gives the struct a new row, without messages so far. Behind a name that rows before it have stands its number, which
+ * no interface has there: in a client's table alone there are such. */
 static bool declare(struct table *table, struct key *key)
 {
     const char *name = key->interface->name;
     struct table_row row = { .length = strlen(name) };
     struct rows rows = { 0 };
     nb_extension_fault fault;
-    char behind[16] = "";
-    uint32_t namesakes = 0;
-    for (uint32_t number = NB_INTERFACE_FIRST; row_of(table, number); number++)
-        namesakes += is_named(row_of(table, number), name);
-    if (namesakes > 0 && !table->is_of_client) {
+    bool is_known = false;
+    key->number = NB_INTERFACE_FIRST + row_count(table);
+    for (uint32_t number = NB_INTERFACE_FIRST; number < key->number; number++)
+        is_known = is_known || is_named(row_of(table, number), name);
+    if (is_known && !table->is_of_client) {
         log_line("interface %s is there twice, with other messages\n", name);
         return false;
     }
-    if (namesakes > 0)
-        snprintf(behind, sizeof behind, "'%u", namesakes + 1);
-    key->number = NB_INTERFACE_FIRST + row_count(table);
-    if (asprintf(&row.name, "%s%s", name, behind) < 0)
+    if ((is_known ? asprintf(&row.name, "%s'%u", name, key->number) : asprintf(&row.name, "%s", name)) < 0)
         return false;
     if (append(&table->rows, &row, sizeof row)) {
         if (merge(table, &rows, add_row(table, &rows, key, 0, 0), &fault) == NB_OK)
