@@ -158,6 +158,7 @@ EXPORT void wl_client_destroy(struct wl_client *client)
     resources_end(client);
     wl_event_source_remove(client->source);
     close(client->socket);
+    client->is_cut = true; /* its number is another socket's soon: nothing more is sent there */
     signal_emit_last(&client->destroy_late_signal, client);
     wl_list_remove(&client->resource_created_signal.listener_list);
     if (client->user_data_destroy)

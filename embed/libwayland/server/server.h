@@ -85,7 +85,7 @@ struct wl_client {
 
     unsigned depth;    /* how many calls look at it */
     bool has_error;    /* it is told nothing more, and is destroyed when its socket can be read */
-    bool is_cut;       /* its socket failed: wl_display_flush_clients destroys it */
+    bool is_cut;       /* its socket failed: wl_display_flush_clients destroys it; or it is closed */
     bool is_condemned; /* wl_client_destroy was called while `depth` was not 0 */
     bool is_ending;    /* its resources are destroyed: what they send goes nowhere */
     bool is_destroyed;

@@ -37,15 +37,25 @@ static void is_destroyed(struct wl_listener *listener, void *data)
     (void)data;
     destroy_at = ++order;
 }
+/* The client's socket is closed, so its number is that of the next one. */
 static void is_late(struct wl_listener *listener, void *data)
 {
+    int next[2];
+    char byte;
     (void)listener;
     check(data == client, "a late listener is told of the client");
     late_at = ++order;
+    if (socketpair(AF_UNIX, SOCK_STREAM, 0, next) < 0)
+        exit(9);
+    wl_display_flush_clients(display);
+    for (int i = 0; i < 2; i++)
+        check(recv(next[i], &byte, 1, MSG_DONTWAIT) < 0, "nothing that is left for the client goes to another socket");
+    close(next[0]);
+    close(next[1]);
 }
 static void resource_ends(struct wl_resource *resource)
 {
-    (void)resource;
+    wl_resource_post_event(resource, THING_NOTHING);
     resource_at = ++order;
 }
 
