@@ -488,6 +488,22 @@ typedef struct {
     uint32_t number, wanted, found;
 } nb_violation;
 
+enum { NB_MESSAGE = 1, NB_UNKNOWN_MESSAGE = 2, NB_NO_MESSAGE = 3 };
+
+/* A message that went over a connection, as it is told: 32 bytes. */
+typedef struct {
+    uint32_t kind;      /* NB_MESSAGE: it was read. NB_UNKNOWN_MESSAGE: it was not, since its object is not known, or the
+                           table lacks its opcode. NB_NO_MESSAGE: what was sent is no message; `number`, `interface`,
+                           `opcode`, `arguments` and `bytes` are 0 */
+    uint32_t is_event;  /* whether the server sent it (0 or 1) */
+    uint32_t number;    /* of the object that it was sent to, or that sent it */
+    uint32_t interface; /* of NB_MESSAGE: that object's */
+    uint32_t opcode;
+    uint32_t arguments; /* of NB_MESSAGE: how many */
+    uint32_t bytes;     /* of NB_MESSAGE: how many bytes its strings and arrays take, with the zeros behind each */
+    uint32_t is_last;   /* whether no more is told of the side that sent it (0 or 1) */
+} nb_told;
+
 /* A client that is gone: 32 bytes. `data` is the client's; `waiting` is what is still to be sent. */
 typedef struct {
     nb_client_id client;
@@ -587,6 +603,10 @@ nb_status nb_server_memory_refused(nb_server *place, uint32_t *is_refused);
  *     hands it out if nulls are refused no longer. Before that nb_server_finish_request answers NB_NOT_OPEN.
  *   - Its descriptors come by nb_server_next_dropped once nb_server_cleanup has taken the client out. */
 nb_status nb_server_refuse_nulls(nb_server *place, uint32_t is_on);
+
+/* Sets whether messages are told, by nb_server_next_told: they are if `is_on` is not 0. This holds for each client that is
+ * inserted from now on. At first they are not. Of a client that is there already nothing changes. */
+nb_status nb_server_tell_messages(nb_server *place, uint32_t is_on);
 
 /* ======== A server's session: clients */
 
@@ -739,6 +759,35 @@ nb_status nb_server_send_event(nb_server *place, const nb_object_id *sender, uin
  * the message; nothing is done). */
 nb_status nb_server_post_error(nb_server *place, const nb_object_id *object, uint32_t code, const uint8_t *message,
                                size_t length);
+
+/* ======== A server's session: what is said */
+
+/* Tells the next message that the session read from the client, or wrote for it: each once, those of each side in order.
+ * What it writes is told once it is there to be sent (nb_server_flush_client, nb_server_next_writable). What it has read
+ * by this call, nb_server_next_action or nb_server_to_send is told before what it has written by then. So call
+ * nb_server_flush_client before the next nb_server_next_action, and a request's events stand right behind it. Call this
+ * until NB_WOULD_BLOCK: what is not asked for is kept.
+ *
+ * A message is read by the table, and by the objects that the messages before it made and ended. One of an object of
+ * which no message tells is NB_UNKNOWN_MESSAGE: the new id was never sent, or it names no interface, as may be so for
+ * nb_server_create_object_at. Its descriptors are not known: those of later messages of that side may be told wrong. A
+ * new id that leaves out a number, as after one that was never sent, ends what is told of its side (`is_last`).
+ *
+ * The arguments are written as by nb_server_next_action, but that objects have the serial 0, no client and no data, and
+ * the interface 0 if it is not known; a descriptor is a number that may be closed already: it is not yours.
+ *
+ * Without memory for what is to be told nb_server_received, nb_server_next_action, nb_server_to_send and nb_server_sent
+ * answer NB_OUT_OF_MEMORY, and do nothing else. Nothing is told of a client that nb_server_cleanup took out: call
+ * nb_server_flush_client and this before it, or the last wl_display.error is not told.
+ *
+ * Statuses:
+ *
+ *   - NB_INVALID_ID: the client's messages are not told, or it is not there (any more).
+ *   - NB_WOULD_BLOCK: there is no more now.
+ *   - NB_TOO_SMALL: `arguments` and `bytes` of `told` say what is needed, and the message is kept until a call has room.
+ *   - NB_OUT_OF_MEMORY: ask again later. Nothing is lost. */
+nb_status nb_server_next_told(nb_server *place, const nb_client_id *client, nb_told *told, nb_argument *arguments,
+                              size_t argument_room, uint8_t *bytes, size_t byte_room);
 
 /* ======== A server's session: objects */
 
@@ -895,13 +944,16 @@ nb_status nb_server_flush_client(nb_server *place, const nb_client_id *client);
  * nb_server_sent. Send the descriptors with the first byte, by one sendmsg.
  *
  * If the bytes do not fit, as many are copied as do. After NB_OK with 0 bytes nothing waits, if `byte_room` is not 0.
- * Statuses: NB_INVALID_ID; NB_TOO_SMALL (the descriptors do not fit; 28 always do). */
+ * Statuses: NB_INVALID_ID; NB_TOO_SMALL (the descriptors do not fit; 28 always do); NB_OUT_OF_MEMORY (only for a client
+ * whose messages are told, nb_server_tell_messages: there was no memory for those that are to be sent. Call again). */
 nb_status nb_server_to_send(nb_server *place, const nb_client_id *client, uint8_t *bytes, size_t byte_room,
                             int32_t *descriptors, size_t descriptor_room, nb_counts *counts);
 
 /* sendmsg took this many bytes, and with the first of them all descriptors. Those are yours now: close them. A greater
  * count counts as all that waits. Once all was sent, nb_server_next_writable answers the client again if there is more.
- * No other call for the client may come between nb_server_to_send and this one. Statuses: NB_INVALID_ID. */
+ * No other call for the client may come between nb_server_to_send and this one. Statuses: NB_INVALID_ID;
+ * NB_OUT_OF_MEMORY (only if the client's messages are told, and some came that nb_server_to_send did not see: nothing is
+ * done; call again). */
 nb_status nb_server_sent(nb_server *place, const nb_client_id *client, uint32_t count);
 
 /* How much waits for a client, killed or not, and of it, whether it is ready or not: in `received` what was passed in,

@@ -20,12 +20,14 @@ static void server_calls(void)
     nb_note note;
     nb_waiting waiting;
     nb_violation violation;
+    nb_told told;
     NONE(nb_server_end(&server));
     NONE(nb_server_extend(&server, &quad, &fault));
     NONE(nb_server_memory_refused(&server, &number));
     NONE(nb_server_set_default_max_buffer_size(&server, 1));
     NONE(nb_server_refuse_nulls(&server, 1));
     NONE(nb_server_set_object_limit(&server, 1));
+    NONE(nb_server_tell_messages(&server, 1));
     NONE(nb_server_set_max_buffer_size(&server, &id, 1));
     NONE(nb_server_set_room(&server, &id, 1));
     NONE(nb_server_insert_client(&server, 1, 1, &global, 1, &id));
@@ -37,6 +39,7 @@ static void server_calls(void)
     NONE(nb_server_receive_failed(&server, &id, 5));
     NONE(nb_server_send_failed(&server, &id));
     NONE(nb_server_next_action(&server, &id, &action, arguments, 16, bytes, sizeof bytes));
+    NONE(nb_server_next_told(&server, &id, &told, arguments, 16, bytes, sizeof bytes));
     NONE(nb_server_finish_request(&server, &id));
     NONE(nb_server_finish_request_with(&server, &id, 1, &number));
     NONE(nb_server_finish_bind(&server, &id, 1, &number));

@@ -651,10 +651,66 @@ static void short_forms(void)
     OK(nb_server_end(&server));
 }
 
+/* Whether the next message that is told is one that was read, of this object, with this opcode and so many arguments. */
+static int tells(uint32_t is_event, uint32_t interface, uint32_t number, uint32_t opcode, uint32_t count)
+{
+    nb_told told;
+    OK(nb_server_next_told(&server, &client, &told, arguments, 16, bytes, sizeof bytes));
+    return told.kind == NB_MESSAGE && told.is_event == is_event && told.interface == interface && told.number == number &&
+           told.opcode == opcode && told.arguments == count && told.is_last == 0;
+}
+
+static nb_status tells_in(size_t room, nb_told *told)
+{
+    return nb_server_next_told(&server, &client, told, arguments, room, bytes, sizeof bytes);
+}
+
+/* Each message of a client, and each to it, is told once, until the client is taken out. */
+static void messages(void)
+{
+    const int32_t one[] = { 70 };
+    nb_global_id global;
+    nb_told told;
+    uint32_t is_kept;
+    OK(nb_server_start(&server, &quad, &fault));
+    OK(nb_server_create_global(&server, NB_QUAD, 3, 8, 1, NULL, 0, &global));
+    OK(nb_server_tell_messages(&server, 1));
+    OK(nb_server_insert_client(&server, 5, 1, NULL, 0, &client));
+    IS(tells_in(16, &told), NB_WOULD_BLOCK);
+    put(1, 1, "u", 2);
+    put(2, 0, "usuu", global.name, "quad", 3, 3);
+    OK(arrive(NULL, 0));
+    OK(next_action());
+    OK(nb_server_finish_bind(&server, &client, 77, &is_kept));
+    HOLDS(tells(0, NB_INTERFACE_DISPLAY, 1, 1, 1));
+    HOLDS(arguments[0].kind == NB_NEW_ID && arguments[0].object.number == 2 &&
+          arguments[0].object.interface == NB_INTERFACE_REGISTRY);
+    HOLDS(tells(0, NB_INTERFACE_REGISTRY, 2, 0, 4));
+    HOLDS(strcmp((const char *)bytes + arguments[1].at, "quad") == 0 && arguments[3].object.number == 3 &&
+          arguments[3].object.interface == NB_QUAD);
+    OK(nb_server_flush_client(&server, &client));
+    HOLDS(tells(1, NB_INTERFACE_REGISTRY, 2, 0, 3));
+    IS(tells_in(16, &told), NB_WOULD_BLOCK);
+    put(3, NB_QUAD_REQUEST_GIVE, "sa", "hey", "abc", 3);
+    OK(arrive(one, 1));
+    OK(next_action());
+    OK(nb_server_finish_request(&server, &client));
+    IS(tells_in(2, &told), NB_TOO_SMALL);
+    HOLDS(told.kind == NB_MESSAGE && told.arguments == 3 && told.bytes == 16);
+    HOLDS(tells(0, NB_QUAD, 3, NB_QUAD_REQUEST_GIVE, 3));
+    HOLDS(arguments[2].kind == NB_DESCRIPTOR && arguments[2].value == 70);
+    IS(tells_in(16, &told), NB_WOULD_BLOCK);
+    OK(nb_server_kill_client(&server, &client));
+    OK(nb_server_cleanup(&server));
+    IS(tells_in(16, &told), NB_INVALID_ID);
+    OK(nb_server_end(&server));
+}
+
 int main(void)
 {
     answers();
     events();
+    messages();
     chosen();
     one_flushed();
     object_limit();

@@ -7,6 +7,7 @@ mod chosen;
 mod client;
 mod client_acts;
 mod drills;
+mod messages;
 mod queues;
 mod registries;
 mod rows;

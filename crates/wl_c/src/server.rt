@@ -2,7 +2,7 @@
 //!
 //! | Calls | File |
 //! |---|---|
-//! | `new`, `end`, `add_interfaces`, `extend_interfaces`, `memory_refused`, the limits, `refuse_nulls` | `session` |
+//! | `new`, `end`, `add_interfaces`, `extend_interfaces`, `memory_refused`, the limits, `refuse_nulls`, `tell_messages` | `session` |
 //! | `insert_client`, `received`, .. | `clients` |
 //! | `next_action`, `finish_request`, `send_event`, .. | `actions` |
 //! | `create_object`, `object_data`, .. | `objects` |
@@ -13,6 +13,7 @@
 //! | `hand_out_registries`, `announce_global`, `withdraw_global` | `registries` |
 //! | `next_writable`, `to_send`, `cleanup`, `next_gone`, .. | `sending` |
 //! | `waiting` | `waiting` |
+//! | `next_told` | `telling` |
 
 mod actions;
 mod chosen;
@@ -25,6 +26,7 @@ mod place;
 mod registries;
 mod sending;
 mod session;
+mod telling;
 mod violations;
 mod waiting;
 

@@ -9,8 +9,8 @@ use std::mem::size_of;
 use wl_host::{
     ArgumentRow, Counts, ExtensionFault, FlatAction, FlatArgument, FlatClientId, FlatError,
     FlatEvent, FlatGlobalId, FlatGlobalInfo, FlatHeldObject, FlatNote, FlatObjectId,
-    FlatObjectInfo, FlatQueuedEvent, FlatQueuedObject, FlatReaders, FlatRequest, FlatTurn,
-    FlatViolation, Gone, InterfaceRow, MessageRow, TableFault, Waiting,
+    FlatObjectInfo, FlatQueuedEvent, FlatQueuedObject, FlatReaders, FlatRequest, FlatTold,
+    FlatTurn, FlatViolation, Gone, InterfaceRow, MessageRow, TableFault, Waiting,
 };
 
 const _: () = prove!(size_of::<ServerPlace>() == 16);
@@ -48,6 +48,8 @@ const _: () = prove!(size_of::<FlatHeldObject>() == 40);
 const _: () = prove!(size_of::<FlatGlobalInfo>() == 16);
 
 const _: () = prove!(size_of::<FlatNote>() == 80);
+
+const _: () = prove!(size_of::<FlatTold>() == 32);
 
 const _: () = prove!(size_of::<FlatError>() == 28);
 

@@ -2,26 +2,31 @@
 use Rattle.std.proofs.Common.{◌≡◌, ℕ, ℤ, ◌==◌, Bool, true, false, List, [], ◌∷◌, Option, None, Some, Result, Ok, Err, refl, ap, ◌∙◌, arith, inl, inr, length}
 use Rattle.std.specs.Global.{Global}
 use Rattle.wl_wire.specs.declared.error.OutOfMemory.{OutOfMemory}
-use Rattle.std.specs.Prelude.{Vec, if◌then◌else◌, MatchResult, nat_lt, option_to_list, slice_get, slice_set}
+use Rattle.std.specs.Prelude.{Vec, if◌then◌else◌, MatchOption, MatchResult, nat_lt, option_to_list, slice_get, slice_set}
+use Rattle.wl_follow.specs.declared.side.Side.TheVariants.{Client}
 use Rattle.wl_link.specs.Mailbox.{MailboxState}
 use Rattle.wl_server.specs.Ids.{ClientParts}
-use Rattle.wl_server.specs.Lookups.{transport_of}
+use Rattle.wl_server.specs.Lookups.{transport_of, waiting_of}
 use Rattle.wl_server.specs.declared.notes.Note.{Note}
 use Rattle.wl_host.proofs.Keeping.{conserves_gone_all, conserves_handed_out, conserves_passed_next}
 use Rattle.wl_host.proofs.Ledgers.{conserves_ledger, conserves_taken_out}
 use Rattle.wl_host.proofs.Queues.{conserves_nothing, conserves_put_in}
 use Rattle.wl_host.specs.Cleaning.{CleansUp, DropsNotes, DropsUnlessKept}
 use Rattle.wl_host.specs.Descriptors.{Conserves, Descriptors, kept_in, occurrences, put_in}
+use Rattle.wl_host.specs.Hearing.{LedgerCatchesUp, ledger_after, with_heard}
 use Rattle.wl_host.specs.Notes.{Fetches, NextNote, noted, noted_if, text_of}
 use Rattle.wl_host.specs.Seats.{SeatsState, kept_by_ledger, gone_all, kept_by_seats, ledger_of, left_by_first, listed}
 use Rattle.wl_host.specs.Sending.{came_out, mailbox_after, queue_after, sent_of}
 use Rattle.wl_host.specs.Server.{handed_if, is_too_small, IsNotStored, NextDropped, Received, ReceivedBy, Sent, SentBy, ServerState, TakesOut, asked_again, gone_with_first, handed, handed_out, kept_by_server, next_gone, or_would_block, sent_to_first, sent_by, sent_with, went_in}
+use Rattle.wl_host.specs.Tellings.{CatchesUpOf, CatchesUpWith, unread_of}
+use Rattle.wl_host.specs.Told.{CatchesUp, waiting_in}
 use Rattle.wl_host.specs.declared.flat.FlatNote.{FlatNote}
 use Rattle.wl_host.specs.declared.flat.Gone.{Gone}
 use Rattle.wl_host.specs.declared.server.ledger.Departed.{Departed}
 use Rattle.wl_host.specs.declared.server.ledger.Ledger.{Ledger}
 use Rattle.wl_host.specs.declared.status.Status.{Status}
 use Rattle.wl_host.specs.declared.status.Status.TheVariants as status
+use Rattle.wl_host.specs.declared.telling.Telling.{Telling}
 
 -- what is kept beside the core stays
 pub conserves_beside : (b a : ServerState) → a.seats ≡ b.seats → Conserves kept_by_server b [] [] a
@@ -34,8 +39,8 @@ went_in_none b a s t ds e n same = record {
   each = λ d. let w = ap (occurrences d) (ap (λ r. went_in r ds) e ∙ n) in let k = ap (kept_by_server d) same in omega (arith, w, k);
 }
 
-took_in : (l : Ledger) (ds : List ℤ) → Conserves kept_by_ledger l ds [] (record l { received = put_in l.received ds })
-took_in l ds = record { each = λ d. omega (arith, (conserves_put_in l.received ds).each d) }
+took_in : (l : Ledger) (bytes : List ℕ) (ds : List ℤ) → Conserves kept_by_ledger l ds [] (record (with_heard bytes ds l) { received = put_in l.received ds })
+took_in l bytes ds = record { each = λ d. omega (arith, (conserves_put_in l.received ds).each d) }
 
 pub conserves_received : (b a : ServerState) (id : ClientParts) (bytes : List ℕ) (ds : List ℤ) (s : Status) → Received b id bytes ds s a
     → Conserves kept_by_server b (went_in s ds) [] a
@@ -47,7 +52,7 @@ conserves_received b a id bytes ds s h = by (ledger_of id b.seats.ledgers) (tran
     by (Some l) (Some m) e h = elim h [
       | inl y ↦ record {
         each = λ d.
-            let c = (conserves_ledger b.seats id l (record l { received = put_in l.received ds }) ds [] e (took_in l ds)).each d in
+            let c = (conserves_ledger b.seats id l (record (with_heard bytes ds l) { received = put_in l.received ds }) ds [] e (took_in l bytes ds)).each d in
             let w = ap (occurrences d) (ap (λ r. went_in r ds) y.0) in
             let k = ap (kept_by_server d) y.1 in omega (arith, c, w, k);
       }
@@ -58,6 +63,33 @@ conserves_received b a id bytes ds s h = by (ledger_of id b.seats.ledgers) (tran
       ]
     ]
 
+-- ---- what is told
+
+-- what is told holds no descriptor
+caught_in : (l k : Ledger) (unread : ℕ) (m : MailboxState) (r : Result (Unit {0}) OutOfMemory) → LedgerCatchesUp unread m l r k → Conserves kept_by_ledger l [] [] k
+caught_in l k unread m r h = by l.telling h
+  where
+    by : (o : Option Telling) → MatchOption o ((r ≡ Ok tt) × (k ≡ l))
+        (λ t. (t' : Telling) × CatchesUp Client unread (waiting_in m l.sending) t r t' × (k ≡ record l { telling = Some t' }))
+        → Conserves kept_by_ledger l [] [] k
+    by None (done, same) = record { each = λ d. let e = ap (kept_by_ledger d) same in omega (arith, e) }
+    by (Some t) (t', catches, is) = record { each = λ d. let e = ap (kept_by_ledger d) is in omega (arith, e) }
+
+-- it catches up
+pub conserves_caught : (b a : ServerState) (id : ClientParts) (r : Result (Unit {0}) OutOfMemory) → CatchesUpWith b id r a → Conserves kept_by_server b [] [] a
+conserves_caught b a id r h = by (ledger_of id b.seats.ledgers) (waiting_of b.core.server id) (transport_of b.core.server id) refl h
+  where
+    by : (o : Option Ledger) (c : Option (List ℕ)) (t : Option MailboxState) → ledger_of id b.seats.ledgers ≡ o → CatchesUpOf b id o c t r a
+        → Conserves kept_by_server b [] [] a
+    by None c t at h = conserves_beside b a (ap (λ (x : ServerState). x.seats) h.1)
+    by (Some l) None t at h = conserves_beside b a (ap (λ (x : ServerState). x.seats) h.1)
+    by (Some l) (Some c) None at h = conserves_beside b a (ap (λ (x : ServerState). x.seats) h.1)
+    by (Some l) (Some c) (Some m) at (k, catches, is) = record {
+      each = λ d.
+          let h = (conserves_ledger b.seats id l k [] [] at (caught_in l k (unread_of c m) m r catches)).each d in
+          let e = ap (kept_by_server d) is in omega (arith, h, e);
+    }
+
 -- ---- what is sent
 
 sent_off : (count : ℕ) (m : MailboxState) (q : Descriptors) → Conserves kept_in q [] (came_out count m q) (queue_after count m q)
@@ -67,7 +99,7 @@ sent_off count m q = by (sent_of count m == 0) refl
     by true e = rw e (conserves_nothing q)
     by false e = rw e (conserves_taken_out q m.waiting.tokens)
 
-sent_from : (l : Ledger) (count : ℕ) (m : MailboxState) → Conserves kept_by_ledger l [] (came_out count m l.sending) (record l { sending = queue_after count m l.sending })
+sent_from : (l : Ledger) (count : ℕ) (m : MailboxState) → Conserves kept_by_ledger l [] (came_out count m l.sending) (ledger_after count m l)
 sent_from l count m = record { each = λ d. omega (arith, (sent_off count m l.sending).each d) }
 
 kept_asked : (d : ℤ) (s : SeatsState) (slot : ℕ) (m : MailboxState) → kept_by_seats d (asked_again s slot m) ≡ kept_by_seats d s
@@ -88,7 +120,7 @@ conserves_sent b a id count s h = by (ledger_of id b.seats.ledgers) (transport_o
     by (Some l) None e h = nothing_out h
     by (Some l) (Some m) e h = record {
       each = λ d.
-          let k2 : Ledger = record l { sending = queue_after count m l.sending } in
+          let k2 : Ledger = ledger_after count m l in
           let c = (conserves_ledger b.seats id l k2 [] (came_out count m l.sending) e (sent_from l count m)).each d in
           let g = kept_asked d (record b.seats { ledgers = slice_set b.seats.ledgers id.slot (Some k2) }) id.slot (mailbox_after count m) in
           let k = ap (kept_by_server d) h.1 in omega (arith, c, g, k);

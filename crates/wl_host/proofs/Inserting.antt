@@ -21,6 +21,7 @@ use Rattle.wl_host.specs.declared.server.HostClient.{HostClient}
 use Rattle.wl_host.specs.declared.server.ledger.Departed.{Departed}
 use Rattle.wl_host.specs.declared.server.ledger.Ledger.{Ledger}
 use Rattle.wl_host.specs.declared.server.seats.Seats.TheInside.{Inside}
+use Rattle.wl_host.specs.declared.telling.Telling.{Telling}
 
 -- the client gets the id that was told beforehand
 pub as_told : (b a : CoreState) (m : MailboxState) (client : HostClient) (id next : ClientParts) → Calls world b (step.InsertClient m client) (reply.InsertClient (Ok id)) a
@@ -30,8 +31,8 @@ as_told b a m client id next call given =
     let told : Some next ≡ Some id = given (Ok id) numbers in sym (ap (λ o. unwrap_or o next) told)
 
 -- nothing came in for it yet
-pub none_passed : (id : ClientParts) (u : ℕ) (l : Ledger) → l ≡ new_ledger id u → HasNonePassed l
-none_passed id u l e = (ap (λ (k : Ledger). k.received.passed) e, ap (λ (k : Ledger). k.sending.passed) e)
+pub none_passed : (id : ClientParts) (u : ℕ) (t : Option Telling) (l : Ledger) → l ≡ new_ledger id u t → HasNonePassed l
+none_passed id u t l e = (ap (λ (k : Ledger). k.received.passed) e, ap (λ (k : Ledger). k.sending.passed) e)
 
 -- it is seated in a place for which room was made
 pub seats_put : (s t : Inside) (slot k : ℕ) (l : Ledger) (v : Vec (Option Ledger) Global) (g : VecDeque Departed Global) (q : VecDeque Descriptors Global) → AreSeats s → HasNonePassed l

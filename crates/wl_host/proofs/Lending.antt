@@ -8,12 +8,11 @@ use Rattle.wl_server.specs.Lending.{over_transport, state_over}
 use Rattle.wl_server.specs.Lookups.{transport_of}
 use Rattle.wl_server.specs.Server.{Stored, client_at, if_serial, stored_at}
 use Rattle.wl_host.proofs.Ledgers.{set_same, slot_of_client}
-use Rattle.wl_host.specs.Arrivals.{Arrives}
 use Rattle.wl_host.specs.Calls.{CoreState}
-use Rattle.wl_host.specs.Descriptors.{Descriptors}
+use Rattle.wl_host.specs.Hearing.{TakesIn, ledger_after}
 use Rattle.wl_host.specs.Seats.{SeatsState, ledger_of, listed, with_ledger}
 use Rattle.wl_host.specs.Server.{Received, Sent, ServerState, asked_again}
-use Rattle.wl_host.specs.Sending.{mailbox_after, queue_after}
+use Rattle.wl_host.specs.Sending.{mailbox_after}
 use Rattle.wl_host.specs.declared.server.HostClient.{HostClient}
 use Rattle.wl_host.specs.declared.server.ledger.Ledger.{Ledger}
 use Rattle.wl_host.specs.declared.status.Status.{Status}
@@ -53,21 +52,21 @@ same_core c id m e = by (client_at id c.server.clients) refl e
 
 -- ---- what arrives
 
-abbrev pub arrived : ServerState → ClientParts → Ledger → MailboxState → Descriptors → ServerState
-arrived b id l m q = record b { core = state_over b.core id m; seats = with_ledger b.seats id (record l { received = q }) }
+abbrev pub arrived : ServerState → ClientParts → MailboxState → Ledger → ServerState
+arrived b id m l = record b { core = state_over b.core id m; seats = with_ledger b.seats id l }
 
-same_arrived : (b : ServerState) (id : ClientParts) (l : Ledger) (m m' : MailboxState) (q : Descriptors) → ledger_of id b.seats.ledgers ≡ Some l → transport_of b.core.server id ≡ Some m
-    → m' ≡ m → q ≡ l.received → arrived b id l m' q ≡ b
-same_arrived b id l m m' q at has f g =
-    ap (λ x. arrived b id l x q) f ∙ (ap (arrived b id l m) g
+same_arrived : (b : ServerState) (id : ClientParts) (l l' : Ledger) (m m' : MailboxState) → ledger_of id b.seats.ledgers ≡ Some l → transport_of b.core.server id ≡ Some m
+    → m' ≡ m → l' ≡ l → arrived b id m' l' ≡ b
+same_arrived b id l l' m m' at has f g =
+    ap (λ x. arrived b id x l') f ∙ (ap (arrived b id m) g
     ∙ (ap (λ (c : CoreState). let t : ServerState = record b { core = c; seats = with_ledger b.seats id l } in t) (same_core b.core id m has)
     ∙ ap (λ (s : SeatsState). let t : ServerState = record b { seats = s } in t) (same_seats b.seats id l at)))
 
-pub received_by : (b : ServerState) (id : ClientParts) (bytes : List ℕ) (ds : List ℤ) (s : Status) (l : Ledger) (m m' : MailboxState) (q : Descriptors)
-    → ledger_of id b.seats.ledgers ≡ Some l → transport_of b.core.server id ≡ Some m → Arrives m l.received bytes ds s m' q → Received b id bytes ds s (arrived b id l m' q)
-received_by b id bytes ds s l m m' q at has h = rw (at, has) (elim h [
-  | inl y ↦ inl (y.0, ap (λ x. arrived b id l x q) y.1 ∙ ap (arrived b id l _) y.2, y.3)
-  | inr n ↦ inr (n.0, same_arrived b id l m m' q at has n.1 n.2)
+pub received_by : (b : ServerState) (id : ClientParts) (bytes : List ℕ) (ds : List ℤ) (s : Status) (l l' : Ledger) (m m' : MailboxState)
+    → ledger_of id b.seats.ledgers ≡ Some l → transport_of b.core.server id ≡ Some m → TakesIn m l bytes ds s m' l' → Received b id bytes ds s (arrived b id m' l')
+received_by b id bytes ds s l l' m m' at has h = rw (at, has) (elim h [
+  | inl y ↦ inl (y.0, ap (λ x. arrived b id x l') y.1 ∙ ap (arrived b id _) y.2, y.3)
+  | inr n ↦ inr (n.0, same_arrived b id l l' m m' at has n.1 n.2)
 ])
 
 pub received_unknown : (b : ServerState) (id : ClientParts) (bytes : List ℕ) (ds : List ℤ) → ledger_of id b.seats.ledgers ≡ None → Received b id bytes ds status.InvalidId b
@@ -83,15 +82,15 @@ pub sent_unstored : (b : ServerState) (id : ClientParts) (count : ℕ) (s : Stat
     → s ≡ status.InvalidId → Sent b id count s (record b { seats = with_ledger b.seats id l })
 sent_unstored b id count s l at none is = rw (at, none) (is, ap (λ (s : SeatsState). let t : ServerState = record b { seats = s } in t) (same_seats b.seats id l at))
 
-pub sent_stored : (b : ServerState) (id : ClientParts) (count : ℕ) (l : Ledger) (m m' : MailboxState) (q : Descriptors) (seats : SeatsState)
-    → ledger_of id b.seats.ledgers ≡ Some l → transport_of b.core.server id ≡ Some m → m' ≡ mailbox_after count m → q ≡ queue_after count m l.sending
-    → seats ≡ asked_again (with_ledger b.seats id (record l { sending = q })) id.slot m'
+pub sent_stored : (b : ServerState) (id : ClientParts) (count : ℕ) (l l' : Ledger) (m m' : MailboxState) (seats : SeatsState)
+    → ledger_of id b.seats.ledgers ≡ Some l → transport_of b.core.server id ≡ Some m → m' ≡ mailbox_after count m → l' ≡ ledger_after count m l
+    → seats ≡ asked_again (with_ledger b.seats id l') id.slot m'
     → Sent b id count status.Ok (record b { core = state_over b.core id m'; seats = seats })
-sent_stored b id count l m m' q seats at has f g h = rw (at, has) (
+sent_stored b id count l l' m m' seats at has f g h = rw (at, has) (
   refl,
   ap (λ (s : SeatsState). let t : ServerState = record b { core = state_over b.core id m'; seats = s } in t) h
-      ∙ (ap (λ x. let t : ServerState = record b { core = state_over b.core id x; seats = asked_again (with_ledger b.seats id (record l { sending = q })) id.slot x } in t) f
-      ∙ ap (λ y. let t : ServerState = record b { core = state_over b.core id (mailbox_after count m); seats = asked_again (with_ledger b.seats id (record l { sending = y })) id.slot (mailbox_after count m) } in t) g),
+      ∙ (ap (λ x. let t : ServerState = record b { core = state_over b.core id x; seats = asked_again (with_ledger b.seats id l') id.slot x } in t) f
+      ∙ ap (λ y. let t : ServerState = record b { core = state_over b.core id (mailbox_after count m); seats = asked_again (with_ledger b.seats id y) id.slot (mailbox_after count m) } in t) g),
 )
 
 pub asked_yes : (s : SeatsState) (slot : ℕ) (m : MailboxState) → (length m.waiting.bytes == 0) ≡ true → asked_again s slot m ≡ listed s slot

@@ -15,7 +15,7 @@ use Rattle.wl_host.specs.Events.{Passed, SendsEvent}
 use Rattle.wl_host.specs.Flat.{client_of}
 use Rattle.wl_host.specs.Notes.{Fetches}
 use Rattle.wl_host.specs.Seats.{gone_all, ledger_of}
-use Rattle.wl_host.specs.Server.{Received, ReceivedBy, ServerState, TakesOut}
+use Rattle.wl_host.specs.Server.{Received, ReceivedBy, Sent, SentBy, ServerState, TakesOut}
 use Rattle.wl_host.specs.declared.flat.FlatArgument.{FlatArgument}
 use Rattle.wl_host.specs.declared.server.ledger.Ledger.{Ledger}
 use Rattle.wl_host.specs.declared.status.Status.{Status}
@@ -36,6 +36,16 @@ received_told b a id bytes ds s h = by (ledger_of id b.seats.ledgers) (transport
           | inl y ↦ ap (λ (s : ServerState). s.told) y.1
           | inr n ↦ same_told b a n.1
         ]
+
+-- ---- what is sent
+
+pub sent_told : (b a : ServerState) (id : ClientParts) (count : ℕ) (s : Status) → Sent b id count s a → a.told ≡ b.told
+sent_told b a id count s h = by (ledger_of id b.seats.ledgers) (transport_of b.core.server id) h
+  where
+    by : (o : Option Ledger) (t : Option MailboxState) → SentBy o t b id count s a → a.told ≡ b.told
+    by None t g = same_told b a g.1
+    by (Some l) None g = same_told b a g.1
+    by (Some l) (Some m) g = ap (λ (s : ServerState). s.told) g.1
 
 -- ---- actions
 

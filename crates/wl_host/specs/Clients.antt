@@ -7,13 +7,15 @@ use Rattle.wl_host.specs.Calls.{CoreState}
 use Rattle.wl_host.specs.Flat.{client_of}
 use Rattle.wl_host.specs.Seats.{listed, seated}
 use Rattle.wl_host.specs.Server.{ServerState}
+use Rattle.wl_host.specs.Told.{first_telling}
 use Rattle.wl_host.specs.declared.flat.FlatClientId.{FlatClientId}
 use Rattle.wl_host.specs.declared.status.Status.{Status}
 use Rattle.wl_host.specs.declared.status.Status.TheVariants as status
 
--- a new client has a ledger, and a note says that it was inserted; without one, nothing is changed beside the core
+-- A new client has a ledger, and a note says that it was inserted; its messages are told, if that was set. Without one, nothing is changed
+-- beside the core.
 abbrev pub inserted : ServerState → CoreState → Result FlatClientId Status → ℕ → ServerState
-inserted s core (Ok id) user_data = record s { core = core; seats = seated s.seats (client_of id) user_data; may_have_notes = true }
+inserted s core (Ok id) user_data = record s { core = core; seats = seated s.seats (client_of id) user_data (first_telling s.tells); may_have_notes = true }
 inserted s core (Err e) user_data = record s { core = core }
 
 -- clients may be killed, and there may be notes

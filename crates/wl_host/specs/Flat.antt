@@ -7,6 +7,7 @@ use Rattle.wl_host.specs.declared.flat.FlatArgument.{FlatArgument}
 use Rattle.wl_host.specs.declared.flat.FlatClientId.{FlatClientId}
 use Rattle.wl_host.specs.declared.flat.FlatGlobalId.{FlatGlobalId}
 use Rattle.wl_host.specs.declared.flat.FlatObjectId.{FlatObjectId}
+use Rattle.wl_host.specs.declared.flat.FlatTold.{FlatTold}
 
 -- a count as a number of 32 bits; the greatest one if it does not fit
 abbrev pub count_number : ℕ → ℕ
@@ -93,3 +94,9 @@ no_action = record {
   global = no_global;
   forbidden_null = 0;
 }
+
+-- ---- what is told
+
+-- all zeros
+abbrev pub none_told : FlatTold
+none_told = record { kind = 0; is_event = 0; number = 0; interface = 0; opcode = 0; arguments = 0; bytes = 0; is_last = 0 }

@@ -117,3 +117,14 @@ violation_null_object = 12
 
 abbrev pub violation_too_many_objects : ℕ
 violation_too_many_objects = 13
+
+-- ---- what is told
+
+abbrev pub message : ℕ
+message = 1
+
+abbrev pub unknown_message : ℕ
+unknown_message = 2
+
+abbrev pub no_message : ℕ
+no_message = 3

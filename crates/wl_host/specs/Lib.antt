@@ -15,6 +15,7 @@ pub mod Faults
 pub mod Flat
 pub mod Flushing
 pub mod Globals
+pub mod Hearing
 pub mod Held
 pub mod Inside
 pub mod Killed
@@ -33,6 +34,9 @@ pub mod Server
 pub mod Signatures
 pub mod Status
 pub mod Tables
+pub mod Tellings
+pub mod Told
+pub mod ToldRuns
 pub mod Violations
 pub mod Visibility
 pub mod Waiting

@@ -19,6 +19,7 @@ use Rattle.wl_host.specs.declared.server.ledger.Ledger.{Ledger}
 use Rattle.wl_host.specs.declared.server.HostClient.{HostClient}
 use Rattle.wl_host.specs.declared.status.Status.{Status}
 use Rattle.wl_host.specs.declared.status.Status.TheVariants as status
+use Rattle.wl_host.specs.declared.telling.Telling.{Telling}
 use Rattle.wl_host.specs.Status.{of_insert}
 
 -- What is kept beside the core: the ledgers of the clients that the core has, by slot; the clients that are gone and were not
@@ -37,8 +38,9 @@ abbrev pub no_descriptors : Descriptors
 no_descriptors = record { passed = []; held = []; front = 0 }
 
 -- what is kept of a client that was inserted just now
-abbrev pub new_ledger : ClientParts → ℕ → Ledger
-new_ledger id u = record { id = id; user_data = u; received = no_descriptors; sending = no_descriptors; kept = None; ends_sender = false }
+abbrev pub new_ledger : ClientParts → ℕ → Option Telling → Ledger
+new_ledger id u t =
+    record { id = id; user_data = u; received = no_descriptors; sending = no_descriptors; kept = None; ends_sender = false; telling = t }
 
 abbrev pub no_seats : SeatsState
 no_seats = record { ledgers = []; gone = []; left = []; writable = [] }
@@ -132,9 +134,9 @@ InsertsInto before m client result after =
     ⊎ ((((result ≡ Err status.Full) × NextClient before.server.last_client before.server.clients None) ⊎ (result ≡ Err status.OutOfMemory)) × (after ≡ before))
 
 -- A new client has a ledger. A client whose slot the core gave to it is gone.
-abbrev pub seated : SeatsState → ClientParts → ℕ → SeatsState
-seated s id u = record {
-  ledgers = slice_set (padded s.ledgers id.slot) id.slot (Some (new_ledger id u));
+abbrev pub seated : SeatsState → ClientParts → ℕ → Option Telling → SeatsState
+seated s id u t = record {
+  ledgers = slice_set (padded s.ledgers id.slot) id.slot (Some (new_ledger id u t));
   gone = s.gone ++ departed_of (ledger_at id.slot s.ledgers);
   left = s.left ++ left_by (ledger_at id.slot s.ledgers);
   writable = s.writable;

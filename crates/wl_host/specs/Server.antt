@@ -21,8 +21,9 @@ use Rattle.wl_host.specs.Arrivals.{MayArrive, RefusesArrival, mailbox_with}
 use Rattle.wl_host.specs.Calls.{CoreState, world}
 use Rattle.wl_host.specs.Descriptors.{Descriptors, put_in}
 use Rattle.wl_host.specs.Flat.{client_of, flat_client, over_front}
+use Rattle.wl_host.specs.Hearing.{ledger_after, with_heard}
 use Rattle.wl_host.specs.Seats.{PassesNext, SeatsState, added, gone_all, is_among, kept_by_seats, ledger_at, ledger_of, left_by_first, listed, with_ledger}
-use Rattle.wl_host.specs.Sending.{Copied, copied, counts_of, descriptors_of, mailbox_after, queue_after, came_out, shown, some_of}
+use Rattle.wl_host.specs.Sending.{Copied, copied, counts_of, descriptors_of, mailbox_after, came_out, shown, some_of}
 use Rattle.wl_host.specs.declared.flat.FlatClientId.{FlatClientId}
 use Rattle.wl_host.specs.declared.flat.Gone.{Gone}
 use Rattle.wl_host.specs.declared.server.HostClient.{HostClient}
@@ -34,7 +35,8 @@ use Rattle.wl_host.specs.declared.status.Status.TheVariants as status
 
 -- The core, and what is kept beside it; the notes that were taken from the core and not handed out, the oldest first; and
 -- whether there may be something to be cleaned up, and notes to be taken; whether requests with a null that the table forbids
--- are refused, and notes are kept for the host; and of which global which registry was told, of those that are handed out.
+-- are refused, and notes are kept for the host; of which global which registry was told, of those that are handed out; and whether the
+-- messages of clients that are inserted are told.
 pub record ServerState : Type 0 where
   pub core : CoreState
   pub seats : SeatsState
@@ -44,6 +46,7 @@ pub record ServerState : Type 0 where
   pub refuses_nulls : Bool
   pub keeps_notes : Bool
   pub told : List Told
+  pub tells : Bool
 
 -- how often a descriptor is kept
 abbrev pub kept_by_server : ℤ → ServerState → ℕ
@@ -70,12 +73,13 @@ IsNotStored before s after = (s ≡ status.InvalidId) × (after ≡ before)
 abbrev pub with_arrivals : ServerState → ClientParts → Ledger → MailboxState → Descriptors → ServerState
 with_arrivals s id l m q = record s { core = state_over s.core id m; seats = with_ledger s.seats id (record l { received = q }) }
 
--- The bytes arrived, with tokens for the descriptors; or they are refused, and nothing is changed.
+-- The bytes arrived, with tokens for the descriptors, and are to be told once they are read, if the client's messages are told. Or they are
+-- refused, and nothing is changed.
 abbrev pub ReceivedBy : Option Ledger → Option MailboxState → ServerState → ClientParts → List ℕ → List ℤ → Status → ServerState → Type 0
 ReceivedBy None m before id bytes descriptors s after = IsNotStored before s after
 ReceivedBy (Some l) None before id bytes descriptors s after = IsNotStored before s after
 ReceivedBy (Some l) (Some m) before id bytes descriptors s after =
-    ((s ≡ status.Ok) × (after ≡ with_arrivals before id l (mailbox_with m l.received bytes descriptors) (put_in l.received descriptors))
+    ((s ≡ status.Ok) × (after ≡ with_arrivals before id (with_heard bytes descriptors l) (mailbox_with m l.received bytes descriptors) (put_in l.received descriptors))
     × MayArrive m bytes descriptors)
     ⊎ (RefusesArrival m bytes descriptors s × (after ≡ before))
 
@@ -180,7 +184,7 @@ asked_again s slot m = if length m.waiting.bytes == 0 then listed s slot else s
 abbrev pub after_sent : ServerState → ClientParts → ℕ → Ledger → MailboxState → ServerState
 after_sent s id count l m = record s {
   core = state_over s.core id (mailbox_after count m);
-  seats = asked_again (with_ledger s.seats id (record l { sending = queue_after count m l.sending })) id.slot (mailbox_after count m);
+  seats = asked_again (with_ledger s.seats id (ledger_after count m l)) id.slot (mailbox_after count m);
 }
 
 abbrev pub SentBy : Option Ledger → Option MailboxState → ServerState → ClientParts → ℕ → Status → ServerState → Type 0

@@ -40,6 +40,7 @@ new_state table = record {
   refuses_nulls = false;
   keeps_notes = true;
   told = [];
+  tells = false;
 }
 
 -- the session is a new one with the table of the rows

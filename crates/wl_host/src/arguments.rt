@@ -84,21 +84,21 @@ impl Needs {
 }
 
 /// How many zeros follow a string of that length: up to the next multiple of eight, and one at least.
-fn zeros_behind_string(length: usize) -> usize
+pub(crate) fn zeros_behind_string(length: usize) -> usize
     ensures { result ≡ zeros_behind_string length }
 {
     8 - length % 8
 }
 
 /// How many zeros follow an array of that length: up to the next multiple of eight.
-fn zeros_behind_array(length: usize) -> usize
+pub(crate) fn zeros_behind_array(length: usize) -> usize
     ensures { result ≡ zeros_behind_array length }
 {
     (8 - length % 8) % 8
 }
 
 /// How many bytes the argument takes, if it is a string or an array, with the zeros behind it. It saturates at `usize::MAX`.
-fn length_of<Id>(arg: &Argument<Id, Token>) -> usize
+pub(crate) fn length_of<Id>(arg: &Argument<Id, Token>) -> usize
     ensures { result ≡ min (length (bytes_of arg.now)) usize.MAX }
 {
     let (length, zeros) = match arg {
@@ -131,7 +131,13 @@ pub fn descriptor_count<Id>(args: &[Argument<Id, Token>]) -> usize
 
 /// Copies the bytes of a string or an array to the place `at` of the lent bytes, with so many zeros behind them. There is room
 /// for all of it.
-fn write_bytes(number: u32, from: &[u8], zeros: usize, bytes: &mut [u8], at: usize) -> FlatArgument
+pub(crate) fn write_bytes(
+    number: u32,
+    from: &[u8],
+    zeros: usize,
+    bytes: &mut [u8],
+    at: usize,
+) -> FlatArgument
     requires { at + length (from.now ++ replicate zeros 0) ≤ length bytes.old }
     ensures flat { result ≡ flat_bytes number (count_number at) (count_number (length from.now)) }
     ensures bytes { bytes.new ≡ written_at at (from.now ++ replicate zeros 0) bytes.old }

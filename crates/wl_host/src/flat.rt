@@ -4,7 +4,7 @@
 //! them. Ids are values: one that is stale or made up names nothing, and the calls say so.
 
 ghost use Rattle.std.specs.Prelude.{◌≡◌, ◌<◌, ◌^◌};
-ghost use Rattle.wl_host.specs.Flat.{client_of, count_number, flat_bytes, flat_client, flat_global, flat_number, flat_object, flat_proxy, flat_resource, global_of, interface_number, no_action, no_client, no_global, no_object, proxy_of, resource_of};
+ghost use Rattle.wl_host.specs.Flat.{client_of, count_number, flat_bytes, flat_client, flat_global, flat_number, flat_object, flat_proxy, flat_resource, global_of, interface_number, no_action, no_client, no_global, no_object, none_told, proxy_of, resource_of};
 
 use wl_client::ObjectId as ProxyId;
 use wl_server::{ClientId, GlobalId, ObjectId};
@@ -49,6 +49,15 @@ pub const KILLED: u32 = 2;
 
 /// The kind of a [`FlatNote`]: an object that had data is gone.
 pub const DESTROYED: u32 = 3;
+
+/// The kind of a [`FlatTold`]: a message that was read.
+pub const MESSAGE: u32 = 1;
+
+/// The kind of a [`FlatTold`]: a message that was not read, of an object that is not known or of an opcode that the table lacks.
+pub const UNKNOWN_MESSAGE: u32 = 2;
+
+/// The kind of a [`FlatTold`]: what was sent is no message.
+pub const NO_MESSAGE: u32 = 3;
 
 /// The kind of a [`FlatError`]: a fault of the connection.
 pub const IO: u32 = 1;
@@ -266,6 +275,28 @@ pub struct FlatNote {
     pub message_length: u32,
     /// How many bytes of the text, behind the message, are the name of the interface of the object that it is about.
     pub interface_length: u32,
+}
+
+/// A message that went over a connection, as it is told: [`MESSAGE`], [`UNKNOWN_MESSAGE`] or [`NO_MESSAGE`].
+#[repr(C)]
+#[derive(Clone, Copy, Debug, PartialEq, Eq, Drop)]
+pub struct FlatTold {
+    /// Which of them it is.
+    pub kind: u32,
+    /// 1 if the server sent it, an event; 0 if the client did, a request.
+    pub is_event: u32,
+    /// The number of the object that it was sent to, or that sent it.
+    pub number: u32,
+    /// The place of its interface in the table; 0 if it is not known.
+    pub interface: u32,
+    /// The opcode.
+    pub opcode: u32,
+    /// How many arguments it has, if it was read.
+    pub arguments: u32,
+    /// How many bytes the strings and arrays take together, with the zeros behind each.
+    pub bytes: u32,
+    /// 1 if nothing is told of this side any more: what it sent cannot be followed further; else 0.
+    pub is_last: u32,
 }
 
 /// A client that the session let go, with what is still to be sent to it.
@@ -497,6 +528,24 @@ impl FlatAction {
             bytes: 0,
             global: FlatGlobalId::none(),
             forbidden_null: 0,
+        }
+    }
+}
+
+impl FlatTold {
+    /// All zeros.
+    pub fn none() -> Self
+        ensures { result ≡ none_told }
+    {
+        FlatTold {
+            kind: 0,
+            is_event: 0,
+            number: 0,
+            interface: 0,
+            opcode: 0,
+            arguments: 0,
+            bytes: 0,
+            is_last: 0,
         }
     }
 }

@@ -1,8 +1,12 @@
 //! What follows from the definitions alone. Each function has a law as its contract, and does nothing.
 
-ghost use Rattle.std.specs.Prelude.{◌≡◌, ◌≢◌, ◌<◌, ◌^◌, ℕ, ℤ, Bool, Err, List, Ok, Option, Result, Some, length, true};
+ghost use Rattle.std.specs.Prelude.{◌≡◌, ◌≢◌, ◌<◌, ◌≤◌, ◌^◌, ◌++◌, ◌∷◌, [], ℕ, ℤ, Bool, Err, List, Ok, Option, Result, Some, false, length, min, true};
 ghost use Rattle.std.specs.List.{AllByRecursion};
 ghost use Rattle.wl_client.specs.ObjectId.{IdParts as ProxyParts};
+ghost use Rattle.wl_follow.specs.Sent.{untold};
+ghost use Rattle.wl_follow.specs.declared.side.Side.TheVariants.{Client, Server};
+ghost use Rattle.wl_link.specs.Exchange.{joined};
+ghost use Rattle.wl_link.specs.Mailbox.{MailboxState, front};
 ghost use Rattle.wl_link.specs.declared.mailbox.Ending.{Ending};
 ghost use Rattle.wl_server.specs.Backend.{Calls};
 ghost use Rattle.wl_server.specs.Ids.{ClientParts, GlobalParts, IdParts};
@@ -11,6 +15,7 @@ ghost use Rattle.wl_server.specs.declared.runs.step.Step.TheVariants as step;
 ghost use Rattle.wl_wire.specs.declared.argument.Argument.{Argument};
 ghost use Rattle.wl_wire.specs.declared.argument.ArgumentType.{ArgumentType};
 ghost use Rattle.wl_wire.specs.declared.argument.Token.{Token};
+ghost use Rattle.wl_wire.specs.declared.error.OutOfMemory.{OutOfMemory};
 ghost use Rattle.wl_wire.specs.Table.{InterfaceRow};
 ghost use Rattle.wl_host.specs.Actions.{EndsBind, EndsRequest, Lent, NextAction};
 ghost use Rattle.wl_host.specs.Allowed.{LendsAllowedAction, LendsAllowedEvent};
@@ -24,14 +29,20 @@ ghost use Rattle.wl_host.specs.Descriptors.{Descriptors};
 ghost use Rattle.wl_host.specs.Events.{Passed, PostsError, SendsEvent};
 ghost use Rattle.wl_host.specs.Extending.{HasRow, KeepsInterfaces};
 ghost use Rattle.wl_host.specs.Flushing.{FlushesClient};
-ghost use Rattle.wl_host.specs.Flat.{flat_proxy, flat_resource, proxy_of, resource_of};
+ghost use Rattle.wl_host.specs.Flat.{client_of, flat_proxy, flat_resource, proxy_of, resource_of};
+ghost use Rattle.wl_host.specs.Hearing.{is_told, ledger_after, with_heard};
 ghost use Rattle.wl_host.specs.Killed.{IsSettled, KnowsEnd, StaysSettled};
 ghost use Rattle.wl_host.specs.Notes.{NextNote};
 ghost use Rattle.wl_host.specs.Nulls.{TellsNull, forbidden_null};
 ghost use Rattle.wl_host.specs.Registries.{AllTell, Announces, Called, KeepsOutstanding, Neither, Tells};
 ghost use Rattle.wl_host.specs.Rows.{said_by};
-ghost use Rattle.wl_host.specs.Server.{Ends, NextWritable, Received, Sent, ServerState};
+ghost use Rattle.wl_host.specs.Seats.{ledger_of};
+ghost use Rattle.wl_host.specs.Sending.{Copied, queue_after};
+ghost use Rattle.wl_host.specs.Server.{Ends, NextWritable, Received, Sent, ServerState, to_send};
 ghost use Rattle.wl_host.specs.Tables.{AddsInterfaces, ExtendsClient, ExtendsInterfaces, IsNewServer};
+ghost use Rattle.wl_host.specs.Tellings.{CatchesUpWith, CopiesTold, NextTold, ReadsTold, SendsTold, TellsNothing, unread_by};
+ghost use Rattle.wl_host.specs.Told.{LentTold, said_part};
+ghost use Rattle.wl_host.specs.ToldRuns.{AreTold, CaughtUp, ComesTo, ComesToAll, Deed, FoundNone, Heard, Leads, NothingWaits, SentOff, Watched, Watches, all_found, all_handed, all_heard, all_read, all_sent, all_told, kept_in, new_watched};
 ghost use Rattle.wl_host.specs.declared.extending.ExtensionFault.{ExtensionFault};
 ghost use Rattle.wl_host.specs.declared.flat.FlatArgument.{FlatArgument};
 ghost use Rattle.wl_host.specs.declared.flat.FlatClientId.{FlatClientId};
@@ -40,6 +51,7 @@ ghost use Rattle.wl_host.specs.declared.flat.FlatNote.{FlatNote};
 ghost use Rattle.wl_host.specs.declared.flat.FlatObjectId.{FlatObjectId};
 ghost use Rattle.wl_host.specs.declared.rows.Rows.{Rows};
 ghost use Rattle.wl_host.specs.declared.rows.TableFault.{TableFault};
+ghost use Rattle.wl_host.specs.declared.server.ledger.Ledger.{Ledger};
 ghost use Rattle.wl_host.specs.declared.status.Status.{Status};
 ghost use Rattle.wl_host.specs.declared.status.Status.TheVariants as status;
 
@@ -68,8 +80,8 @@ pub fn a_forbidden_null_is_told()
 /// While a session refuses nulls that the table forbids, what it hands out has none: each argument that is null stands where the
 /// signature allows it, and `forbidden_null` is 0.
 pub fn no_forbidden_null_is_handed_out()
-    ensures action { (before after : ServerState) (id : ClientParts) (arguments : List FlatArgument) (bytes : List ℕ) (lent : Lent) (came_out : List ℤ) → before.refuses_nulls ≡ true → NextAction before id arguments bytes status.Ok lent came_out after → LendsAllowedAction after.core arguments bytes lent }
-    ensures action_tells_none { (before after : ServerState) (id : ClientParts) (arguments : List FlatArgument) (bytes : List ℕ) (lent : Lent) (came_out : List ℤ) → before.refuses_nulls ≡ true → NextAction before id arguments bytes status.Ok lent came_out after → lent.out.forbidden_null ≡ 0 }
+    ensures action { (before after : ServerState) (id : ClientParts) (arguments : List FlatArgument) (bytes : List ℕ) (lent : Lent) (came_out : List ℤ) → before.refuses_nulls ≡ true → ReadsTold before id arguments bytes status.Ok lent came_out after → LendsAllowedAction after.core arguments bytes lent }
+    ensures action_tells_none { (before after : ServerState) (id : ClientParts) (arguments : List FlatArgument) (bytes : List ℕ) (lent : Lent) (came_out : List ℤ) → before.refuses_nulls ≡ true → ReadsTold before id arguments bytes status.Ok lent came_out after → lent.out.forbidden_null ≡ 0 }
     ensures event { (before after : HostedClient) (lent lent' : LentForEvent) (came_out : List ℤ) → before.refuses_nulls ≡ true → HandsNext before lent status.Ok came_out after lent' → LendsAllowedEvent before after.core lent lent' }
     ensures event_tells_none { (before after : HostedClient) (lent lent' : LentForEvent) (came_out : List ℤ) → before.refuses_nulls ≡ true → HandsNext before lent status.Ok came_out after lent' → lent'.out.forbidden_null ≡ 0 }
 {}
@@ -106,7 +118,7 @@ pub fn a_cleanup_looks_for_the_killed()
     ensures extend_interfaces { (before after : ServerState) (rows : Rows) (result : Result (Unit {0}) ExtensionFault) → ExtendsInterfaces rows before.core result after.core → after ≡ record before { core = after.core } → StaysSettled before after }
     ensures received { (before after : ServerState) (id : ClientParts) (bytes : List ℕ) (descriptors : List ℤ) (s : Status) → Received before id bytes descriptors s after → StaysSettled before after }
     ensures ended { (before after : ServerState) (id : ClientParts) (ending : Ending) (s : Status) → Ends before id ending s after → StaysSettled before after }
-    ensures next_action { (before after : ServerState) (id : ClientParts) (arguments : List FlatArgument) (bytes : List ℕ) (s : Status) (lent : Lent) (came_out : List ℤ) → NextAction before id arguments bytes s lent came_out after → StaysSettled before after }
+    ensures next_action { (before after : ServerState) (id : ClientParts) (arguments : List FlatArgument) (bytes : List ℕ) (s : Status) (lent : Lent) (came_out : List ℤ) → ReadsTold before id arguments bytes s lent came_out after → StaysSettled before after }
     ensures finish_request { (before after : ServerState) (id : ClientParts) (user_data : Option ℕ) (result : Result Bool Status) → KnowsEnd before id → EndsRequest before id user_data result after → StaysSettled before after }
     ensures finish_bind { (before after : ServerState) (id : ClientParts) (user_data : ℕ) (result : Result Bool Status) → EndsBind before id user_data result after → StaysSettled before after }
     ensures send_event { (before after : ServerState) (passed : Passed) (s : Status) → SendsEvent before passed s after → StaysSettled before after }
@@ -121,7 +133,9 @@ pub fn a_cleanup_looks_for_the_killed()
     ensures flush_client { (before after : ServerState) (id : ClientParts) (s : Status) → FlushesClient before id s after → StaysSettled before after }
     ensures refused_global { (before after : ServerState) (interface version user_data groups : ℕ) (hidden : List FlatClientId) (s : Status) → CreatesGlobal before.core interface version user_data groups hidden (Err s) after.core → after ≡ record before { core = after.core } → StaysSettled before after }
     ensures next_writable { (before after : ServerState) (result : Result FlatClientId Status) → NextWritable before result after → StaysSettled before after }
-    ensures sent { (before after : ServerState) (id : ClientParts) (count : ℕ) (s : Status) → Sent before id count s after → StaysSettled before after }
+    ensures to_send { (before after : ServerState) (id : ClientParts) (bytes : List ℕ) (descriptors : List ℤ) (copied : Copied) → CopiesTold before id bytes descriptors copied after → StaysSettled before after }
+    ensures sent { (before after : ServerState) (id : ClientParts) (count : ℕ) (s : Status) → SendsTold before id count s after → StaysSettled before after }
+    ensures next_told { (before after : ServerState) (id : ClientParts) (lent : LentTold) (s : Status) (lent' : LentTold) → NextTold before id lent s lent' after → StaysSettled before after }
     ensures next_note { (before after : ServerState) (out out' : FlatNote) (text text' : List ℕ) (s : Status) → NextNote before out text s out' text' after → StaysSettled before after }
     ensures cleanup { (before after : ServerState) (s : Status) → CleansUp before s after → StaysSettled before after }
     ensures marked { (before after : ServerState) → after.may_clean_up ≡ true → StaysSettled before after }
@@ -141,10 +155,72 @@ pub fn a_registry_is_told_of_the_removal_of_what_it_was_told_of()
     ensures outstanding { (before : ServerState) (run : List Called) → AllTell before run → KeepsOutstanding before run }
     ensures refused { (before after : ServerState) (registry : IdParts) (global : GlobalParts) (s : Status) → Announces before registry global s after → s ≢ status.Ok → Tells before Neither after }
     ensures received { (before after : ServerState) (id : ClientParts) (bytes : List ℕ) (descriptors : List ℤ) (s : Status) → Received before id bytes descriptors s after → Tells before Neither after }
-    ensures next_action { (before after : ServerState) (id : ClientParts) (arguments : List FlatArgument) (bytes : List ℕ) (s : Status) (lent : Lent) (came_out : List ℤ) → NextAction before id arguments bytes s lent came_out after → Tells before Neither after }
+    ensures next_action { (before after : ServerState) (id : ClientParts) (arguments : List FlatArgument) (bytes : List ℕ) (s : Status) (lent : Lent) (came_out : List ℤ) → ReadsTold before id arguments bytes s lent came_out after → Tells before Neither after }
+    ensures to_send { (before after : ServerState) (id : ClientParts) (bytes : List ℕ) (descriptors : List ℤ) (copied : Copied) → CopiesTold before id bytes descriptors copied after → Tells before Neither after }
+    ensures sent { (before after : ServerState) (id : ClientParts) (count : ℕ) (s : Status) → SendsTold before id count s after → Tells before Neither after }
+    ensures next_told { (before after : ServerState) (id : ClientParts) (lent : LentTold) (s : Status) (lent' : LentTold) → NextTold before id lent s lent' after → Tells before Neither after }
     ensures finish_request { (before after : ServerState) (id : ClientParts) (user_data : Option ℕ) (result : Result Bool Status) → EndsRequest before id user_data result after → Tells before Neither after }
     ensures finish_bind { (before after : ServerState) (id : ClientParts) (user_data : ℕ) (result : Result Bool Status) → EndsBind before id user_data result after → Tells before Neither after }
     ensures send_event { (before after : ServerState) (passed : Passed) (s : Status) → SendsEvent before passed s after → Tells before Neither after }
     ensures cleanup { (before after : ServerState) (s : Status) → CleansUp before s after → Tells before Neither after }
     ensures beside { (before after : ServerState) → after.told ≡ before.told → Tells before Neither after }
+{}
+
+/// Of a client whose messages are not told each call does what it would do if there were no telling.
+///
+/// Such is a client that was inserted while none was to be told. Of it `next_action` does what `NextAction` says, and `sent` what `Sent`
+/// does, nothing before; `to_send` changes nothing, and `next_told` answers `InvalidId` and changes nothing. What arrives and what was
+/// sent changes nothing else of its ledger than its queues (`received`, `left`).
+pub fn without_telling_each_call_is_as_it_was()
+    ensures insert_client { (before after : ServerState) (user_data : ℕ) (client : FlatClientId) → before.tells ≡ false → after ≡ inserted before after.core (Ok client) user_data → is_told (ledger_of (client_of client) after.seats.ledgers) ≡ false }
+    ensures next_action { (before after : ServerState) (id : ClientParts) (arguments : List FlatArgument) (bytes : List ℕ) (s : Status) (lent : Lent) (came_out : List ℤ) → is_told (ledger_of id before.seats.ledgers) ≡ false
+        → ReadsTold before id arguments bytes s lent came_out after → NextAction before id arguments bytes s lent came_out after }
+    ensures to_send { (before after : ServerState) (id : ClientParts) (bytes : List ℕ) (descriptors : List ℤ) (copied : Copied) → is_told (ledger_of id before.seats.ledgers) ≡ false
+        → CopiesTold before id bytes descriptors copied after → (copied ≡ to_send before id bytes descriptors) × (after ≡ before) }
+    ensures sent { (before after : ServerState) (id : ClientParts) (count : ℕ) (s : Status) → is_told (ledger_of id before.seats.ledgers) ≡ false
+        → SendsTold before id count s after → Sent before id count s after }
+    ensures next_told { (before after : ServerState) (id : ClientParts) (lent : LentTold) (s : Status) (lent' : LentTold) → is_told (ledger_of id before.seats.ledgers) ≡ false
+        → NextTold before id lent s lent' after → TellsNothing status.InvalidId before lent s lent' after }
+    ensures received { (l : Ledger) (bytes : List ℕ) (descriptors : List ℤ) → is_told (Some l) ≡ false → with_heard bytes descriptors l ≡ l }
+    ensures left { (l : Ledger) (count : ℕ) (m : MailboxState) → is_told (Some l) ≡ false → ledger_after count m l ≡ record l { sending = queue_after count m l.sending } }
+{}
+
+/// What is heard of a client whose messages are told is told once, in its order; and so is what is said to it, as far as it is seen in
+/// its mailbox.
+///
+/// A run is what the calls of the session come to for the client, from its insertion on, whatever tables they go by: what `received` took,
+/// what was put into its mailbox, what `sent` took off, and the messages that `next_told` found. As long as the client is followed, the
+/// pieces of its messages that were found, and then what is untold, are all bytes and descriptors that arrived (`heard`). As long as the
+/// server is, they are all that was sent, and then of what waits in the mailbox as much as was seen there (`said`): what is written waits
+/// in the core first, and is not seen before it is in the mailbox. Each message that was found is handed out once, in the order in which
+/// they were found, but for one that is kept for want of room (`handed_out`).
+///
+/// No byte of the client is told that the session had not read when what is told caught up with it (`read`). Once `next_told` found that
+/// nothing is left, of a side that is followed all has had its turn: of the client all but what the session had not read, and of the
+/// server all that waits in the mailbox. None of it waits for the other side (`all`).
+///
+/// The clauses from `insert_client` on say what the calls come to, in the words of their own clauses; `caught_up` is for what
+/// `next_action` and `to_send` begin with. Of other calls a run has what they put into the mailbox.
+pub fn what_is_heard_and_said_is_told_once()
+    ensures heard { (run : List Deed) (after : Watched) → Leads new_watched run after → after.telling.follower.client.is_followed ≡ true
+        → joined (all_told Client run) (untold after.telling.follower.client) ≡ all_heard run }
+    ensures said { (run : List Deed) (after : Watched) → Leads new_watched run after → after.telling.follower.server.is_followed ≡ true
+        → joined (all_told Server run) (untold after.telling.follower.server) ≡ joined (all_sent run) (said_part after.waiting after.telling) }
+    ensures handed_out { (run : List Deed) (after : Watched) → Leads new_watched run after → all_handed run ++ kept_in after.telling ≡ all_found run }
+    ensures read { (run : List Deed) (after : Watched) → Leads new_watched run after → length (all_told Client run).bytes ≤ all_read run }
+    ensures all { (run : List Deed) (unread : ℕ) (table : List InterfaceRow) (before after : Watched) → Leads new_watched run before
+        → Leads before (CaughtUp unread (Ok tt) ∷ FoundNone table ∷ []) after → NothingWaits unread after }
+    ensures insert_client { (before after : ServerState) (user_data groups : ℕ) (hidden : List FlatGlobalId) (client : FlatClientId) → before.tells ≡ true
+        → InsertsClient before.core user_data groups hidden (Ok client) after.core → after ≡ inserted before after.core (Ok client) user_data
+        → Watches (client_of client) after new_watched }
+    ensures received { (before after : ServerState) (id : ClientParts) (bytes : List ℕ) (descriptors : List ℤ) (w : Watched) → Watches id before w
+        → Received before id bytes descriptors status.Ok after → ComesTo id w (Heard bytes descriptors) after }
+    ensures caught_up { (before after : ServerState) (id : ClientParts) (result : Result (Unit {0}) OutOfMemory) (w : Watched) → Watches id before w
+        → CatchesUpWith before id result after → ComesTo id w (CaughtUp (unread_by before id) result) after }
+    ensures sent { (before after : ServerState) (id : ClientParts) (count : ℕ) (w : Watched) → Watches id before w
+        → SendsTold before id count status.Ok after
+        → (n : ℕ) × (n ≡ min count (length w.waiting.bytes)) × ComesTo id w (SentOff (unread_by before id) n (front n w.waiting)) after }
+    ensures next_told { (before after : ServerState) (id : ClientParts) (lent : LentTold) (s : Status) (lent' : LentTold) (w : Watched) → Watches id before w
+        → NextTold before id lent s lent' after
+        → (run : List Deed) × AreTold before.core.server.offer.table (unread_by before id) lent s lent' run × ComesToAll id w run after }
 {}

@@ -22,6 +22,7 @@
 //! | laws of the flat structs | `laws` | `Arguments`, `Nulls` |
 //! | which file descriptor a token stands for | `descriptors` | `Descriptors` |
 //! | nulls that the table forbids | `nulls` | `Nulls` |
+//! | what is told of a connection's messages | `telling`, `server::telling` | `Told`, `Tellings` |
 //! | how much waits | `waiting` | `Waiting` |
 //! | how a client broke the protocol | `server::violations` | `Violations` |
 #![tactic(auto)]
@@ -41,6 +42,7 @@ mod rows;
 mod server;
 mod signatures;
 mod status;
+mod telling;
 mod waiting;
 
 pub use client::Client;
@@ -52,7 +54,8 @@ pub use extending::ExtensionFault;
 pub use flat::{
     BIND, Counts, DESTROYED, FlatAction, FlatArgument, FlatClientId, FlatError, FlatEvent,
     FlatGlobalId, FlatGlobalInfo, FlatHeldObject, FlatNote, FlatObjectId, FlatObjectInfo,
-    FlatRequest, Gone, INSERTED, IO, KILLED, PROTOCOL, REGISTRY, REQUEST, Waiting, kind,
+    FlatRequest, FlatTold, Gone, INSERTED, IO, KILLED, MESSAGE, NO_MESSAGE, PROTOCOL, REGISTRY,
+    REQUEST, UNKNOWN_MESSAGE, Waiting, kind,
 };
 pub use laws::{a_forbidden_null_is_told, flat_arguments_come_back};
 pub use readers::{FlatReaders, FlatTurn};

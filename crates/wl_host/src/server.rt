@@ -11,6 +11,7 @@
 //! | what is to be sent, what waits, and clients that are gone | `server::sending`, `server::waiting`, `server::departures` |
 //! | registries that are handed out | `server::registries` |
 //! | notes, `keep_notes` | `server::notes` |
+//! | what is told of clients | `server::telling` |
 //! | `violation` | `server::violations` |
 
 pub mod actions;
@@ -32,6 +33,7 @@ pub mod registries;
 pub mod seats;
 pub mod sending;
 pub mod slots;
+pub mod telling;
 pub mod violations;
 pub mod waiting;
 
@@ -134,6 +136,8 @@ pub struct Server {
     pub(crate) keeps_notes: bool,
     /// Which registries were told of which globals, and not of their removal since, in order.
     pub(crate) told: Vec<Told>,
+    /// Whether the messages of each client that is inserted from now on are told.
+    pub(crate) tells: bool,
 }
 
 impl fmt::Debug for Server {
@@ -160,6 +164,7 @@ impl Model for Server {
       refuses_nulls = s.refuses_nulls;
       keeps_notes = s.keeps_notes;
       told = s.told.items;
+      tells = s.tells;
     } };
 }
 
@@ -211,6 +216,7 @@ impl Server {
             refuses_nulls: false,
             keeps_notes: true,
             told: Vec::new(alloc),
+            tells: false,
         }
     }
 

@@ -6,14 +6,15 @@ use Rattle.std.proofs.lemmas.Grind.{flat_map-append}
 use Rattle.std.proofs.lemmas.List.{map-append}
 use Rattle.wl_wire.specs.declared.argument.Token.{Token}
 use Rattle.wl_link.specs.Exchange.{Queue}
-use Rattle.wl_relay.specs.declared.side.Mode.{Mode}
-use Rattle.wl_relay.specs.declared.side.Mode.TheVariants.{HandOn, Log}
-use Rattle.wl_relay.specs.declared.side.Side.{Side}
-use Rattle.wl_relay.specs.declared.side.Side.TheVariants.{Client, Server}
+use Rattle.wl_follow.specs.Sides.{other_side}
+use Rattle.wl_follow.specs.declared.side.Side.{Side}
+use Rattle.wl_follow.specs.declared.side.Side.TheVariants.{Client, Server}
+use Rattle.wl_relay.specs.declared.mode.Mode.{Mode}
+use Rattle.wl_relay.specs.declared.mode.Mode.TheVariants.{HandOn, Log}
 use Rattle.wl_relay.specs.declared.stop.Stop.{Stop}
 use Rattle.wl_relay.specs.declared.stop.Stop.TheVariants.{BadLine, BadTable, Failed}
 use Rattle.wl_relay.specs.Flow.{Arrives, KeepsOtherWay, Logged, ReadsAll, RelayState, TakesLog, TakesOut, to_send}
-use Rattle.wl_relay.specs.Log.{Known, other_side}
+use Rattle.wl_relay.specs.Log.{Known}
 use Rattle.wl_relay.specs.Input.{Line, fed, lines, text_of}
 use Rattle.wl_relay.specs.Inside.Reading.{FindsTable, HasAnswered, HasNoLine, ReadsLine}
 use Rattle.wl_relay.specs.Program.{Answer, Answered, HasNoneReady, IsBad, IsNewRelay, Runs, RunsLines, SentAll, Serves, Takes, TakesEach, answer, logged_line, sent_line, sent_lines, table_with}

@@ -3,8 +3,8 @@ use Rattle.std.proofs.Common.{◌≡◌, List, Option, Some, None, Result, Ok, E
 use Rattle.std.specs.Prelude.{IfOk}
 use Rattle.std.specs.Str.{IsUtf8}
 use Rattle.wl_link.specs.Exchange.{Queue}
+use Rattle.wl_follow.specs.declared.side.Side.{Side}
 use Rattle.wl_relay.specs.declared.commands.Arrival.{Arrival}
-use Rattle.wl_relay.specs.declared.side.Side.{Side}
 use Rattle.wl_relay.specs.Input.{Line}
 use Rattle.wl_relay.specs.Inside.Gathering.{FindsArrival, came_of}
 use Rattle.wl_relay.specs.Program.{IsArrival, SayCame}

@@ -22,20 +22,23 @@ use Rattle.wl_link.specs.MailboxLink.{still_to_read, still_to_send}
 use Rattle.wl_link.specs.Store.{Store}
 use Rattle.wl_link.proofs.Calls.QueueLaws.{joined_assoc, joined_nothing, queue_is}
 use Rattle.wl_link.proofs.Calls.ReadLaws.{reads_enough}
+use Rattle.wl_follow.specs.Sides.{other_side}
+use Rattle.wl_follow.specs.Fronts.{HasNoMessage, IsUnknown, LacksPart, ReadsKnown}
+use Rattle.wl_follow.specs.declared.front.NoMessage.TheVariants as none
+use Rattle.wl_follow.specs.declared.side.Fault.{Fault}
+use Rattle.wl_follow.specs.declared.side.Fault.TheVariants as fault
+use Rattle.wl_follow.specs.declared.side.Side.{Side}
+use Rattle.wl_follow.specs.declared.side.Side.TheVariants.{Client, Server}
 use Rattle.wl_relay.specs.Announcements.{EditsMessage, going_on, is_change}
 use Rattle.wl_relay.specs.Flow.{Logged, LogsRead, PutsIn, RelayState, not_received, to_read, to_send}
 use Rattle.wl_relay.specs.Inside.Passing.{HandsOnAll, NotesUnder, PassedOn, PassesAs, PassesUnknown, ReadsOn, ReadsUpTo, Sends, StopsAt, TakenOff, TellsFault}
-use Rattle.wl_relay.specs.Log.{AwaitsMore, Ends, Gains, GrowsLog, IsDone, IsKnown, IsUnknown, Known, LacksPart, ObjectsAfter, Passage, Passes, Stops, Tells, all_sent, any_change, fault_line, follows, hears, lines_of, message_line, other_side, stopped, unknown_line}
+use Rattle.wl_relay.specs.Log.{AwaitsMore, Ends, Gains, GrowsLog, IsDone, Known, ObjectsAfter, Passage, Passes, Stops, Tells, all_sent, any_change, fault_line, follows, hears, lines_of, message_line, stopped, unknown_line}
 use Rattle.wl_relay.specs.declared.follow.Passed.{Passed}
 use Rattle.wl_relay.specs.declared.follow.Passed.TheVariants as passed
 use Rattle.wl_relay.specs.declared.notes.Edit.{Edit}
 use Rattle.wl_relay.specs.declared.notes.Edit.TheVariants as edit
-use Rattle.wl_relay.specs.declared.side.Fault.{Fault}
-use Rattle.wl_relay.specs.declared.side.Fault.TheVariants as fault
-use Rattle.wl_relay.specs.declared.side.Mode.{Mode}
-use Rattle.wl_relay.specs.declared.side.Mode.TheVariants.{HandOn, Log}
-use Rattle.wl_relay.specs.declared.side.Side.{Side}
-use Rattle.wl_relay.specs.declared.side.Side.TheVariants.{Client, Server}
+use Rattle.wl_relay.specs.declared.mode.Mode.{Mode}
+use Rattle.wl_relay.specs.declared.mode.Mode.TheVariants.{HandOn, Log}
 
 -- ---- what holds of an answer
 
@@ -195,12 +198,17 @@ module _ (table : List InterfaceRow) (side : Side) where
 
   -- ---- the first message of a link
 
-  module _ (sender opcode : ℕ) (k k' : Known) (from from' to to' : LinkState MailboxState)
-      (sender_is : sender ≡ sender_of from.incoming.bytes) (opcode_is : opcode ≡ opcode_of from.incoming.bytes) where
-    module _ (is_unknown : IsUnknown table k.objects side sender opcode) where
+  module _ (k k' : Known) (from from' to to' : LinkState MailboxState) where
+    module _ (sender opcode : ℕ) (found : HasNoMessage table k.objects side from.incoming (none.Unknown sender opcode)) where
+      sender_is : sender ≡ sender_of from.incoming.bytes
+      sender_is = found.1
+
+      opcode_is : opcode ≡ opcode_of from.incoming.bytes
+      opcode_is = found.2
+
       unknown_at : (s o : ℕ) → sender ≡ s → opcode ≡ o → IsUnknown table k.objects side s o
       unknown_at s o same_sender same_opcode =
-          subst (λ (n : ℕ). IsUnknown table k.objects side n o) same_sender (subst (λ (n : ℕ). IsUnknown table k.objects side sender n) same_opcode is_unknown)
+          subst (λ (n : ℕ). IsUnknown table k.objects side n o) same_sender (subst (λ (n : ℕ). IsUnknown table k.objects side sender n) same_opcode found.3)
 
       unknown_reads : k.mode ≡ Log → TakenOff [] from from' → Sends to (first_of [] from.incoming) to'
           → k' ≡ record k { log = k.log ++ unknown_line side sender opcode ∷ [] }
@@ -229,152 +237,151 @@ module _ (table : List InterfaceRow) (side : Side) where
           one_reads k k' (still_to_read from) (still_to_read from') (still_to_send to) (still_to_send to') p tells known_is sends (λ _. refl)
 
       -- a message that is not known
-      unknown_passes : (p : Passed) → 8 ≤ length from.incoming.bytes → PassesUnknown side sender opcode k from to p k' from' to'
-          → PassesAs table side k from to p k' from' to'
-      unknown_passes passed.One header passes =
-          (unknown_reads passes.0 passes.1.0 passes.1.1 passes.2, taken_fewer [] from from' passes.1.0)
-      unknown_passes passed.Nothing header passes =
+      unknown_passes : (p : Passed) → PassesUnknown side sender opcode k from to p k' from' to' → PassesAs table side k from to p k' from' to'
+      unknown_passes passed.One passes = (unknown_reads passes.0 passes.1.0 passes.1.1 passes.2, taken_fewer [] from from' passes.1.0)
+      unknown_passes passed.Nothing passes =
           (passes.2, passes.1.0, passes.1.1, inr (inl (passes.0, unknown_at _ _ sender_is opcode_is, passes.1.2)))
-      unknown_passes (passed.Fault f) header passes =
+      unknown_passes (passed.Fault f) passes =
           let why : (k.mode ≡ HandOn) ⊎ (length_of from.incoming.bytes < 8)
           = elim passes.4 [ inl short ↦ inr short.1.4 | inr is ↦ inl is ] in (
             passes.1,
             passes.2,
-            ([], k.objects, inl ((header, inl (unknown_at _ _ sender_is opcode_is, why)), passes.3, refl, refl), passes.0 ∙ ap (λ (ls : List (List ℕ)). record k { log = ls }) (sym (append-nil k.log))),
+            (
+              [],
+              k.objects,
+              inl ((found.0, inl (unknown_at _ _ sender_is opcode_is, why)), passes.3, refl, refl),
+              passes.0 ∙ ap (λ (ls : List (List ℕ)). record k { log = ls }) (sym (append-nil k.log)),
+            ),
           )
 
-    module _ (object : Object (Unit {0})) (row : MessageRow) (is_known : IsKnown table k.objects side sender opcode object row) where
-      known_at : (s o : ℕ) → sender ≡ s → opcode ≡ o → IsKnown table k.objects side s o object row
-      known_at s o same_sender same_opcode =
-          subst (λ (n : ℕ). IsKnown table k.objects side n o object row) same_sender
-          (subst (λ (n : ℕ). IsKnown table k.objects side sender n object row) same_opcode is_known)
+    -- a message that lacks a part
+    known_waits : HasNoMessage table k.objects side from.incoming none.Incomplete → k' ≡ k → from' ≡ from → to' ≡ to
+        → PassesAs table side k from to passed.Nothing k' from' to'
+    known_waits found is same_from same_to =
+        (is, same_from, same_to, elim found [ inl short ↦ inl short | inr lacks ↦ inr (inr lacks) ])
 
-      -- a message that lacks a part
-      known_waits : k' ≡ k → from' ≡ from → to' ≡ to → LacksPart row.signature from.incoming → PassesAs table side k from to passed.Nothing k' from' to'
-      known_waits is same_from same_to lacks = (is, same_from, same_to, inr (inr (object, row, known_at _ _ sender_is opcode_is, lacks)))
+    -- a message that cannot be read
+    known_malformed : HasNoMessage table k.objects side from.incoming none.Malformed → k' ≡ k → from' ≡ from → to' ≡ to
+        → PassesAs table side k from to (passed.Fault fault.Malformed) k' from' to'
+    known_malformed found is same_from same_to = (
+      same_from,
+      same_to,
+      (
+        [],
+        k.objects,
+        inl ((found.0, inr found.1), refl, refl, refl),
+        is ∙ ap (λ (ls : List (List ℕ)). record k { log = ls }) (sym (append-nil k.log)),
+      ),
+    )
 
-      -- a message that cannot be read
-      known_malformed : 8 ≤ length from.incoming.bytes → k' ≡ k → from' ≡ from → to' ≡ to
-          → RefusesMessage from.incoming.bytes row.signature from.incoming.tokens errors.Malformed
-          → PassesAs table side k from to (passed.Fault fault.Malformed) k' from' to'
-      known_malformed header is same_from same_to refused = (
+    module _ (object : Object (Unit {0})) (row : MessageRow) (m : WireMessage) (found : ReadsKnown table k.objects side from.incoming object row m)
+        (line : List ℕ) where
+      -- a message whose objects cannot be noted
+      known_refused : (e : Edit) (f : Fault) (objects' : Store (Unit {0})) → EditsMessage table k.mode side object.interface m e
+          → line ≡ message_line table k.objects side object.interface row m e
+          → NotesUnder table k.mode side (hears side k) object row m k.objects e (Some f) objects'
+          → k' ≡ record k { log = k.log ++ line ∷ []; objects = objects' } → from' ≡ from → to' ≡ to
+          → PassesAs table side k from to (passed.Fault f) k' from' to'
+      known_refused edit.Nothing f objects' edits text noted is same_from same_to = (
         same_from,
         same_to,
-        ([], k.objects, inl ((header, inr (object, row, known_at _ _ sender_is opcode_is, refused)), refl, refl, refl), is ∙ ap (λ (ls : List (List ℕ)). record k { log = ls }) (sym (append-nil k.log))),
-      )
-
-      module _ (m : WireMessage) (reads : ReadsMessage from.incoming.bytes row.signature from.incoming.tokens m) (line : List ℕ) where
-        known_here : IsKnown table k.objects side m.sender m.opcode object row
-        known_here = known_at m.sender m.opcode (sender_is ∙ sym reads.sender) (opcode_is ∙ sym reads.opcode)
-
-        -- a message whose objects cannot be noted
-        known_refused : (e : Edit) (f : Fault) (objects' : Store (Unit {0})) → EditsMessage table k.mode side object.interface m e
-            → line ≡ message_line table k.objects side object.interface row m e
-            → NotesUnder table k.mode side (hears side k) object row m k.objects e (Some f) objects'
-            → k' ≡ record k { log = k.log ++ line ∷ []; objects = objects' } → from' ≡ from → to' ≡ to
-            → PassesAs table side k from to (passed.Fault f) k' from' to'
-        known_refused edit.Nothing f objects' edits text noted is same_from same_to = (
-          same_from,
-          same_to,
-          (
-            line ∷ [],
-            objects',
-            inr (inl (
-              line,
-              record {
-                object = object;
-                row = row;
-                message = m;
-                is_known = known_here;
-                reads = reads;
-                edits = edits;
-                text = text;
-                noted = noted;
-              },
-              refl,
-            )),
-            is,
-          ),
-        )
-        known_refused edit.Drop f objects' edits text noted is same_from same_to = let e = noted.0 in absurd cc
-        known_refused (edit.Lower version) f objects' edits text noted is same_from same_to = let e = noted.0 in absurd cc
-
-        known_reads : (e : Edit) (sent : Queue) → EditsMessage table k.mode side object.interface m e
-            → line ≡ message_line table k.objects side object.interface row m e
-            → ObjectsAfter table k.mode side (hears side k) object row m k.objects e k'.objects
-            → k' ≡ record k { log = k.log ++ line ∷ []; objects = k'.objects; has_changed = k.has_changed || is_change e }
-            → (k.mode ≡ Log → e ≡ edit.Nothing)
-            → TakenOff row.signature from from' → sent ≡ going_on e row.signature (still_to_read from) m → Sends to sent to'
-            → PassesAs table side k from to passed.One k' from' to'
-        known_reads e sent edits text noted is no_edit taken sent_is sends =
-            let p : Passage = record { line = line; edit = e; sent = sent } in
-            let tells : Tells table k.mode side (hears side k) k.objects (still_to_read from) p k'.objects (still_to_read from') = inl (record {
+        (
+          line ∷ [],
+          objects',
+          inr (inl (
+            line,
+            record {
               object = object;
               row = row;
               message = m;
-              is_known = known_here;
-              reads = reads_here row.signature from m reads;
+              is_known = found.0;
+              reads = found.1;
               edits = edits;
               text = text;
-              sent = sent_is;
               noted = noted;
-              rest = taken_off row.signature from from' taken;
-            }) in
-            (one_reads k k' (still_to_read from) (still_to_read from') (still_to_send to) (still_to_send to') p tells is sends no_edit, taken_fewer row.signature from from' taken)
+            },
+            refl,
+          )),
+          is,
+        ),
+      )
+      known_refused edit.Drop f objects' edits text noted is same_from same_to = let e = noted.0 in absurd cc
+      known_refused (edit.Lower version) f objects' edits text noted is same_from same_to = let e = noted.0 in absurd cc
 
-        -- a message that was read, logged, noted and passed on
-        known_passes : (e : Edit) (p : Passed) → EditsMessage table k.mode side object.interface m e
-            → line ≡ message_line table k.objects side object.interface row m e
-            → NotesUnder table k.mode side (hears side k) object row m k.objects e None k'.objects
-            → k' ≡ record k { log = k.log ++ line ∷ []; objects = k'.objects; has_changed = k.has_changed || is_change e }
-            → (k.mode ≡ Log → e ≡ edit.Nothing) → PassedOn row.signature e from to p from' to'
-            → PassesAs table side k from to p k' from' to'
-        known_passes edit.Nothing passed.One edits text noted is no_edit handed =
-            known_reads edit.Nothing (first_of row.signature from.incoming) edits text noted is no_edit handed.0 (first_front row.signature from handed.0.0) handed.1
-        known_passes edit.Nothing passed.Nothing edits text noted is no_edit handed =
-            absurd (lacks_none row.signature from.incoming (is_there row.signature from m reads) handed.2)
-        known_passes edit.Nothing (passed.Fault f) edits text noted is no_edit handed =
-            absurd (omega (arith, reads.whole.counts_header, handed.4))
-        known_passes edit.Drop p edits text noted is no_edit handed =
-            subst (λ (x : Passed). PassesAs table side k from to x k' from' to') (sym handed.0)
-            (known_reads edit.Drop nothing edits text noted.1 is no_edit handed.1 refl (ap still_to_send handed.2 ∙ sym (joined_nothing (still_to_send to))))
-        known_passes (edit.Lower version) p edits text noted is no_edit handed =
-            let same : handed.2.0 ≡ m = one_message_lem handed.2.0 m from.incoming.bytes row.signature from.incoming.tokens handed.2.1 reads in
-            subst (λ (x : Passed). PassesAs table side k from to x k' from' to') (sym handed.0)
-            (known_reads (edit.Lower version) (going_on (edit.Lower version) row.signature from.incoming m) edits text noted.1 is no_edit handed.1 refl
-            (handed.2.2 ∙ ap (λ (x : WireMessage). joined (still_to_send to) (going_on (edit.Lower version) row.signature from.incoming x)) same))
+      known_reads : (e : Edit) (sent : Queue) → EditsMessage table k.mode side object.interface m e
+          → line ≡ message_line table k.objects side object.interface row m e
+          → ObjectsAfter table k.mode side (hears side k) object row m k.objects e k'.objects
+          → k' ≡ record k { log = k.log ++ line ∷ []; objects = k'.objects; has_changed = k.has_changed || is_change e }
+          → (k.mode ≡ Log → e ≡ edit.Nothing)
+          → TakenOff row.signature from from' → sent ≡ going_on e row.signature (still_to_read from) m → Sends to sent to'
+          → PassesAs table side k from to passed.One k' from' to'
+      known_reads e sent edits text noted is no_edit taken sent_is sends =
+          let p : Passage = record { line = line; edit = e; sent = sent } in
+          let tells : Tells table k.mode side (hears side k) k.objects (still_to_read from) p k'.objects (still_to_read from') = inl (record {
+            object = object;
+            row = row;
+            message = m;
+            is_known = found.0;
+            reads = reads_here row.signature from m found.1;
+            edits = edits;
+            text = text;
+            sent = sent_is;
+            noted = noted;
+            rest = taken_off row.signature from from' taken;
+          }) in
+          (one_reads k k' (still_to_read from) (still_to_read from') (still_to_send to) (still_to_send to') p tells is sends no_edit, taken_fewer row.signature from from' taken)
 
-  -- ---- the same of the answers of calls; what the relay knows is given by another name
+      -- a message that was read, logged, noted and passed on
+      known_passes : (e : Edit) (p : Passed) → EditsMessage table k.mode side object.interface m e
+          → line ≡ message_line table k.objects side object.interface row m e
+          → NotesUnder table k.mode side (hears side k) object row m k.objects e None k'.objects
+          → k' ≡ record k { log = k.log ++ line ∷ []; objects = k'.objects; has_changed = k.has_changed || is_change e }
+          → (k.mode ≡ Log → e ≡ edit.Nothing) → PassedOn row.signature e from to p from' to'
+          → PassesAs table side k from to p k' from' to'
+      known_passes edit.Nothing passed.One edits text noted is no_edit handed =
+          known_reads edit.Nothing (first_of row.signature from.incoming) edits text noted is no_edit handed.0 (first_front row.signature from handed.0.0) handed.1
+      known_passes edit.Nothing passed.Nothing edits text noted is no_edit handed =
+          absurd (lacks_none row.signature from.incoming (is_there row.signature from m found.1) handed.2)
+      known_passes edit.Nothing (passed.Fault f) edits text noted is no_edit handed =
+          let whole = found.1.whole in absurd (omega (arith, whole.counts_header, handed.4))
+      known_passes edit.Drop p edits text noted is no_edit handed =
+          subst (λ (x : Passed). PassesAs table side k from to x k' from' to') (sym handed.0)
+          (known_reads edit.Drop nothing edits text noted.1 is no_edit handed.1 refl (ap still_to_send handed.2 ∙ sym (joined_nothing (still_to_send to))))
+      known_passes (edit.Lower version) p edits text noted is no_edit handed =
+          let same : handed.2.0 ≡ m = one_message_lem handed.2.0 m from.incoming.bytes row.signature from.incoming.tokens handed.2.1 found.1 in
+          subst (λ (x : Passed). PassesAs table side k from to x k' from' to') (sym handed.0)
+          (known_reads (edit.Lower version) (going_on (edit.Lower version) row.signature from.incoming m) edits text noted.1 is no_edit handed.1 refl
+          (handed.2.2 ∙ ap (λ (x : WireMessage). joined (still_to_send to) (going_on (edit.Lower version) row.signature from.incoming x)) same))
 
-  pub unknown_result : {E : Type 0} (k0 k k' : Known) (sender opcode : ℕ) (from from' to to' : LinkState MailboxState) (r : Result Passed E) → k ≡ k0
-      → sender ≡ sender_of from.incoming.bytes → opcode ≡ opcode_of from.incoming.bytes → 8 ≤ length from.incoming.bytes
-      → IsUnknown table k.objects side sender opcode → IfOk r (λ p. PassesUnknown side sender opcode k0 from to p k' from' to')
-      → IfOk r (λ p. PassesAs table side k0 from to p k' from' to')
-  unknown_result k0 k k' sender opcode from from' to to' r is sender_is opcode_is header is_unknown passes =
-      if_ok r (λ p. PassesUnknown side sender opcode k0 from to p k' from' to') (λ p. PassesAs table side k0 from to p k' from' to')
-      (λ p h. unknown_passes sender opcode k0 k' from from' to to' sender_is opcode_is
-      (subst (λ (x : Known). IsUnknown table x.objects side sender opcode) is is_unknown) p header h)
-      passes
+  -- ---- the same of the answers of calls; what the relay knows, and the link, are given by other names
 
-  module _ (k0 k k' : Known) (object : Object (Unit {0})) (row : MessageRow) (sent_by : Side) (sender opcode : ℕ) (signature : List ArgumentType)
-      (from from1 : LinkState MailboxState) (is : k ≡ k0) (sender_is : sender ≡ sender_of from.incoming.bytes) (opcode_is : opcode ≡ opcode_of from.incoming.bytes)
-      (is_known : IsKnown table k.objects side sender opcode object row) (under : signature ≡ row.signature) (same : from1 ≡ from) (sent : sent_by ≡ side) where
+  module _ (k0 k k' : Known) (from from1 : LinkState MailboxState) (is : k ≡ k0) (same : from1 ≡ from) where
     as_known : (from' to to' : LinkState MailboxState) (p : Passed) → PassesAs table side k from to p k' from' to' → PassesAs table side k0 from to p k' from' to'
     as_known from' to to' p passes = subst (λ (x : Known). PassesAs table side x from to p k' from' to') is passes
 
-    pub malformed_result : (to : LinkState MailboxState) → 8 ≤ length from.incoming.bytes
-        → RefusesMessage from.incoming.bytes signature from.incoming.tokens errors.Malformed → k' ≡ k
+    pub unknown_result : {E : Type 0} (sender opcode s o : ℕ) → sender ≡ s → opcode ≡ o → (from' to to' : LinkState MailboxState) (r : Result Passed E)
+        → HasNoMessage table k.objects side from.incoming (none.Unknown s o)
+        → IfOk r (λ p. PassesUnknown side sender opcode k from1 to p k' from' to') → IfOk r (λ p. PassesAs table side k0 from to p k' from' to')
+    unknown_result sender opcode s o sender_is opcode_is from' to to' r found passes =
+        let found_as : HasNoMessage table k.objects side from.incoming (none.Unknown sender opcode)
+        = subst (λ (n : ℕ). HasNoMessage table k.objects side from.incoming (none.Unknown n opcode)) (sym sender_is)
+        (subst (λ (n : ℕ). HasNoMessage table k.objects side from.incoming (none.Unknown s n)) (sym opcode_is) found) in
+        if_ok r (λ p. PassesUnknown side sender opcode k from1 to p k' from' to') (λ p. PassesAs table side k0 from to p k' from' to')
+        (λ p h. as_known from' to to' p
+        (unknown_passes k k' from from' to to' sender opcode found_as p (subst (λ (l : LinkState MailboxState). PassesUnknown side sender opcode k l to p k' from' to') same h)))
+        passes
+
+    pub waits_result : (to : LinkState MailboxState) → HasNoMessage table k.objects side from.incoming none.Incomplete → k' ≡ k
+        → PassesAs table side k0 from to passed.Nothing k' from1 to
+    waits_result to found still = as_known from1 to to passed.Nothing (known_waits k k' from from1 to to found still same refl)
+
+    pub malformed_result : (to : LinkState MailboxState) → HasNoMessage table k.objects side from.incoming none.Malformed → k' ≡ k
         → PassesAs table side k0 from to (passed.Fault fault.Malformed) k' from1 to
-    malformed_result to header refused still =
-        as_known from1 to to (passed.Fault fault.Malformed)
-        (known_malformed sender opcode k k' from from1 to to sender_is opcode_is object row is_known header still same refl
-        (subst (λ (s : List ArgumentType). RefusesMessage from.incoming.bytes s from.incoming.tokens errors.Malformed) under refused))
+    malformed_result to found still = as_known from1 to to (passed.Fault fault.Malformed) (known_malformed k k' from from1 to to found still same refl)
 
-    module _ (m : WireMessage) (e : Edit) (reads : ReadsMessage from.incoming.bytes signature from.incoming.tokens m)
+    module _ (object : Object (Unit {0})) (row : MessageRow) (sent_by : Side) (signature : List ArgumentType) (under : signature ≡ row.signature)
+        (sent : sent_by ≡ side) (m : WireMessage) (e : Edit) (found : ReadsKnown table k.objects side from.incoming object row m)
         (edits : EditsMessage table k.mode sent_by object.interface m e) where
-      reads_row : ReadsMessage from.incoming.bytes row.signature from.incoming.tokens m
-      reads_row = subst (λ (s : List ArgumentType). ReadsMessage from.incoming.bytes s from.incoming.tokens m) under reads
-
       edits_side : EditsMessage table k.mode side object.interface m e
       edits_side = subst (λ (s : Side). EditsMessage table k.mode s object.interface m e) sent edits
 
@@ -393,7 +400,7 @@ module _ (table : List InterfaceRow) (side : Side) where
       unfolding line
       refused_result to f noted heard objects' noted_is heard_is notes log_is known_is =
           as_known from1 to to (passed.Fault f)
-          (known_refused sender opcode k k' from from1 to to sender_is opcode_is object row is_known m reads_row line e f objects' edits_side text
+          (known_refused k k' from from1 to to object row m found line e f objects' edits_side text
           (subst (λ (s : Side). NotesUnder table k.mode s (hears side k) object row m k.objects e (Some f) objects') sent
           (subst (λ (b : Bool). NotesUnder table k.mode sent_by b object row m k.objects e (Some f) objects') (heard_is ∙ ap (hears side) (sym is))
           (subst (λ (x : Option Fault). NotesUnder table k.mode sent_by heard object row m k.objects e x objects') noted_is notes)))
@@ -408,7 +415,7 @@ module _ (table : List InterfaceRow) (side : Side) where
       unfolding line
       passes_result to from' to' p noted heard noted_is heard_is notes log_is changed_is known_is no_edit passed =
           as_known from' to to' p
-          (known_passes sender opcode k k' from from' to to' sender_is opcode_is object row is_known m reads_row line e p edits_side text
+          (known_passes k k' from from' to to' object row m found line e p edits_side text
           (subst (λ (s : Side). NotesUnder table k.mode s (hears side k) object row m k.objects e None k'.objects) sent
           (subst (λ (b : Bool). NotesUnder table k.mode sent_by b object row m k.objects e None k'.objects) (heard_is ∙ ap (hears side) (sym is))
           (subst (λ (x : Option Fault). NotesUnder table k.mode sent_by heard object row m k.objects e x k'.objects) noted_is notes)))

@@ -3,11 +3,12 @@ use Rattle.std.specs.Prelude.{◌≡◌, ℕ, false, List, [], ◌∷◌, ◌++�
 use Rattle.std.proofs.Common.{ap, append_assoc, append-nil, sym, ◌∙◌}
 use Rattle.wl_link.specs.Exchange.{Queue, joined, nothing}
 use Rattle.wl_link.proofs.Calls.QueueLaws.{joined_assoc, joined_nothing}
+use Rattle.wl_follow.specs.Sides.{other_side}
+use Rattle.wl_follow.specs.declared.side.Side.{Side}
+use Rattle.wl_follow.specs.declared.side.Side.TheVariants.{Client, Server}
 use Rattle.wl_relay.specs.Flow.{Begins, KeepsAll, RelayState, flow_from, has_changed, to_read, to_send}
-use Rattle.wl_relay.specs.Log.{Known, other_side}
+use Rattle.wl_relay.specs.Log.{Known}
 use Rattle.wl_relay.specs.Runs.{Call, Came, Does, Leads, TookLog, TookNothing, TookOut, all_came, all_out, came_in, lines_out, lines_read, out_in}
-use Rattle.wl_relay.specs.declared.side.Side.{Side}
-use Rattle.wl_relay.specs.declared.side.Side.TheVariants.{Client, Server}
 
 -- ---- what is on its way
 

@@ -4,7 +4,7 @@ use Rattle.std.specs.Prelude.{IfSome}
 use Rattle.std.specs.Io.BufRead.{drop_through, strip_last, take_through}
 use mathlib.Core.Logic.{inl, inr}
 use Rattle.wl_wire.specs.Table.{InterfaceRow}
-use Rattle.wl_relay.specs.declared.side.Mode.{Mode}
+use Rattle.wl_relay.specs.declared.mode.Mode.{Mode}
 use Rattle.wl_relay.specs.Input.{Line, lines}
 use Rattle.wl_relay.specs.Inside.Reading.{FindsTable, HasNoLine, HasRows, ReadsLine}
 use Rattle.wl_relay.specs.Program.{AreRows, EndsTable, IsBadRow, IsRow, LacksTable}

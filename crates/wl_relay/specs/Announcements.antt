@@ -9,12 +9,13 @@ use Rattle.wl_wire.specs.Table.{InterfaceRow, name_of}
 use Rattle.wl_link.specs.Exchange.{Queue, nothing}
 use Rattle.wl_link.specs.HandOn.{first_of}
 use Rattle.wl_link.specs.Link.{spelled}
+use Rattle.wl_follow.specs.Objects.{LacksName}
+use Rattle.wl_follow.specs.declared.side.Side.{Side}
+use Rattle.wl_follow.specs.declared.side.Side.TheVariants.{Client, Server}
 use Rattle.wl_relay.specs.declared.notes.Edit.{Edit}
 use Rattle.wl_relay.specs.declared.notes.Edit.TheVariants as edit
-use Rattle.wl_relay.specs.declared.side.Mode.{Mode}
-use Rattle.wl_relay.specs.declared.side.Mode.TheVariants.{HandOn, Log}
-use Rattle.wl_relay.specs.declared.side.Side.{Side}
-use Rattle.wl_relay.specs.declared.side.Side.TheVariants.{Client, Server}
+use Rattle.wl_relay.specs.declared.mode.Mode.{Mode}
+use Rattle.wl_relay.specs.declared.mode.Mode.TheVariants.{HandOn, Log}
 
 -- ---- names
 
@@ -22,10 +23,6 @@ use Rattle.wl_relay.specs.declared.side.Side.TheVariants.{Client, Server}
 abbrev pub HasVersion : List InterfaceRow → List ℕ → ℕ → Type 0
 HasVersion table name version =
     (place : ℕ) × (row : InterfaceRow) × (slice_get table place ≡ Some row) × (row.name ≡ name) × (row.version ≡ version)
-
--- no interface of the table has this name
-abbrev pub LacksName : List InterfaceRow → List ℕ → Type 0
-LacksName table name = (place : ℕ) → place < length table → name_of table place ≢ name
 
 -- ---- announcements
 

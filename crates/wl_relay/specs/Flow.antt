@@ -8,10 +8,11 @@ use Rattle.wl_link.specs.Link.{LinkState, with_transport}
 use Rattle.wl_link.specs.Mailbox.{MailboxState}
 use Rattle.wl_link.specs.MailboxLink.{still_to_read, still_to_send}
 use Rattle.wl_wire.specs.Table.{InterfaceRow}
-use Rattle.wl_relay.specs.Log.{GrowsLog, IsDone, Known, other_side}
-use Rattle.wl_relay.specs.Objects.{first_objects}
-use Rattle.wl_relay.specs.declared.side.Side.{Side}
-use Rattle.wl_relay.specs.declared.side.Side.TheVariants.{Client, Server}
+use Rattle.wl_follow.specs.Sides.{other_side}
+use Rattle.wl_follow.specs.Objects.{first_objects}
+use Rattle.wl_follow.specs.declared.side.Side.{Side}
+use Rattle.wl_follow.specs.declared.side.Side.TheVariants.{Client, Server}
+use Rattle.wl_relay.specs.Log.{GrowsLog, IsDone, Known}
 
 -- What may hold a link back: how far its buffers may grow, and what its mailbox answers beside what came and what waits.
 pub record Settings : Type 0 where

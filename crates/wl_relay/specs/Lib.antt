@@ -1,6 +1,5 @@
 -- What is on its way through the relay, the log, and the program's lines.
 pub mod Announcements
-pub mod Objects
 pub mod Log
 pub mod Flow
 pub mod Runs

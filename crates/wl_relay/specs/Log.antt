@@ -1,13 +1,11 @@
 -- What the relay does with the messages of a side: their lines in the log, what goes on in their place, and the objects after them.
-use Rattle.std.specs.Prelude.{◌≡◌, ℕ, ◌<◌, ◌≤◌, ◌⊎◌, Bool, true, false, ◌||◌, List, [], ◌∷◌, ◌++◌, codes, length, map, Option, None, Some, MatchBool, MatchOption, option_map}
+use Rattle.std.specs.Prelude.{◌≡◌, ℕ, ◌<◌, ◌≤◌, ◌⊎◌, Bool, true, false, ◌||◌, List, [], ◌∷◌, ◌++◌, codes, length, map, Option, None, Some, MatchBool, option_map}
 use Rattle.std.specs.Fmt.{decimal}
 use Rattle.std.specs.String.{string_bytes}
-use Rattle.wl_wire.specs.declared.argument.ArgumentType.{ArgumentType}
 use Rattle.wl_wire.specs.declared.error.MessageParseError.TheVariants as errors
 use Rattle.wl_wire.specs.declared.interface.InterfaceId.{InterfaceId}
 use Rattle.wl_wire.specs.LogText.{message_text}
 use Rattle.wl_wire.specs.Message.{WireMessage}
-use Rattle.wl_wire.specs.MessageRows.{event_row, request_row}
 use Rattle.wl_wire.specs.Parse.{IsWhole, ReadsMessage, RefusesMessage, length_of, opcode_of, sender_of}
 use Rattle.wl_wire.specs.Table.{InterfaceRow, MessageRow}
 use Rattle.wl_link.specs.declared.object.Object.{Object}
@@ -15,17 +13,23 @@ use Rattle.wl_link.specs.Exchange.{Queue, joined, nothing}
 use Rattle.wl_link.specs.HandOn.{first_of}
 use Rattle.wl_link.specs.Link.{after_first}
 use Rattle.wl_link.specs.Store.{Store, held}
+use Rattle.wl_follow.specs.Fronts.{IsKnown, IsUnknown, LacksPart}
+use Rattle.wl_follow.specs.Sides.{fault_name, other_side, side_name}
+use Rattle.wl_follow.specs.Objects.{NotesObjects}
+use Rattle.wl_follow.specs.declared.objects.Deletions.{Deletions}
+use Rattle.wl_follow.specs.declared.objects.Deletions.TheVariants.{Seen, Unseen}
+use Rattle.wl_follow.specs.declared.objects.UnknownInterfaces.{UnknownInterfaces}
+use Rattle.wl_follow.specs.declared.objects.UnknownInterfaces.TheVariants as unknown
+use Rattle.wl_follow.specs.declared.side.Fault.{Fault}
+use Rattle.wl_follow.specs.declared.side.Fault.TheVariants as fault
+use Rattle.wl_follow.specs.declared.side.Side.{Side}
+use Rattle.wl_follow.specs.declared.side.Side.TheVariants.{Client, Server}
 use Rattle.wl_relay.specs.Announcements.{EditsMessage, going_on, is_change}
-use Rattle.wl_relay.specs.Objects.{NotesObjects}
 use Rattle.wl_relay.specs.declared.notes.Edit.{Edit}
 use Rattle.wl_relay.specs.declared.notes.Edit.TheVariants as edit
 use Rattle.wl_relay.specs.declared.notes.Notes.{Notes}
-use Rattle.wl_relay.specs.declared.side.Fault.{Fault}
-use Rattle.wl_relay.specs.declared.side.Fault.TheVariants as fault
-use Rattle.wl_relay.specs.declared.side.Mode.{Mode}
-use Rattle.wl_relay.specs.declared.side.Mode.TheVariants.{HandOn, Log}
-use Rattle.wl_relay.specs.declared.side.Side.{Side}
-use Rattle.wl_relay.specs.declared.side.Side.TheVariants.{Client, Server}
+use Rattle.wl_relay.specs.declared.mode.Mode.{Mode}
+use Rattle.wl_relay.specs.declared.mode.Mode.TheVariants.{HandOn, Log}
 
 -- ---- what the relay knows
 
@@ -53,10 +57,6 @@ known notes = record {
 abbrev pub follows : Side → Known → Bool
 follows Client k = k.follows_client
 follows Server k = k.follows_server
-
-abbrev pub other_side : Side → Side
-other_side Client = Server
-other_side Server = Client
 
 -- what comes from the other side is read
 abbrev pub hears : Side → Known → Bool
@@ -87,16 +87,6 @@ unknown_text sender opcode = codes "[unknown]@" ++ decimal sender ++ codes ".[" 
 abbrev pub unknown_line : Side → ℕ → ℕ → List ℕ
 unknown_line side sender opcode = arrow side ++ unknown_text sender opcode
 
-abbrev pub side_name : Side → List ℕ
-side_name Client = codes "client"
-side_name Server = codes "server"
-
-abbrev pub fault_name : Fault → List ℕ
-fault_name fault.Malformed = codes "malformed"
-fault_name fault.NewId = codes "new-id"
-fault_name fault.UnknownInterface = codes "unknown-interface"
-fault_name fault.MissingDescriptor = codes "missing-descriptor"
-
 -- the line that says that the side is no longer read, and why
 abbrev pub fault_line : Side → Fault → List ℕ
 fault_line side fault = codes "[" ++ side_name side ++ codes " is no longer read: " ++ fault_name fault ++ codes "]"
@@ -108,19 +98,15 @@ stopped Server fault k = record k { log = k.log ++ fault_line Server fault ∷ [
 
 -- ---- a message, and what becomes of it
 
-abbrev pub row_at : List InterfaceRow → Side → InterfaceId → ℕ → Option MessageRow
-row_at table Client interface opcode = request_row table interface opcode
-row_at table Server interface opcode = event_row table interface opcode
+-- in a log an object of an interface that the table lacks is noted
+abbrev pub unknown_interfaces : Mode → UnknownInterfaces
+unknown_interfaces HandOn = unknown.Refused
+unknown_interfaces Log = unknown.Anonymous
 
--- the sender is this object, and the table has this row of the message
-abbrev pub IsKnown : List InterfaceRow → Store (Unit {0}) → Side → ℕ → ℕ → Object (Unit {0}) → MessageRow → Type 0
-IsKnown table objects side sender opcode object row =
-    (held objects sender ≡ Some object) × (row_at table side object.interface opcode ≡ Some row)
-
--- the sender is no object that is known, or the table has no such message of its interface
-abbrev pub IsUnknown : List InterfaceRow → Store (Unit {0}) → Side → ℕ → ℕ → Type 0
-IsUnknown table objects side sender opcode =
-    MatchOption (held objects sender) (Unit {0}) (λ object. row_at table side object.interface opcode ≡ None)
+-- deletions are seen while the other side is read
+abbrev pub deletions : Bool → Deletions
+deletions true = Seen
+deletions false = Unseen
 
 -- A message that was read: its line, what was done with it, and what goes on in its place.
 pub record Passage : Type 0 where
@@ -131,7 +117,8 @@ pub record Passage : Type 0 where
 -- The objects after a message; one that is dropped or lowered, an announcement, changes none. `heard`, here and below: the other side is
 -- read.
 abbrev pub ObjectsAfter : List InterfaceRow → Mode → Side → Bool → Object (Unit {0}) → MessageRow → WireMessage → Store (Unit {0}) → Edit → Store (Unit {0}) → Type 0
-ObjectsAfter table mode side heard object row m objects edit.Nothing objects' = NotesObjects table mode side heard object row m objects None objects'
+ObjectsAfter table mode side heard object row m objects edit.Nothing objects' =
+    NotesObjects table (unknown_interfaces mode) side (deletions heard) object row m objects None objects'
 ObjectsAfter table mode side heard object row m objects _ objects' = objects' ≡ objects
 
 -- The passage tells of the message at the front, which is known. `objects'` are the objects after it, and `after` is what follows it.
@@ -189,11 +176,6 @@ any_change (p ∷ ps) = is_change p.edit || any_change ps
 
 -- ---- why no message is read
 
--- the message at the front is not there to its end, or lacks a descriptor
-abbrev pub LacksPart : List ArgumentType → Queue → Type 0
-LacksPart signature q =
-    RefusesMessage q.bytes signature q.tokens errors.MissingData ⊎ RefusesMessage q.bytes signature q.tokens errors.MissingFD
-
 -- Nothing can be read of this before more comes: not even a header is there, or the message lacks a part.
 abbrev pub AwaitsMore : List InterfaceRow → Mode → Side → Store (Unit {0}) → Queue → Type 0
 AwaitsMore table mode side objects q =
@@ -221,7 +203,7 @@ pub record RefusesObjects (table : List InterfaceRow) (mode : Mode) (side : Side
   pub reads : ReadsMessage q.bytes row.signature q.tokens message
   pub edits : EditsMessage table mode side object.interface message edit.Nothing
   pub text : line ≡ message_line table objects side object.interface row message edit.Nothing
-  pub noted : NotesObjects table mode side heard object row message objects (Some f) objects'
+  pub noted : NotesObjects table (unknown_interfaces mode) side (deletions heard) object row message objects (Some f) objects'
 
 -- Why a side is no longer read, of what was received from it; the lines that are added before that one, and the objects after it. A
 -- message has fewer than 65536 bytes: one that awaits more where as many were received is there to its end, and lacks a descriptor.

@@ -9,15 +9,15 @@ use Rattle.wl_wire.specs.declared.protocol.TableError.{TableError}
 use Rattle.wl_wire.specs.declared.protocol.TableError.TheVariants as fault
 use Rattle.wl_wire.specs.Table.{InterfaceRow, IsAcceptedTable, IsFirstFault, fixed_rows}
 use Rattle.wl_link.specs.Exchange.{Queue, nothing}
-use Rattle.wl_relay.specs.declared.side.Mode.{Mode}
-use Rattle.wl_relay.specs.declared.side.Mode.TheVariants.{HandOn, Log}
-use Rattle.wl_relay.specs.declared.side.Side.{Side}
-use Rattle.wl_relay.specs.declared.side.Side.TheVariants.{Client, Server}
+use Rattle.wl_follow.specs.Sides.{side_name}
+use Rattle.wl_follow.specs.declared.side.Side.{Side}
+use Rattle.wl_follow.specs.declared.side.Side.TheVariants.{Client, Server}
+use Rattle.wl_relay.specs.declared.mode.Mode.{Mode}
+use Rattle.wl_relay.specs.declared.mode.Mode.TheVariants.{HandOn, Log}
 use Rattle.wl_relay.specs.declared.stop.Stop.{Stop}
 use Rattle.wl_relay.specs.declared.stop.Stop.TheVariants.{BadLine, BadTable, Failed}
 use Rattle.wl_relay.specs.Flow.{AreOpen, Arrives, Begins, KeepsOtherWay, Logged, ReadsAll, RelayState, TakesLog, TakesOut, made_ready, not_received, to_send}
 use Rattle.wl_relay.specs.Input.{Line, fed, text_of}
-use Rattle.wl_relay.specs.Log.{side_name}
 use Rattle.wl_relay.specs.Rows.{AddsRow}
 use Rattle.wl_relay.specs.Words.{AreBytes, AreTokens, Word, hex, words}
 

@@ -1,9 +1,9 @@
 -- Calls of a relay, one after another.
 use Rattle.std.specs.Prelude.{◌≡◌, ℕ, List, [], ◌∷◌, ◌++◌}
 use Rattle.wl_link.specs.Exchange.{Queue, joined, nothing}
+use Rattle.wl_follow.specs.declared.side.Side.{Side}
+use Rattle.wl_follow.specs.declared.side.Side.TheVariants.{Client, Server}
 use Rattle.wl_relay.specs.Flow.{Arrives, KeepsAll, Logged, RelayState, TakesLog, TakesOut}
-use Rattle.wl_relay.specs.declared.side.Side.{Side}
-use Rattle.wl_relay.specs.declared.side.Side.TheVariants.{Client, Server}
 
 -- a call of a relay, with what it was given and what came of it
 pub data Call : Type 0 where

@@ -14,13 +14,14 @@ ghost use Rattle.wl_relay.specs.Program as spec;
 ghost use Rattle.wl_relay.specs.Words.{Finds, hex, spoken, words};
 ghost use Rattle.wl_relay.specs.declared.stop.Stop.TheVariants.{Failed};
 
+use crate::mode::Mode;
 use crate::relay::{ArriveError, Relay};
 use crate::rows::add_row;
-use crate::side::{Mode, Side};
 use crate::stop::Stop;
 use crate::words::{bytes, tokens, words_of};
 use std::alloc::{AllocError, Global};
 use std::io::{BufRead, Write};
+use wl_follow::Side;
 use wl_wire::{Interface, Protocol, Token};
 
 /// Appends bytes to a line, as the input has them.

@@ -10,15 +10,14 @@ ghost use Rattle.wl_relay.specs.Flow.{IsOpen, Kept, KeptUnlessChanged};
 ghost use Rattle.wl_relay.specs.Inside.Passing.{HandedAs, HandsOnAll, KeepBoth, KeepsSettings, KeepsWayBack, LeavesWayBack, PassedOn, PassesAs, PassesUnknown, ReadsUpTo, ReceivedAs, TakenOff, TellsFault, turns_left};
 ghost use Rattle.wl_relay.specs.Log.{GrowsLog, IsDone, known};
 
+use crate::mode::Mode;
 use crate::notes::{
-    Edit, Notes, described, edit_of, follows, hears, log_fault, log_message, note_unless_edited,
-    unknown_line,
+    Edit, Notes, edit_of, follows, hears, log_fault, log_message, note_unless_edited, unknown_line,
 };
-use crate::side::{Fault, Mode, Side};
+use wl_follow::{Fault, NoMessage, Side, read_front};
 use wl_link::{BufferedSocket, HandOnError, Mailbox, clear_message};
 use wl_wire::{
-    Argument, ArgumentType, INLINE_ARGS, IoFault, Message, MessageParseError, OutOfMemory,
-    Protocol, Token,
+    Argument, ArgumentType, INLINE_ARGS, IoFault, Message, OutOfMemory, Protocol, Token,
 };
 
 /// A link over a mailbox.
@@ -178,23 +177,18 @@ fn pass_one(
     ensures way_back { OnOk result (LeavesWayBack from.old to.old from.new to.new) }
     ensures settings { KeepBoth from.old to.old from.new to.new }
 {
-    let Some((sender, opcode)) = from.next_header() else {
-        return Ok(Passed::Nothing);
-    };
-    let Some(found) = described(table, &notes.objects, side, sender, opcode) else {
-        return pass_unknown(notes, side, sender, opcode, from, to);
-    };
     let heard = hears(notes, side);
-    let signature = found.desc.signature.as_slice();
     let message = &mut notes.place.message;
-    match from.peek(signature, message) {
-        Ok(()) => {}
-        Err(MessageParseError::MissingData | MessageParseError::MissingFD) => {
-            return Ok(Passed::Nothing);
+    let found = match read_front(table, &notes.objects, side, from, message) {
+        Ok(found) => found,
+        Err(NoMessage::Unknown(sender, opcode)) => {
+            return pass_unknown(notes, side, sender, opcode, from, to);
         }
-        Err(MessageParseError::Malformed) => return Ok(Passed::Fault(Fault::Malformed)),
-        Err(MessageParseError::OutOfMemory) => return Err(OutOfMemory),
-    }
+        Err(NoMessage::Incomplete) => return Ok(Passed::Nothing),
+        Err(NoMessage::Malformed) => return Ok(Passed::Fault(Fault::Malformed)),
+        Err(NoMessage::OutOfMemory) => return Err(OutOfMemory),
+    };
+    let signature = found.desc.signature.as_slice();
     let edit = edit_of(table, notes.mode, found, message);
     log_message(&mut notes.log, table, &notes.objects, found, message, edit)?;
     let objects = &mut notes.objects;

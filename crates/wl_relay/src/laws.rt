@@ -4,10 +4,10 @@
 
 ghost use Rattle.std.specs.Prelude.{◌≡◌, ◌++◌, List, false};
 ghost use Rattle.wl_link.specs.Exchange.{joined};
+ghost use Rattle.wl_follow.specs.Sides.{other_side};
+ghost use Rattle.wl_follow.specs.declared.side.Side.{Side};
 ghost use Rattle.wl_relay.specs.Flow.{Begins, RelayState, flow_from, has_changed};
-ghost use Rattle.wl_relay.specs.Log.{other_side};
 ghost use Rattle.wl_relay.specs.Runs.{Call, Leads, all_came, all_out, lines_out, lines_read};
-ghost use Rattle.wl_relay.specs.declared.side.Side.{Side};
 
 /// Of a new relay, and as long as no announcement was dropped or lowered: all that was taken out for a side, and then what is on
 /// its way to it, is all that came from the other.

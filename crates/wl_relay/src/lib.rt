@@ -6,9 +6,9 @@
 //!
 //! | Subject | Code | Definitions, in `specs/` |
 //! |---|---|---|
-//! | the sides, and what may go wrong with one | `side` | `Log` |
-//! | the objects and the log | `notes` | `Objects`, `Log` |
-//! | what is handed on, dropped or lowered | `notes`, `follow` | `Announcements`, `Log`; `Inside/Passing` |
+//! | the sides, the objects, and which message comes first | the crate `wl_follow` | `Sides`, `Objects`, `Fronts` of that crate |
+//! | what is known, and the log | `notes` | `Log` |
+//! | what is handed on, dropped or lowered | `mode`, `notes`, `follow` | `Announcements`, `Log`; `Inside/Passing` |
 //! | the relay | `relay` | `Flow`, `Log` |
 //! | calls one after another | `laws` | `Runs` |
 //! | the words of the program's lines, and its table | `words`, `rows` | `Words`, `Rows`; `Inside/Gathering` |
@@ -18,15 +18,16 @@
 mod commands;
 mod follow;
 pub mod laws;
+mod mode;
 mod notes;
 mod relay;
 mod rows;
-mod side;
 mod stop;
 mod words;
 
 pub use commands::{run, status, tell};
+pub use mode::Mode;
 pub use relay::{ArriveError, Relay};
 pub use rows::add_row;
-pub use side::{Fault, Mode, Side};
 pub use stop::Stop;
+pub use wl_follow::{Fault, Side};

@@ -9,12 +9,13 @@ ghost use Rattle.wl_relay.specs.Inside.Passing.{IsNew, KeepsSettings};
 ghost use Rattle.wl_relay.specs.declared.relay.ArriveError.TheVariants.{TooManyTokens};
 
 use crate::follow::{Link, receive};
+use crate::mode::Mode;
 use crate::notes::Notes;
-use crate::side::{Mode, Side};
 use std::alloc::Global;
 use std::fmt;
 use std::marker::Model;
 use thiserror::Error;
+use wl_follow::Side;
 use wl_link::{BufferedSocket, Mailbox, MailboxError};
 use wl_wire::{IoFault, OutOfMemory, Protocol, Token};
 

@@ -11,8 +11,8 @@ use crate::tests::told::{
 use std::alloc::Global;
 use std::test::Fail;
 use wl_host::{
-    FlatAction, FlatArgument, FlatClientId, FlatGlobalId, FlatNote, FlatObjectId, FlatViolation,
-    Gone, Rows, Server, Status, TableFault,
+    FlatAction, FlatArgument, FlatClientId, FlatGlobalId, FlatNote, FlatObjectId, FlatTold,
+    FlatViolation, Gone, Rows, Server, Status, TableFault,
 };
 
 /// One call of the session.
@@ -35,6 +35,10 @@ pub enum Act {
     AddGate,
     /// Whether nulls that the table forbids are refused is set.
     RefuseNulls(u32),
+    /// Whether the messages of clients that are inserted from now on are told is set.
+    TellMessages(u32),
+    /// The next message of the client that is told, with so much room for arguments and bytes, at most 16 and 24.
+    NextTold(FlatClientId, usize, usize),
     /// The table is extended by these rows.
     Extend(Rows<'static>),
     /// A send to the client failed.
@@ -169,6 +173,55 @@ fn next(
     Ok(status)
 }
 
+/// A message that is told, and what was lent for its arguments and bytes.
+fn tell_message(
+    log: &mut String,
+    message: &FlatTold,
+    arguments: &[FlatArgument],
+    bytes: &[u8],
+) -> Result<(), Fail> {
+    let (interface, number) = (message.interface, message.number);
+    tell_numbers(
+        log,
+        &[
+            ("kind", u64::from(message.kind)),
+            ("event", u64::from(message.is_event)),
+            ("opcode", u64::from(message.opcode)),
+            ("arguments", u64::from(message.arguments)),
+            ("bytes", u64::from(message.bytes)),
+            ("last", u64::from(message.is_last)),
+        ],
+    )?;
+    write!(log, " of {interface}@{number}")?;
+    tell_lent(log, arguments, bytes)
+}
+
+/// The next message of the client that is told, with so much room.
+fn next_told(
+    log: &mut String,
+    server: &mut Server,
+    client: &FlatClientId,
+    room: usize,
+    most: usize,
+) -> Result<Status, Fail> {
+    if room > 16 || most > 24 {
+        return Err(Fail::new("too much room"));
+    }
+    let mut arguments = [NO_ARGUMENT; 16];
+    let mut bytes = [0u8; 24];
+    let mut message = FlatTold::none();
+    let status = server.next_told(
+        client,
+        &mut message,
+        &mut arguments[..room],
+        &mut bytes[..most],
+    );
+    if matches!(status, Status::Ok | Status::TooSmall) {
+        tell_message(log, &message, &arguments[..room], &bytes[..most])?;
+    }
+    Ok(status)
+}
+
 /// The client receives these words.
 fn received(
     alloc: Global,
@@ -182,7 +235,7 @@ fn received(
 }
 
 /// What is to be sent to the client.
-fn to_send(log: &mut String, server: &Server, client: &FlatClientId) -> Result<Status, Fail> {
+fn to_send(log: &mut String, server: &mut Server, client: &FlatClientId) -> Result<Status, Fail> {
     let mut bytes = [0u8; 256];
     let mut descriptors = [0i32; 28];
     let mut counts = NOTHING;
@@ -288,6 +341,7 @@ fn on_clients(log: &mut String, server: &mut Server, act: &Act) -> Result<Status
         Act::AddKnot => told_table(log, server.add_interfaces(&KNOT)),
         Act::AddGate => told_table(log, server.add_interfaces(&GATE)),
         Act::RefuseNulls(is_on) => Ok(server.refuse_nulls(*is_on)),
+        Act::TellMessages(is_on) => Ok(server.tell_messages(*is_on)),
         Act::Extend(rows) => told_extension(log, server.extend_interfaces(rows)),
         _ => Err(Fail::new("no act of this kind")),
     }
@@ -300,6 +354,7 @@ fn on_messages(log: &mut String, server: &mut Server, act: &Act) -> Result<Statu
             received(*log.allocator(), server, id, words, descriptors)
         }
         Act::Next(id, room, most) => next(log, server, id, *room, *most),
+        Act::NextTold(id, room, most) => next_told(log, server, id, *room, *most),
         Act::Finish(id) => Ok(server.finish_request(id)),
         Act::FinishWith(id, user_data) => {
             told(log, server.finish_request_with(id, *user_data), tell_kept)

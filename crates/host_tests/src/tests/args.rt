@@ -13,7 +13,7 @@ macro_rules! id {
 }
 
 /// An argument. A number of 24.8 bits, `fixed`, is the value times 256. A string or an array is where it begins in the bytes
-/// beside the arguments, and how many bytes it has. The new id of a request, `new`, is null.
+/// beside the arguments, and how many bytes it has. The new id of a request, `new`, is null; that of an event is of an object, `made`.
 macro_rules! arg {
     (int: $value:expr) => { arg!(INT, $value, 0, 0, crate::tests::told::NULL) };
     (uint: $value:expr) => { arg!(UINT, $value, 0, 0, crate::tests::told::NULL) };
@@ -24,6 +24,7 @@ macro_rules! arg {
     (null_string) => { arg!(NULL_STRING, 0, 0, 0, crate::tests::told::NULL) };
     (object: $object:expr) => { arg!(OBJECT, 0, 0, 0, $object) };
     (new) => { arg!(NEW_ID, 0, 0, 0, crate::tests::told::NULL) };
+    (made: $object:expr) => { arg!(NEW_ID, 0, 0, 0, $object) };
     ($kind:ident, $value:expr, $at:expr, $length:expr, $object:expr) => {
         wl_host::FlatArgument {
             kind: wl_host::kind::$kind,

@@ -189,3 +189,20 @@ pub const BAD_NOTE: Rows = Rows {
     messages: &[message!(4, 4, 0, 0), message!(8, 3, 1, 0)],
     arguments: &[argument!(kind::OBJECT, 99, 0)],
 };
+
+/// `pad` of version 3 with a third event, `made(new_id<pad>)`; and `sheet`, with the event `torn()`.
+pub const MAKING_PAD: Rows = Rows {
+    text: b"padmovedgivenmadesheettorn",
+    interfaces: &[interface!(0, 3, 3, 0, 3), interface!(17, 5, 1, 0, 1)],
+    messages: &[
+        message!(3, 5, 1, 0),
+        message!(8, 5, 1, 0),
+        message!(13, 4, 1, 0),
+        message!(22, 4, 0, 0),
+    ],
+    arguments: &[
+        argument!(kind::INT, 0, 0),
+        argument!(kind::DESCRIPTOR, 0, 0),
+        argument!(kind::NEW_ID, 4, 0),
+    ],
+};

@@ -2,12 +2,13 @@
 
 ghost use Rattle.std.specs.Prelude.{Bool, IsSome, List, None, Result, Some, [], ℤ, ◌≡◌, ◌≢◌};
 ghost use Rattle.wl_c.specs.Calls.{Did, GaveFlag};
-ghost use Rattle.wl_host.specs.Actions.{EndsBind, EndsRequest, NextAction, status_of_end};
+ghost use Rattle.wl_host.specs.Actions.{EndsBind, EndsRequest, status_of_end};
 ghost use Rattle.wl_host.specs.Arguments.{descriptors_given};
 ghost use Rattle.wl_host.specs.Descriptors.{Conserves};
 ghost use Rattle.wl_host.specs.Events.{PostsError, SendsEvent};
 ghost use Rattle.wl_host.specs.Flat.{client_of};
 ghost use Rattle.wl_host.specs.Server.{kept_by_server, went_in};
+ghost use Rattle.wl_host.specs.Tellings.{ReadsTold};
 ghost use Rattle.wl_host.specs.declared.status.Status.TheVariants as status;
 ghost use Rattle.wl_host.specs.declared.status.Status.{Status};
 
@@ -28,7 +29,7 @@ pub extern "C" fn nb_server_next_action(
 ) -> u32
     ensures none { place.old.kept.held ≡ None → (result ≡ 1) × (place.new.kept.held ≡ None) × (action.new ≡ action.old) × (arguments.new ≡ arguments.old) × (bytes.new ≡ bytes.old) }
     ensures stays { IsSome place.old.kept.held → IsSome place.new.kept.held }
-    ensures call { Did place.old.kept.held result place.new.kept.held (λ s status t. (came_out : List ℤ) × NextAction s (client_of client.now) arguments.old bytes.old status (record { out = action.new; arguments = arguments.new; bytes = bytes.new }) came_out t × Conserves kept_by_server s [] came_out t) }
+    ensures call { Did place.old.kept.held result place.new.kept.held (λ s status t. (came_out : List ℤ) × ReadsTold s (client_of client.now) arguments.old bytes.old status (record { out = action.new; arguments = arguments.new; bytes = bytes.new }) came_out t × Conserves kept_by_server s [] came_out t) }
 {
     let Some(mut session) = place.take(alloc) else {
         return Status::NoSession.code();

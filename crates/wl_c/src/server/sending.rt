@@ -8,7 +8,8 @@ ghost use Rattle.wl_host.specs.Flat.{client_of};
 ghost use Rattle.wl_host.specs.Flushing.{FlushesClient, OkHasBytes};
 ghost use Rattle.wl_host.specs.Notes.{NextNote};
 ghost use Rattle.wl_host.specs.Nulls.{sets};
-ghost use Rattle.wl_host.specs.Server.{FoundHasBytes, NextDropped, NextWritable, NoneAskedHasBytes, Sent, gone_with_first, handed, kept_by_server, next_gone, sent_with, to_send};
+ghost use Rattle.wl_host.specs.Server.{FoundHasBytes, NextDropped, NextWritable, NoneAskedHasBytes, gone_with_first, handed, kept_by_server, next_gone};
+ghost use Rattle.wl_host.specs.Tellings.{CopiesTold, SendsTold, sent_told};
 ghost use Rattle.wl_host.specs.declared.status.Status.TheVariants as status;
 
 use super::place::ServerPlace;
@@ -71,13 +72,11 @@ pub extern "C" fn nb_server_to_send(
     counts: &mut Counts,
 ) -> u32
     ensures none { place.old.kept.held ≡ None → (result ≡ 1) × (place.new.kept.held ≡ None) × (bytes.new ≡ bytes.old) × (descriptors.new ≡ descriptors.old) × (counts.new ≡ counts.old) }
-    ensures kept { place.new.kept.held ≡ place.old.kept.held }
-    ensures status { Told place.old.kept.held result (λ s status. status ≡ (to_send s (client_of client.now) bytes.old descriptors.old).status) }
-    ensures bytes { Told place.old.kept.held result (λ s status. bytes.new ≡ (to_send s (client_of client.now) bytes.old descriptors.old).bytes) }
-    ensures descriptors { Told place.old.kept.held result (λ s status. descriptors.new ≡ (to_send s (client_of client.now) bytes.old descriptors.old).descriptors) }
-    ensures counts { Told place.old.kept.held result (λ s status. counts.new ≡ (to_send s (client_of client.now) bytes.old descriptors.old).counts) }
+    ensures stays { IsSome place.old.kept.held → IsSome place.new.kept.held }
+    ensures copied { Did place.old.kept.held result place.new.kept.held (λ s status t. CopiesTold s (client_of client.now) bytes.old descriptors.old (record { status = status; bytes = bytes.new; descriptors = descriptors.new; counts = counts.new }) t) }
+    ensures conserved { Did place.old.kept.held result place.new.kept.held (λ s status t. Conserves kept_by_server s [] [] t) }
 {
-    let Some(session) = place.take(alloc) else {
+    let Some(mut session) = place.take(alloc) else {
         return Status::NoSession.code();
     };
     let status = session.to_send(client, bytes, descriptors, counts);
@@ -95,8 +94,8 @@ pub extern "C" fn nb_server_sent(
 ) -> u32
     ensures none { place.old.kept.held ≡ None → (result ≡ 1) × (place.new.kept.held ≡ None) }
     ensures stays { IsSome place.old.kept.held → IsSome place.new.kept.held }
-    ensures sent { Did place.old.kept.held result place.new.kept.held (λ s status t. Sent s (client_of client.now) count status t) }
-    ensures descriptors { Did place.old.kept.held result place.new.kept.held (λ s status t. Conserves kept_by_server s [] (sent_with s (client_of client.now) count) t) }
+    ensures sent { Did place.old.kept.held result place.new.kept.held (λ s status t. SendsTold s (client_of client.now) count status t) }
+    ensures descriptors { Did place.old.kept.held result place.new.kept.held (λ s status t. Conserves kept_by_server s [] (sent_told s (client_of client.now) count status) t) }
 {
     let Some(mut session) = place.take(alloc) else {
         return Status::NoSession.code();

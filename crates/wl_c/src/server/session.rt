@@ -197,6 +197,23 @@ pub extern "C" fn nb_server_refuse_nulls(alloc: Global, place: &mut ServerPlace,
     status.code()
 }
 
+/// Sets whether the messages are told of each client that is inserted from now on: not if `is_on` is 0.
+#[unsafe(no_mangle)]
+pub extern "C" fn nb_server_tell_messages(alloc: Global, place: &mut ServerPlace, is_on: u32) -> u32
+    ensures none { place.old.kept.held ≡ None → (result ≡ 1) × (place.new.kept.held ≡ None) }
+    ensures stays { IsSome place.old.kept.held → IsSome place.new.kept.held }
+    ensures set { Did place.old.kept.held result place.new.kept.held (λ s status t. t ≡ record s { tells = sets is_on }) }
+    ensures descriptors { Did place.old.kept.held result place.new.kept.held (λ s status t. Conserves kept_by_server s [] [] t) }
+    ensures status { IsSome place.old.kept.held → result ≡ 0 }
+{
+    let Some(mut session) = place.take(alloc) else {
+        return Status::NoSession.code();
+    };
+    let status = session.tell_messages(is_on);
+    place.put(session);
+    status.code()
+}
+
 /// Sets how many bytes may wait for this client.
 #[unsafe(no_mangle)]
 pub extern "C" fn nb_server_set_max_buffer_size(

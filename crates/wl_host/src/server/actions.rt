@@ -13,6 +13,7 @@ ghost use Rattle.wl_host.specs.Kinds as kinds;
 ghost use Rattle.wl_host.specs.Inside.Actions.{NextOf, is_killed_in, status_of_next};
 ghost use Rattle.wl_host.specs.Seats.{ledger_of};
 ghost use Rattle.wl_host.specs.Server.{kept_by_server};
+ghost use Rattle.wl_host.specs.Tellings.{ReadsTold};
 ghost use Rattle.wl_server.specs.Deeds.{handed};
 
 use crate::arguments::{Needs, Objects, write_arguments};
@@ -29,7 +30,7 @@ use crate::status::Status;
 use std::alloc::Global;
 use std::mem;
 use wl_server::{Action, ActionError, ClientId, FinishRefused, GlobalId, ObjectId};
-use wl_wire::IoFault;
+use wl_wire::{IoFault, OutOfMemory};
 
 /// Whether a reading of a client that is stored, and ended so, killed the client.
 fn kills(error: ActionError) -> bool
@@ -339,6 +340,28 @@ impl Server {
     ///
     /// After any but `Ok` and `TooSmall` `out` is all zeros. After any but `Ok` the rest of the lent memory is as it was.
     pub fn next_action(
+        &mut self,
+        client: &FlatClientId,
+        out: &mut FlatAction,
+        arguments: &mut [FlatArgument],
+        bytes: &mut [u8],
+    ) -> Status
+        ensures { (came_out : List ℤ)
+            × ReadsTold self.old (client_of client.now) arguments.old bytes.old result (record { out = out.new; arguments = arguments.new; bytes = bytes.new }) came_out self.new
+            × Conserves kept_by_server self.old [] came_out self.new }
+    {
+        // What was read and written before comes before what this reading reads.
+        match self.catch_up(&client.id()) {
+            Ok(()) => self.read_next(client, out, arguments, bytes),
+            Err(OutOfMemory) => {
+                *out = FlatAction::none();
+                Status::OutOfMemory
+            }
+        }
+    }
+
+    /// Reads the next action of the client. The statuses are those of `next_action`.
+    fn read_next(
         &mut self,
         client: &FlatClientId,
         out: &mut FlatAction,

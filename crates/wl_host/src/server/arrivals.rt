@@ -8,7 +8,6 @@ ghost use Rattle.wl_link.specs.declared.mailbox.Ending.TheVariants as ending;
 ghost use Rattle.wl_wire.specs.declared.error.IoFault.TheVariants as fault;
 
 use crate::flat::FlatClientId;
-use crate::incoming::take_in;
 use crate::server::Server;
 use crate::status::Status;
 use wl_link::Ending;
@@ -20,7 +19,7 @@ impl Server {
     ///
     /// The status is `InvalidId` if the client is not stored, `InvalidInput` if descriptors come without a byte,
     /// `TooManyDescriptors` if more than 28 would wait that no call has read, and `OutOfMemory`. Then nothing is changed, and the
-    /// descriptors are still the host's.
+    /// descriptors are still the host's. If the client's messages are told, the bytes are to be told once they are read.
     pub fn received(&mut self, client: &FlatClientId, bytes: &[u8], descriptors: &[i32]) -> Status
         ensures arrived { Received self.old (client_of client.now) bytes.now descriptors.now result self.new }
         ensures descriptors { Conserves kept_by_server self.old (went_in result descriptors.now) [] self.new }
@@ -32,7 +31,7 @@ impl Server {
         let Ok(mailbox) = self.core.transport_mut(&id) else {
             return Status::InvalidId;
         };
-        take_in(mailbox, &mut ledger.received, bytes, descriptors)
+        ledger.take_in(mailbox, bytes, descriptors)
     }
 
     /// Says what comes behind the bytes that arrived.

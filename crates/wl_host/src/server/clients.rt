@@ -1,11 +1,12 @@
 //! The clients of a server's session.
 
-ghost use Rattle.std.specs.Prelude.{[], ◌≡◌, length, map, min, option_map};
+ghost use Rattle.std.specs.Prelude.{[], ◌≡◌, IfOk, length, map, min, option_map};
 ghost use Rattle.wl_host.specs.Descriptors.{Conserves};
 ghost use Rattle.wl_host.specs.Server.{kept_by_server};
 ghost use Rattle.wl_host.specs.Calls.{InsertsClient, TellsNextClient, or_invalid, world};
 ghost use Rattle.wl_host.specs.Clients.{SetsRoom, inserted, marked};
 ghost use Rattle.wl_host.specs.Lists.{Lists, filled};
+ghost use Rattle.wl_host.specs.Told.{first_telling};
 ghost use Rattle.wl_host.specs.Flat.{client_of, flat_client};
 ghost use Rattle.wl_server.specs.Backend.{Calls};
 ghost use Rattle.wl_server.specs.Lookups.{client_data_of, live_clients};
@@ -18,8 +19,10 @@ use crate::flat::{FlatClientId, FlatGlobalId, count_number};
 use crate::server::listing::{put_next, room_for};
 use crate::server::{HostClient, Server, hidden};
 use crate::status::Status;
+use crate::telling::Telling;
 use wl_link::Mailbox;
 use wl_server::{ClientId, DisconnectReason};
+use wl_wire::OutOfMemory;
 
 /// How many bytes wait in the mailbox of a client until no more are put there, if the host sets no other number. What comes
 /// behind them waits in the core, up to the limit of the client's buffers.
@@ -42,6 +45,7 @@ impl Server {
         ensures beside { self.new ≡ inserted self.old self.new.core result user_data }
         ensures descriptors { Conserves kept_by_server self.old [] [] self.new }
     {
+        let telling = self.first_telling()?;
         let hidden = hidden::globals(self.alloc(), hidden)?;
         let mut mailbox = Mailbox::new(self.alloc());
         mailbox.set_room(DEFAULT_ROOM);
@@ -50,12 +54,23 @@ impl Server {
             groups,
             hidden,
         };
-        match self.seats.insert(&mut self.core, mailbox, client) {
+        match self.seats.insert(&mut self.core, mailbox, client, telling) {
             Ok(id) => {
                 self.may_have_notes = true;
                 Ok(FlatClientId::new(id))
             }
             Err(status) => Err(status),
+        }
+    }
+
+    /// What is told of a client that is inserted, if its messages are to be told.
+    fn first_telling(&self) -> Result<Option<Telling>, OutOfMemory>
+        ensures { IfOk result (λ telling. telling ≡ first_telling self.now.tells) }
+    {
+        if self.tells {
+            Ok(Some(Telling::new(self.alloc())?))
+        } else {
+            Ok(None)
         }
     }
 

@@ -1,14 +1,22 @@
 //! What a session keeps of a client beside the core.
 
-ghost use Rattle.std.specs.Prelude.{◌≡◌, MatchOption};
+ghost use Rattle.std.specs.Prelude.{◌≡◌, ◌==◌, MatchOption, length};
 ghost use Rattle.wl_host.specs.Descriptors.{given_up};
+ghost use Rattle.wl_host.specs.Hearing.{Hears, LedgerCatchesUp, LedgerTells, TakesIn, ledger_after};
 ghost use Rattle.wl_host.specs.Seats.{HasNonePassed, LedgerPassesOut, departed, left_of, new_ledger};
+ghost use Rattle.wl_host.specs.Sending.{mailbox_after};
 
 use crate::descriptors::DescriptorQueue;
-use crate::outgoing::take_all_out;
+use crate::flat::{FlatArgument, FlatTold};
+use crate::incoming::take_in;
+use crate::outgoing::{take_all_out, take_off};
+use crate::status::Status;
+use crate::telling::Telling;
 use std::alloc::Global;
-use wl_link::Mailbox;
+use wl_follow::Side;
+use wl_link::{MAX_FDS_OUT, Mailbox};
 use wl_server::{Action, ClientId};
+use wl_wire::{OutOfMemory, Protocol};
 
 /// What is kept of a client from its insertion until the core lets it go.
 #[derive(Drop)]
@@ -26,6 +34,8 @@ pub struct Ledger {
     pub kept: Option<Action>,
     /// Whether the open action ends the object that it was sent to.
     pub ends_sender: bool,
+    /// What is told of it, if its messages are told.
+    pub telling: Option<Telling>,
 }
 
 /// What is kept of a client that the core let go, until it is handed out.
@@ -41,10 +51,34 @@ pub struct Departed {
     pub mailbox: Mailbox,
 }
 
+/// Puts what arrived into the mailbox of a client whose messages are told. What is refused is not told.
+fn hear(
+    telling: &mut Telling,
+    mailbox: &mut Mailbox,
+    queue: &mut DescriptorQueue,
+    bytes: &[u8],
+    descriptors: &[i32],
+) -> Status
+    ensures { Hears mailbox.old queue.old telling.old bytes.now descriptors.now result mailbox.new queue.new telling.new }
+{
+    let come_alone = bytes.is_empty() && !descriptors.is_empty();
+    if come_alone || descriptors.len() > MAX_FDS_OUT {
+        return take_in(mailbox, queue, bytes, descriptors);
+    }
+    if telling.hear(Side::Client, bytes, descriptors).is_err() {
+        return Status::OutOfMemory;
+    }
+    let status = take_in(mailbox, queue, bytes, descriptors);
+    if status != Status::Ok {
+        telling.take_back(Side::Client, bytes, descriptors);
+    }
+    status
+}
+
 impl Ledger {
     /// What is kept of a client that was inserted just now.
-    pub fn new(alloc: Global, id: ClientId, user_data: u64) -> Self
-        ensures { result ≡ new_ledger id user_data }
+    pub fn new(alloc: Global, id: ClientId, user_data: u64, telling: Option<Telling>) -> Self
+        ensures { result ≡ new_ledger id user_data telling }
     {
         Ledger {
             id,
@@ -53,6 +87,65 @@ impl Ledger {
             sending: DescriptorQueue::new(alloc),
             kept: None,
             ends_sender: false,
+            telling,
+        }
+    }
+
+    /// Puts what arrived into the client's mailbox. If its messages are told, it is to be told once it is read.
+    ///
+    /// The statuses are those of `incoming::take_in`, and `OutOfMemory` also if there was no memory to tell it. Then nothing is changed.
+    pub fn take_in(&mut self, mailbox: &mut Mailbox, bytes: &[u8], descriptors: &[i32]) -> Status
+        ensures { TakesIn mailbox.old self.old bytes.now descriptors.now result mailbox.new self.new }
+    {
+        match &mut self.telling {
+            Some(telling) => hear(telling, mailbox, &mut self.received, bytes, descriptors),
+            None => take_in(mailbox, &mut self.received, bytes, descriptors),
+        }
+    }
+
+    /// So many of the bytes in the client's mailbox were sent, or all if there are fewer. Returns whether no byte is left.
+    pub fn take_off(&mut self, mailbox: &mut Mailbox, count: u32) -> bool
+        ensures empty { result ≡ (length mailbox.new.waiting.bytes == 0) }
+        ensures mailbox { mailbox.new ≡ mailbox_after count mailbox.old }
+        ensures ledger { self.new ≡ ledger_after count mailbox.old self.old }
+    {
+        if let Some(telling) = &mut self.telling {
+            telling.sent(count, mailbox);
+        }
+        take_off(mailbox, &mut self.sending, count)
+    }
+
+    /// What is told of the client, if something is, catches up with the session, which has read all that arrived but for so many bytes.
+    ///
+    /// The error says that there was no memory. Then the next call goes on.
+    pub fn catch_up(&mut self, unread: usize, mailbox: &Mailbox) -> Result<(), OutOfMemory>
+        ensures { LedgerCatchesUp unread mailbox.now self.old result self.new }
+    {
+        match &mut self.telling {
+            Some(telling) => telling.catch_up(Side::Client, unread, mailbox, &self.sending),
+            None => Ok(()),
+        }
+    }
+
+    /// Tells the next message of the client, or to it. The status is `InvalidId` if its messages are not told, and else that of
+    /// `Telling::next`.
+    pub fn tell_next(
+        &mut self,
+        table: &Protocol,
+        alloc: Global,
+        out: &mut FlatTold,
+        arguments: &mut [FlatArgument],
+        bytes: &mut [u8],
+    ) -> Status
+        ensures { LedgerTells table.now self.old (record { out = out.old; arguments = arguments.old; bytes = bytes.old }) result
+            (record { out = out.new; arguments = arguments.new; bytes = bytes.new }) self.new }
+    {
+        match &mut self.telling {
+            Some(telling) => telling.next(table, alloc, out, arguments, bytes),
+            None => {
+                *out = FlatTold::none();
+                Status::InvalidId
+            }
         }
     }
 

@@ -13,6 +13,7 @@ use crate::server::ledger::{Departed, Ledger};
 use crate::server::slots::SlotQueue;
 use crate::server::{Core, HostClient};
 use crate::status::Status;
+use crate::telling::Telling;
 use std::alloc::Global;
 use std::collections::VecDeque;
 use std::marker::Model;
@@ -38,9 +39,13 @@ pub struct Seats {
 }
 
 impl Model for Seats {
+    ghost use Rattle.std.specs.Coded.{codes};
+    ghost use Rattle.wl_link.specs.ObjectMap.{store_code};
     ghost use Rattle.wl_host.specs.Seats.{SeatsState};
 
     ghost Value = { SeatsState };
+
+    ghost coded = { Prim.hlevel (codes, store_code) };
 
     ghost use Rattle.wl_host.specs.Inside.Seats.{AreSeats};
 
@@ -262,7 +267,7 @@ impl Seats {
         Some(ledger)
     }
 
-    /// Inserts a client into the core, and makes a ledger for it.
+    /// Inserts a client into the core, and makes a ledger for it, with what is told of it.
     ///
     /// The status is `Full` if the core takes no more clients, or `OutOfMemory`. Then nothing is changed.
     pub fn insert(
@@ -270,9 +275,10 @@ impl Seats {
         core: &mut Core,
         mailbox: Mailbox,
         client: HostClient,
+        telling: Option<Telling>,
     ) -> Result<ClientId, Status>
         ensures core { InsertsInto core.old mailbox client result core.new }
-        ensures ok { IfOk result (λ id. self.new ≡ seated self.old id client.user_data) }
+        ensures ok { IfOk result (λ id. self.new ≡ seated self.old id client.user_data telling) }
         ensures err { IfErr result (λ _. self.new ≡ self.old) }
     {
         let Some(next) = core.next_client_id() else {
@@ -290,7 +296,7 @@ impl Seats {
         let alloc = *self.gone.allocator();
         let user_data = client.user_data;
         let id = core.insert_client(mailbox, client)?;
-        let ledger = Ledger::new(alloc, id, user_data);
+        let ledger = Ledger::new(alloc, id, user_data, telling);
         if let Some(earlier) = put_ledger(&mut self.ledgers, ledger) {
             // The core gave its slot away, so it has let it go.
             let_go(&mut self.gone, &mut self.left, earlier, Mailbox::new(alloc));

@@ -6,9 +6,10 @@ ghost use Rattle.wl_host.specs.Flat.{client_of};
 ghost use Rattle.wl_host.specs.Seats.{ledger_at};
 ghost use Rattle.wl_host.specs.Server.{Asks, AsksClient, AsksInTurn, FoundHasBytes, NextWritable, NoneAskedHasBytes, Sent, has_bytes, kept_by_server, sent_with, to_send};
 ghost use Rattle.wl_host.specs.Flushing.{FlushesClient, OkHasBytes, said_of};
+ghost use Rattle.wl_host.specs.Tellings.{CopiesTold, SendsTold, sent_told};
 
 use crate::flat::{Counts, FlatClientId};
-use crate::outgoing::{copy_out, take_off};
+use crate::outgoing::copy_out;
 use crate::server::seats::Seats;
 use crate::server::{Core, Server};
 use crate::status::Status;
@@ -126,8 +127,30 @@ impl Server {
     /// counts say how many these are; both are 0 if no byte is copied. Nothing is taken away: `sent` does that.
     ///
     /// The status is `InvalidId` if the client is not stored, and `TooSmall` if there is no room for the descriptors. Then
-    /// `counts` says how many of them there are. Room for 28 is always enough.
+    /// `counts` says how many of them there are. Room for 28 is always enough. If the client's messages are told, it is
+    /// `OutOfMemory` if there was no memory to tell those that are to be sent. Then nothing is copied, and the next call goes on.
     pub fn to_send(
+        &mut self,
+        client: &FlatClientId,
+        bytes: &mut [u8],
+        descriptors: &mut [i32],
+        counts: &mut Counts,
+    ) -> Status
+        ensures copied { CopiesTold self.old (client_of client.now) bytes.old descriptors.old
+            (record { status = result; bytes = bytes.new; descriptors = descriptors.new; counts = counts.new }) self.new }
+        ensures conserved { Conserves kept_by_server self.old [] [] self.new }
+    {
+        match self.catch_up(&client.id()) {
+            Ok(()) => self.copy_waiting(client, bytes, descriptors, counts),
+            Err(OutOfMemory) => {
+                *counts = Counts::new(0, 0);
+                Status::OutOfMemory
+            }
+        }
+    }
+
+    /// Copies what is in the client's mailbox. The status is as that of `to_send`.
+    fn copy_waiting(
         &self,
         client: &FlatClientId,
         bytes: &mut [u8],
@@ -153,8 +176,21 @@ impl Server {
     /// The host sent so many of the bytes that `to_send` copied, and with the first of them all the descriptors, which it may
     /// close. No other call for the client comes in between.
     ///
-    /// The status is `InvalidId` if the client is not stored.
+    /// The status is `InvalidId` if the client is not stored. If the client's messages are told, it is `OutOfMemory` if there was no
+    /// memory to tell some that `to_send` had not seen. Then nothing is changed but what is told, and the host makes the same call
+    /// again.
     pub fn sent(&mut self, client: &FlatClientId, count: u32) -> Status
+        ensures sent { SendsTold self.old (client_of client.now) count result self.new }
+        ensures descriptors { Conserves kept_by_server self.old [] (sent_told self.old (client_of client.now) count result) self.new }
+    {
+        match self.catch_up(&client.id()) {
+            Ok(()) => self.take_off(client, count),
+            Err(OutOfMemory) => Status::OutOfMemory,
+        }
+    }
+
+    /// Takes so many bytes off the client's mailbox. The status is as that of `sent`.
+    fn take_off(&mut self, client: &FlatClientId, count: u32) -> Status
         ensures sent { Sent self.old (client_of client.now) count result self.new }
         ensures descriptors { Conserves kept_by_server self.old [] (sent_with self.old (client_of client.now) count) self.new }
     {
@@ -163,7 +199,7 @@ impl Server {
             return Status::InvalidId;
         };
         let is_empty = match self.core.transport_mut(&id) {
-            Ok(mailbox) => take_off(mailbox, &mut ledger.sending, count),
+            Ok(mailbox) => ledger.take_off(mailbox, count),
             Err(error) => return Status::from(error),
         };
         if is_empty {

@@ -2,9 +2,9 @@
 use Rattle.std.specs.Prelude.{◌≡◌, List, map, Option, MatchOption}
 use Rattle.std.specs.List.{AllZip}
 use Rattle.wl_link.specs.Exchange.{Queue}
+use Rattle.wl_follow.specs.declared.side.Side.{Side}
 use Rattle.wl_relay.specs.declared.commands.Arrival.{Arrival}
 use Rattle.wl_relay.specs.declared.rows.Arguments.{Arguments}
-use Rattle.wl_relay.specs.declared.side.Side.{Side}
 use Rattle.wl_relay.specs.Rows.{IsArgument, Kind, child_of, places_of, type_of}
 use Rattle.wl_relay.specs.Words.{Word}
 

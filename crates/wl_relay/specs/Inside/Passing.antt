@@ -12,21 +12,22 @@ use Rattle.wl_link.specs.Link.{IsFresh, LinkState, after_first, with_incoming}
 use Rattle.wl_link.specs.Mailbox.{MailboxState}
 use Rattle.wl_link.specs.MailboxLink.{still_to_read, still_to_send}
 use Rattle.wl_link.specs.Store.{Store}
+use Rattle.wl_follow.specs.Fronts.{LacksPart}
+use Rattle.wl_follow.specs.Objects.{NotesObjects}
+use Rattle.wl_follow.specs.declared.side.Fault.{Fault}
+use Rattle.wl_follow.specs.declared.side.Fault.TheVariants as fault
+use Rattle.wl_follow.specs.declared.side.Side.{Side}
 use Rattle.wl_relay.specs.Announcements.{going_on}
 use Rattle.wl_relay.specs.Flow.{settings}
-use Rattle.wl_relay.specs.Log.{AwaitsMore, Known, LacksPart, Passage, Passes, Stops, all_sent, any_change, follows, hears, lines_of, stopped, unknown_line}
-use Rattle.wl_relay.specs.Objects.{NotesObjects}
+use Rattle.wl_relay.specs.Log.{AwaitsMore, Known, Passage, Passes, Stops, all_sent, any_change, deletions, follows, hears, lines_of, stopped, unknown_interfaces, unknown_line}
 use Rattle.wl_relay.specs.declared.follow.Passed.{Passed}
 use Rattle.wl_relay.specs.declared.follow.Passed.TheVariants as passed
 use Rattle.wl_relay.specs.declared.follow.Received.{Received}
 use Rattle.wl_relay.specs.declared.follow.Received.TheVariants as received
 use Rattle.wl_relay.specs.declared.notes.Edit.{Edit}
 use Rattle.wl_relay.specs.declared.notes.Edit.TheVariants as edit
-use Rattle.wl_relay.specs.declared.side.Fault.{Fault}
-use Rattle.wl_relay.specs.declared.side.Fault.TheVariants as fault
-use Rattle.wl_relay.specs.declared.side.Mode.{Mode}
-use Rattle.wl_relay.specs.declared.side.Mode.TheVariants.{HandOn, Log}
-use Rattle.wl_relay.specs.declared.side.Side.{Side}
+use Rattle.wl_relay.specs.declared.mode.Mode.{Mode}
+use Rattle.wl_relay.specs.declared.mode.Mode.TheVariants.{HandOn, Log}
 
 -- ---- links
 
@@ -91,7 +92,8 @@ ReceivedAs from received.Full from' =
 
 -- the objects after a message with which this is done, or the fault for which they cannot be noted
 abbrev pub NotesUnder : List InterfaceRow → Mode → Side → Bool → Object (Unit {0}) → MessageRow → WireMessage → Store (Unit {0}) → Edit → Option Fault → Store (Unit {0}) → Type 0
-NotesUnder table mode side heard object row m objects edit.Nothing f objects' = NotesObjects table mode side heard object row m objects f objects'
+NotesUnder table mode side heard object row m objects edit.Nothing f objects' =
+    NotesObjects table (unknown_interfaces mode) side (deletions heard) object row m objects f objects'
 NotesUnder table mode side heard object row m objects _ f objects' = (f ≡ None) × (objects' ≡ objects)
 
 -- a message that was not read has a line if it left the link

@@ -2,7 +2,7 @@
 use Rattle.std.specs.Prelude.{⊤, ◌≡◌, ℕ, suc, ◌+◌, List, ◌∷◌, ◌++◌, length, Option, Some, IfSome, []}
 use Rattle.std.specs.Io.KnownBytes.{Appends}
 use Rattle.wl_wire.specs.Table.{InterfaceRow}
-use Rattle.wl_relay.specs.declared.side.Mode.{Mode}
+use Rattle.wl_relay.specs.declared.mode.Mode.{Mode}
 use Rattle.wl_relay.specs.declared.stop.Stop.{Stop}
 use Rattle.wl_relay.specs.declared.stop.Stop.TheVariants.{BadLine, BadTable, Failed}
 use Rattle.wl_relay.specs.Flow.{RelayState}

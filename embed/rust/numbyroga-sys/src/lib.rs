@@ -583,6 +583,35 @@ plain! {
     }
 }
 
+/// What is told: a message that was read.
+pub const NB_MESSAGE: u32 = 1;
+/// What is told: a message that was not read, of an object that is not known or of an opcode that the table lacks.
+pub const NB_UNKNOWN_MESSAGE: u32 = 2;
+/// What is told: what was sent is no message.
+pub const NB_NO_MESSAGE: u32 = 3;
+
+plain! {
+    /// A message that went over a connection, as it is told.
+    nb_told: 32, 4 {
+        /// [`NB_MESSAGE`], [`NB_UNKNOWN_MESSAGE`] or [`NB_NO_MESSAGE`].
+        kind: u32 = 0,
+        /// 1 if the server sent it, 0 if the client did.
+        is_event: u32 = 4,
+        /// The number of the object that it was sent to, or that sent it.
+        number: u32 = 8,
+        /// Of [`NB_MESSAGE`]: the interface of that object.
+        interface: u32 = 12,
+        /// The opcode.
+        opcode: u32 = 16,
+        /// Of [`NB_MESSAGE`]: how many arguments it has.
+        arguments: u32 = 20,
+        /// Of [`NB_MESSAGE`]: how many bytes its strings and arrays take, with the zeros behind each.
+        bytes: u32 = 24,
+        /// 1 if no more is told of the side that sent it, else 0.
+        is_last: u32 = 28,
+    }
+}
+
 plain! {
     /// A client that is gone.
     nb_gone: 32, 8 {
@@ -751,6 +780,8 @@ unsafe extern "C" {
     pub safe fn nb_server_refuse_nulls(place: &mut nb_server, is_on: u32) -> nb_status;
     /// Limits how many objects each client may have.
     pub safe fn nb_server_set_object_limit(place: &mut nb_server, limit: u32) -> nb_status;
+    /// Sets whether the messages are told of each client that is inserted from now on.
+    pub safe fn nb_server_tell_messages(place: &mut nb_server, is_on: u32) -> nb_status;
     /// Sets how far the buffers of a client may grow.
     pub safe fn nb_server_set_max_buffer_size(
         place: &mut nb_server,
@@ -850,6 +881,16 @@ unsafe extern "C" {
         code: u32,
         message: *const u8,
         length: usize,
+    ) -> nb_status;
+    /// Tells the next message of a client, or to it.
+    pub fn nb_server_next_told(
+        place: &mut nb_server,
+        client: &nb_client_id,
+        told: &mut nb_told,
+        arguments: *mut nb_argument,
+        argument_room: usize,
+        bytes: *mut u8,
+        byte_room: usize,
     ) -> nb_status;
     /// Makes an object of the server for a client.
     pub safe fn nb_server_create_object(

@@ -1,4 +1,4 @@
-use Rattle.std.proofs.Common.{◌≡◌, ◌+◌, length, replicate, arith}
+use Rattle.std.proofs.Common.{replicate, arith}
 use Rattle.std.proofs.lemmas.Grind.{common_steps}
 use Rattle.wl_host.proofs.Flattening.{written_behind}
 use Rattle.wl_host.proofs.arguments.write_bytes.Goals as goal

@@ -1,8 +1,6 @@
-use Rattle.std.proofs.Common.{sym, ap, ◌∙◌, inl, inr, arith}
-use Rattle.std.proofs.lemmas.Bool.{cases_eq, cases_lt}
+use Rattle.std.proofs.Common.{sym, ◌∙◌, inl, inr, arith}
+use Rattle.std.proofs.lemmas.Bool.{cases_lt}
 use Rattle.std.specs.Prelude.{length}
-use Rattle.wl_wire.specs.Table.{interface_rows}
-use Rattle.wl_host.specs.Extending.{fault_at}
 use Rattle.wl_host.proofs.RowsExtend.{fault_past}
 use Rattle.wl_host.proofs.extending.compare.Goals as goal
 

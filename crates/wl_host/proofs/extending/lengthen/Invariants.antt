@@ -1,4 +1,4 @@
-use Rattle.std.proofs.Common.{◌≡◌, Result, map}
+use Rattle.std.proofs.Common.{Result, map}
 use Rattle.std.specs.Vec.Iter.{into_iter_items}
 use Rattle.wl_host.specs.declared.extending.ExtensionFault.{ExtensionFault}
 use Rattle.wl_host.specs.Extending.{Lengthens, longer_seen}

@@ -1,6 +1,7 @@
 use Rattle.std.proofs.Common.{ap}
+use Rattle.wl_host.proofs.Beside.{told_action_settled, told_next_settled, told_sent_settled, told_to_send_settled}
 use Rattle.wl_host.proofs.Marking.{default_kills, hand_out_registries_kills, keep_names_kills, limit_kills, object_limit_kills}
-use Rattle.wl_host.proofs.Settled.{action_settled, bind_settled, cleanup_settled, creates_at_settled, creates_settled, data_settled, ends_settled, error_settled, event_settled, extends_settled, flushes_settled, insert_settled, interfaces_settled, kills_same, new_settled, notes_settled, received_settled, refused_global_settled, request_settled, room_settled, sent_settled, stays_by, stays_marked, version_settled, writable_settled}
+use Rattle.wl_host.proofs.Settled.{bind_settled, cleanup_settled, creates_at_settled, creates_settled, data_settled, ends_settled, error_settled, event_settled, extends_settled, flushes_settled, insert_settled, interfaces_settled, kills_same, new_settled, notes_settled, received_settled, refused_global_settled, request_settled, room_settled, stays_by, stays_marked, version_settled, writable_settled}
 use Rattle.wl_host.specs.Server.{ServerState}
 use Rattle.wl_host.proofs.laws.a_cleanup_looks_for_the_killed.Goals as goal
 
@@ -32,7 +33,7 @@ pub returns-clause-ended : goal.returns-clause-ended
 returns-clause-ended c before after id ending s h = ends_settled before after id ending s h
 
 pub returns-clause-next_action : goal.returns-clause-next_action
-returns-clause-next_action c before after id arguments bytes s lent came_out h = action_settled before after id arguments bytes s lent came_out h
+returns-clause-next_action c before after id arguments bytes s lent came_out h = told_action_settled before after id arguments bytes s lent came_out h
 
 pub returns-clause-finish_request : goal.returns-clause-finish_request
 returns-clause-finish_request c before after id user_data result knows h = request_settled before after id user_data result knows h
@@ -76,8 +77,14 @@ returns-clause-refused_global c before after interface version user_data groups 
 pub returns-clause-next_writable : goal.returns-clause-next_writable
 returns-clause-next_writable c before after result h = writable_settled before after result h
 
+pub returns-clause-to_send : goal.returns-clause-to_send
+returns-clause-to_send c before after id bytes descriptors copied h = told_to_send_settled before after id bytes descriptors copied h
+
 pub returns-clause-sent : goal.returns-clause-sent
-returns-clause-sent c before after id count s h = sent_settled before after id count s h
+returns-clause-sent c before after id count s h = told_sent_settled before after id count s h
+
+pub returns-clause-next_told : goal.returns-clause-next_told
+returns-clause-next_told c before after id lent s lent' h = told_next_settled before after id lent s lent' h
 
 pub returns-clause-next_note : goal.returns-clause-next_note
 returns-clause-next_note c before after out out' text text' s h = notes_settled before after out out' text text' s h

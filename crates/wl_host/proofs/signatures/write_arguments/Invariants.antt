@@ -1,4 +1,4 @@
-use Rattle.std.proofs.Common.{◌≡◌, ◌≤◌, ◌+◌, List, Some, false, length, take, drop}
+use Rattle.std.proofs.Common.{◌≡◌, ◌≤◌, List, Some, false, length, take, drop}
 use Rattle.wl_host.specs.Flat.{over_front}
 use Rattle.wl_host.specs.Signatures.{arguments_said}
 use Rattle.wl_host.specs.declared.rows.ArgumentRow.{ArgumentRow}

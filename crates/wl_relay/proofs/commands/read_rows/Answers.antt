@@ -1,7 +1,7 @@
 use Rattle.std.proofs.Common.{rules, ◌≡◌, Ok, true, false, arith}
 use Rattle.std.proofs.lemmas.Grind.{common_steps}
 use Rattle.wl_wire.specs.Table.{interface_rows}
-use Rattle.wl_relay.specs.declared.side.Mode.{Mode}
+use Rattle.wl_relay.specs.declared.mode.Mode.{Mode}
 use Rattle.wl_relay.specs.Program.{EndsTable}
 use Rattle.wl_relay.proofs.TableLines.{reads_lent, rows_bad, rows_end, rows_next, rows_none}
 use Rattle.wl_relay.proofs.commands.read_rows.Goals as goal

@@ -1,9 +1,9 @@
 -- That a fault adds its line behind those of the messages before it, and that a side that is not read adds none.
 use Rattle.std.proofs.Common.{◌≡◌, Option, subst, false, true}
 use Rattle.std.proofs.lemmas.Result.{on_ok_weaker}
+use Rattle.wl_follow.specs.declared.side.Fault.{Fault}
 use Rattle.wl_relay.specs.Inside.Passing.{ReadsUpTo}
 use Rattle.wl_relay.specs.Log.{follows, known}
-use Rattle.wl_relay.specs.declared.side.Fault.{Fault}
 use Rattle.wl_relay.proofs.Lines.{awaiting_grows, fault_grows, on_ok_both, unread_grows}
 use Rattle.wl_relay.proofs.follow.follow.Goals as goal
 

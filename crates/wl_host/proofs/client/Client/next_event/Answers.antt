@@ -1,4 +1,4 @@
-use Rattle.std.proofs.Common.{rules, refl, ◌≡◌, ◌∙◌, [], List, ℤ, Bool, true, false, ap, sym}
+use Rattle.std.proofs.Common.{rules, refl, ◌≡◌, ◌∙◌, [], List, ℤ, true, false, ap, sym}
 use Rattle.wl_client.specs.Requests.{session_content}
 use Rattle.wl_host.specs.Arguments.{descriptors_out}
 use Rattle.wl_host.specs.Client.{ClientCore, ReadsUnlessKept, kept_of, null_in}

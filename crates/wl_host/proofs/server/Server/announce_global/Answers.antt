@@ -1,4 +1,4 @@
-use Rattle.std.proofs.Common.{rules, ◌≡◌, Some, inr, refl}
+use Rattle.std.proofs.Common.{rules, ◌≡◌, Some, inr}
 use Rattle.wl_server.specs.Lookups.{global_info_by}
 use Rattle.wl_host.specs.Flat.{global_of}
 use Rattle.wl_host.proofs.server.Server.announce_global.Goals as goal

@@ -13,6 +13,7 @@ after c = record {
   refuses_nulls = c.self.inside.refuses_nulls;
   keeps_notes = c.self.inside.keeps_notes;
   told = c.self.inside.told.items;
+  tells = c.self.inside.tells;
 }
 
 pub returns-clause-call : goal.returns-clause-call

@@ -14,7 +14,7 @@ returns-in_default-transport_mut-clause-descriptors c = conserves_received _ _ _
 pub returns-clause-arrived : goal.returns-clause-arrived
 returns-clause-arrived c =
     rw (← c.self.view_is) (received_from _ _ c.id-id.result _ _ _ _ c.id-id.ensures.id
-    (received_by _ c.id-id.result c.args.bytes.now c.args.descriptors.now c.take_in.result c.in-Some.ledger.now c.in-Ok.mailbox.now c.take_in.new.mailbox c.take_in.new.queue
+    (received_by _ c.id-id.result c.args.bytes.now c.args.descriptors.now c.take_in.result c.in-Some.ledger.now c.take_in.new.self c.in-Ok.mailbox.now c.take_in.new.mailbox
     (sym c.in-Some.ensures.value) c.in-Ok.ensures.value c.take_in.ensures))
 
 pub returns-clause-descriptors : goal.returns-clause-descriptors

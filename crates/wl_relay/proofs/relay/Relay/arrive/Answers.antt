@@ -5,9 +5,9 @@ use Rattle.wl_link.specs.Exchange.{Queue, joined}
 use Rattle.wl_link.specs.Link.{LinkState}
 use Rattle.wl_link.specs.Mailbox.{MailboxState}
 use Rattle.wl_link.specs.MailboxLink.{still_to_read, still_to_send}
+use Rattle.wl_follow.specs.Sides.{other_side}
+use Rattle.wl_follow.specs.declared.side.Side.{Side}
 use Rattle.wl_relay.specs.Flow.{RelayState, not_received, to_read, to_send}
-use Rattle.wl_relay.specs.Log.{other_side}
-use Rattle.wl_relay.specs.declared.side.Side.{Side}
 use Rattle.wl_relay.proofs.Lines.{arrives_logged, put_behind}
 use Rattle.wl_relay.proofs.relay.Relay.arrive.Goals as goal
 use Rattle.wl_relay.proofs.relay.Relay.arrive.Goals.{in-Client+in_ok-put_in-in-Client, in-Server+in_ok-put_in-in-Server}

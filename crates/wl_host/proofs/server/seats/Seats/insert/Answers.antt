@@ -18,7 +18,7 @@ invariant_of-self-in-Some-put_ledger c =
     let k = c.make_all_room.ensures.marked in
     let r = c.in_ok-make_all_room.ensures.listed in
     seats_put c.self.inside _ c.slot-slot.result _ c.new-ledger.result c.make_all_room.new.ledgers c.make_all_room.new.gone c.make_all_room.new.left c.self.invariant
-    (none_passed _ _ _ c.new-ledger.ensures) below at m.ledgers c.in_ok-make_all_room.ensures.room m.gone m.left p.after p.len
+    (none_passed _ _ _ _ c.new-ledger.ensures) below at m.ledgers c.in_ok-make_all_room.ensures.room m.gone m.left p.after p.len
     (omega (arith, g.1.0)) g.1.1 (omega (arith, l.1.0)) l.1.1 w.1 r.0 k.1 r.1 k.0
 
 pub invariant_of-self-in_default-put_ledger : goal.invariant_of-self-in_default-put_ledger
@@ -32,7 +32,7 @@ invariant_of-self-in_default-put_ledger c =
     let k = c.make_all_room.ensures.marked in
     let r = c.in_ok-make_all_room.ensures.listed in
     seats_put c.self.inside _ c.slot-slot.result _ c.new-ledger.result c.make_all_room.new.ledgers c.make_all_room.new.gone c.make_all_room.new.left c.self.invariant
-    (none_passed _ _ _ c.new-ledger.ensures) below at m.ledgers c.in_ok-make_all_room.ensures.room m.gone m.left p.after p.len
+    (none_passed _ _ _ _ c.new-ledger.ensures) below at m.ledgers c.in_ok-make_all_room.ensures.room m.gone m.left p.after p.len
     (omega arith) refl (omega arith) refl w.1 r.0 k.1 r.1 k.0
 
 pub invariant_of-self : goal.invariant_of-self

@@ -1,0 +1,21 @@
+use Rattle.std.proofs.Common.{ap, refl}
+use Rattle.wl_host.proofs.Catching.{tells_caught, tells_nothing}
+use Rattle.wl_host.proofs.Conserving.{conserves_caught}
+use Rattle.wl_host.proofs.Queues.{conserves_out}
+use Rattle.wl_host.specs.Told.{LentTold}
+use Rattle.wl_host.specs.declared.flat.FlatTold.{FlatTold}
+use Rattle.wl_host.proofs.server.Server.next_told.Goals as goal
+
+pub returns-in-Ok-clause-told : goal.returns-in-Ok-clause-told
+returns-in-Ok-clause-told c = tells_caught _ _ _ _ _ _ _ _ c.id-id.ensures.id c.in-Ok.ensures c.tell_next_of.ensures.told
+
+pub returns-in-Ok-clause-descriptors : goal.returns-in-Ok-clause-descriptors
+returns-in-Ok-clause-descriptors c = conserves_out (conserves_caught _ _ _ _ c.in-Ok.ensures) c.tell_next_of.ensures.descriptors
+
+pub returns-in-Err-clause-told : goal.returns-in-Err-clause-told
+returns-in-Err-clause-told c =
+    tells_nothing _ _ _ _ _ _ _ _ c.id-id.ensures.id c.in-Err.ensures
+    (refl, ap (λ (o : FlatTold). let x : LentTold = record { out = o; arguments = c.args.arguments.now; bytes = c.args.bytes.now } in x) c.none.ensures, refl)
+
+pub returns-in-Err-clause-descriptors : goal.returns-in-Err-clause-descriptors
+returns-in-Err-clause-descriptors c = conserves_caught _ _ _ _ c.in-Err.ensures
