@@ -52,6 +52,12 @@ static inline struct wl_proxy *proxy_of(struct wl_object *object)
     return CONTAINER(object, struct wl_proxy, object);
 }
 
+/* The data of an object in the session is its proxy. */
+static inline struct wl_proxy *proxy_of_data(uint64_t data)
+{
+    return (struct wl_proxy *)(uintptr_t)data;
+}
+
 static inline void set_id(struct wl_proxy *proxy, const nb_object_id *id)
 {
     proxy->id = *id;

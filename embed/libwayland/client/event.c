@@ -52,7 +52,7 @@ static int refuse(const char *why, const struct wl_message *message)
 /* One that the program has destroyed is NULL, whatever the message says of null. */
 static int fill_object(struct event *event, uint32_t i, const nb_argument *from, const struct wl_interface *type)
 {
-    struct wl_proxy *proxy = proxy_of_id_locked(event->sender->display, &from->object);
+    struct wl_proxy *proxy = proxy_of_data(from->data);
     if (from->object.number == 0 && !signature_is_nullable(event->message->signature, i))
         return refuse("NULL object received on non-nullable type", event->message);
     event->arguments[i].o = proxy ? &proxy->object : NULL;

@@ -18,7 +18,7 @@ struct wl_proxy *proxy_of_id_locked(struct wl_display *display, const nb_object_
 {
     uint64_t data = 0;
     nb_client_object_data(&display->session, id, &data);
-    return (struct wl_proxy *)(uintptr_t)data;
+    return proxy_of_data(data);
 }
 
 nb_queued_object proxy_state_locked(const struct wl_proxy *proxy)

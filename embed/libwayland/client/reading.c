@@ -56,7 +56,8 @@ static int take_failure(struct wl_display *display)
     }
     nb_object_id id = { .number = error.object_number };
     nb_client_object_for_protocol_id(&display->session, error.object_number, &id);
-    const nb_argument arguments[] = { nb_object(id), nb_uint(error.code), nb_string(0, error.message_length) };
+    nb_argument arguments[] = { nb_object(id), nb_uint(error.code), nb_string(0, error.message_length) };
+    nb_client_object_data(&display->session, &id, &arguments[0].data);
     const nb_event event = { .arguments = 3, .bytes = error.message_length + 1 };
     return put_event_locked(&display->proxy, display->errors, &event, arguments);
 }
@@ -86,7 +87,7 @@ static int take_events(struct wl_display *display)
     nb_argument arguments[MOST_ARGUMENTS];
     nb_status status;
     while ((status = next_event(display, &event, arguments)) == NB_OK) {
-        struct wl_proxy *sender = proxy_of_id_locked(display, &event.sender);
+        struct wl_proxy *sender = proxy_of_data(event.data);
         if (!sender)
             close_descriptors(arguments, event.arguments);
         const int error = sender ? put_event_locked(sender, sender->slot, &event, arguments) : 0;
