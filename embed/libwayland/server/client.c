@@ -11,16 +11,6 @@
 #include <sys/socket.h>
 #include <unistd.h>
 
-void client_fail(struct wl_client *client)
-{
-    client->has_error = true;
-}
-
-void client_hold(struct wl_client *client)
-{
-    client->depth++;
-}
-
 void client_let_go(struct wl_client *client)
 {
     if (--client->depth == 0 && client->is_condemned)
@@ -44,22 +34,17 @@ bool client_enter(struct wl_client *client)
         return client->is_inside;
     client->was_inserted = true;
     client->is_inside = nb_serve_client(core, (uint64_t)(uintptr_t)client, &client->id) == NB_OK;
-    if (!client->is_inside) {
-        client_fail(client);
-        return false;
-    }
-    if (client->buffer_size > 0)
-        nb_server_set_max_buffer_size(core, &client->id, client->buffer_size);
-    if (client->display_resource)
+    client->has_error = client->has_error || !client->is_inside;
+    if (client->is_inside && client->display_resource)
         nb_server_object_for_protocol_id(core, &client->id, NB_INTERFACE_DISPLAY, 1, &client->display_resource->core);
-    return true;
+    return client->is_inside;
 }
 
 /* ======== What its socket is ready for */
 
 static void end_with(struct wl_client *client, const char *reason)
 {
-    log_line("%s (pid %u)\n", reason, (unsigned)client->pid);
+    log_line("%s (pid %u)\n", reason, (unsigned)client->peer.pid);
     wl_client_destroy(client);
 }
 
@@ -69,7 +54,7 @@ static int is_ready(int fd, uint32_t mask, void *data)
     (void)fd;
     if (client->depth > 0 && client->is_condemned) /* in a loop within its own handler: it is as good as gone */
         return 1;
-    if (mask & WL_EVENT_HANGUP) {
+    if ((mask & WL_EVENT_HANGUP) || client->is_cut) {
         wl_client_destroy(client);
         return 1;
     }
@@ -79,13 +64,11 @@ static int is_ready(int fd, uint32_t mask, void *data)
     }
     if (mask & WL_EVENT_WRITABLE) {
         client_send(client);
-        client_flush(client);
-        if (client->is_cut) {
-            end_with(client, "failed to flush client connection");
-            return 1;
-        }
+        wl_client_flush(client);
     }
-    if (mask & WL_EVENT_READABLE)
+    if (client->is_cut)
+        end_with(client, "failed to flush client connection");
+    else if (mask & WL_EVENT_READABLE)
         client_read(client);
     else if (client->has_error)
         end_with(client, "error in client communication");
@@ -94,23 +77,10 @@ static int is_ready(int fd, uint32_t mask, void *data)
 
 /* ======== Beginning and end */
 
-static bool begin_parts(struct wl_client *client)
-{
-    struct ucred peer;
-    socklen_t size = sizeof peer;
-    if (getsockopt(client->socket, SOL_SOCKET, SO_PEERCRED, &peer, &size) < 0)
-        return false;
-    client->pid = peer.pid;
-    client->uid = peer.uid;
-    client->gid = peer.gid;
-    client->source =
-        wl_event_loop_add_fd(client->display->loop, client->socket, WL_EVENT_READABLE, is_ready, client);
-    return client->source && resource_begin_display(client);
-}
-
 EXPORT struct wl_client *wl_client_create(struct wl_display *display, int fd)
 {
     struct wl_client *client = calloc(1, sizeof *client);
+    socklen_t size = sizeof client->peer;
     if (!client)
         return NULL;
     client->display = display;
@@ -120,11 +90,10 @@ EXPORT struct wl_client *wl_client_create(struct wl_display *display, int fd)
     wl_signal_init(&client->resource_created_signal);
     wl_list_init(&client->displaced);
     wl_list_init(&client->lent);
-    wl_list_init(&client->writable);
-    if (!begin_parts(client)) {
-        if (client->source)
-            wl_event_source_remove(client->source);
-        free(client->own.at);
+    if (getsockopt(fd, SOL_SOCKET, SO_PEERCRED, &client->peer, &size) == 0 && resource_begin_display(client))
+        client->source = wl_event_loop_add_fd(display->loop, fd, WL_EVENT_READABLE, is_ready, client);
+    if (!client->source) {
+        resources_end(client);
         free(client);
         return NULL;
     }
@@ -133,27 +102,18 @@ EXPORT struct wl_client *wl_client_create(struct wl_display *display, int fd)
     return client;
 }
 
-/* The session ends it, too. What its resources sent at their end goes nowhere. */
-static void leave(struct wl_client *client)
-{
-    wl_list_remove(&client->link);
-    wl_list_insert(&client->display->leaving, &client->link);
-    if (client->is_inside) {
-        nb_server_kill_client(&client->display->core, &client->id);
-        display_settle(client->display);
-    }
-}
-
+/* What its resources send at their end goes nowhere. */
 EXPORT void wl_client_destroy(struct wl_client *client)
 {
+    struct wl_display *display = client->display;
     if (client->depth > 0) {
         client->is_condemned = true;
         return;
     }
-    client_hold(client); /* for good: no listener destroys it again */
+    client->depth++; /* for good: no listener destroys it again */
     signal_emit_last(&client->destroy_signal, client);
-    client_flush(client);
-    display_settle(client->display);
+    wl_client_flush(client);
+    display_settle(display);
     client->is_ending = true;
     resources_end(client);
     wl_event_source_remove(client->source);
@@ -163,10 +123,13 @@ EXPORT void wl_client_destroy(struct wl_client *client)
     wl_list_remove(&client->resource_created_signal.listener_list);
     if (client->user_data_destroy)
         client->user_data_destroy(client->user_data);
-    wl_list_remove(&client->writable);
-    wl_list_init(&client->writable);
     trace_end(client);
-    leave(client);
+    wl_list_remove(&client->link);
+    wl_list_insert(&display->leaving, &client->link);
+    if (client->is_inside) {
+        nb_server_kill_client(&display->core, &client->id);
+        display_settle(display);
+    }
     client->is_destroyed = true; /* from here on it may be released */
     client_release(client);
 }
@@ -184,11 +147,6 @@ EXPORT void wl_display_destroy_clients(struct wl_display *display)
 }
 
 /* ======== What a client has */
-
-EXPORT void wl_client_flush(struct wl_client *client)
-{
-    client_flush(client);
-}
 
 EXPORT struct wl_list *wl_client_get_link(struct wl_client *client)
 {
@@ -208,11 +166,11 @@ EXPORT struct wl_display *wl_client_get_display(struct wl_client *client)
 EXPORT void wl_client_get_credentials(READ_ONLY(struct wl_client) client, pid_t *pid, uid_t *uid, gid_t *gid)
 {
     if (pid)
-        *pid = client->pid;
+        *pid = client->peer.pid;
     if (uid)
-        *uid = client->uid;
+        *uid = client->peer.uid;
     if (gid)
-        *gid = client->gid;
+        *gid = client->peer.gid;
 }
 
 EXPORT int wl_client_get_fd(struct wl_client *client)
@@ -235,13 +193,7 @@ EXPORT void wl_client_add_resource_created_listener(struct wl_client *client, st
     wl_signal_add(&client->resource_created_signal, listener);
 }
 
-/* ======== Since 1.22 and 1.23; older headers do not declare them */
-
-EXPORT void wl_client_add_destroy_late_listener(struct wl_client *client, struct wl_listener *listener);
-EXPORT struct wl_listener *wl_client_get_destroy_late_listener(struct wl_client *client, wl_notify_func_t notify);
-EXPORT void wl_client_set_user_data(struct wl_client *client, void *data, void (*dtor)(void *data));
-EXPORT void *wl_client_get_user_data(struct wl_client *client);
-EXPORT void wl_client_set_max_buffer_size(struct wl_client *client, size_t max_buffer_size);
+/* ======== Since 1.22 and 1.23 */
 
 EXPORT void wl_client_add_destroy_late_listener(struct wl_client *client, struct wl_listener *listener)
 {
@@ -268,7 +220,6 @@ EXPORT void *wl_client_get_user_data(struct wl_client *client)
 
 EXPORT void wl_client_set_max_buffer_size(struct wl_client *client, size_t max_buffer_size)
 {
-    client->buffer_size = max_buffer_size;
-    if (client->is_inside)
+    if (client_enter(client))
         nb_server_set_max_buffer_size(&client->display->core, &client->id, max_buffer_size);
 }

@@ -98,7 +98,7 @@ static void hand_on(struct request *request, const nb_action *action, const nb_a
     call_handler(request);
 }
 
-static void bind(struct wl_client *client, const nb_action *action)
+static void bind_global(struct wl_client *client, const nb_action *action)
 {
     struct wl_global *global = (struct wl_global *)(uintptr_t)action->data;
     if (global_is_visible(global, client))
@@ -125,16 +125,14 @@ void dispatch(struct wl_client *client, const nb_action *action, const nb_argume
 {
     struct request request;
     const uint32_t count = action->kind == NB_REQUEST ? action->arguments : 0;
-    for (uint32_t i = 0; i < count; i++) {
-        client->unread -= arguments[i].kind == NB_DESCRIPTOR;
+    for (uint32_t i = 0; i < count; i++)
         unpack(&request.values[i], &arguments[i], text, &request.arrays[i]);
-    }
     client->created = action->kind == NB_REGISTRY ? nb_null() : action->created;
     client->created_version = action->version;
     if (!finish(client, action)) {
         close_descriptors(arguments, count);
         wl_client_post_no_memory(client);
-        client_fail(client);
+        client->has_error = true;
         return;
     }
     request.client = client;
@@ -144,7 +142,7 @@ void dispatch(struct wl_client *client, const nb_action *action, const nb_argume
     if (action->kind == NB_REGISTRY)
         registry_begin(client, &action->created);
     else if (action->kind == NB_BIND)
-        bind(client, action);
+        bind_global(client, action);
     else
         hand_on(&request, action, arguments);
 }

@@ -26,7 +26,6 @@ static void begin_lists(struct wl_display *display)
 {
     wl_list_init(&display->clients);
     wl_list_init(&display->leaving);
-    wl_list_init(&display->writable);
     wl_list_init(&display->globals);
     wl_list_init(&display->registries);
     wl_list_init(&display->sockets);

@@ -25,7 +25,7 @@ static void announce(struct wl_resource *registry, const struct wl_global *globa
     if (trace_is_on(client->display))
         trace_announcement(registry, global, false);
     if (nb_server_announce_global(&client->display->core, &registry->core, &global->id) != NB_OK)
-        client_fail(client);
+        client->has_error = true;
 }
 
 /* A listener may do anything, but its client lives on until the request has ended. */

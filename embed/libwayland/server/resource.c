@@ -139,7 +139,7 @@ void object_forget(struct wl_client *client, const nb_object_id *object)
         return;
     nb_server_set_object_data(core, object, 0);
     nb_server_kill_client(core, &client->id);
-    client_fail(client);
+    client->has_error = true;
 }
 
 /* ======== Beginning and end */
@@ -229,7 +229,7 @@ EXPORT void wl_resource_destroy(struct wl_resource *resource)
     if (resource->is_ending) /* by a listener of its own end */
         return;
     resource->is_ending = true;
-    client_hold(client);
+    client->depth++;
     wl_signal_emit_mutable(&resource->old_destroy_signal, resource);
     signal_emit_last(&resource->destroy_signal, resource);
     if (resource->destroy)

@@ -25,7 +25,7 @@
 #include "log.h"
 #include "table.h"
 #include <numbyroga.h>
-#include <sys/types.h>
+#include <sys/socket.h>
 #include <wayland-server-core.h>
 #include <wayland-server-protocol.h>
 
@@ -65,9 +65,7 @@ struct wl_client {
     struct wl_list link; /* in the display's list of clients; of those that leave, once it is destroyed */
     int socket;
     struct wl_event_source *source;
-    pid_t pid;
-    uid_t uid;
-    gid_t gid;
+    struct ucred peer;
     void *user_data;
     void (*user_data_destroy)(void *data);
     struct wl_signal destroy_signal, destroy_late_signal, resource_created_signal;
@@ -75,7 +73,6 @@ struct wl_client {
     nb_client_id id;
     bool was_inserted; /* the session has it, or had it */
     bool is_inside;    /* the session has it, and its data point here */
-    uint64_t buffer_size; /* 0: the display's */
 
     struct wl_resource *display_resource; /* NULL once the resources are destroyed */
     struct numbered own, served;          /* of the client's range, and of the server's */
@@ -85,14 +82,12 @@ struct wl_client {
 
     unsigned depth;    /* how many calls look at it */
     bool has_error;    /* it is told nothing more, and is destroyed when its socket can be read */
-    bool is_cut;       /* its socket failed: wl_display_flush_clients destroys it; or it is closed */
+    bool is_cut;       /* its socket failed: the loop destroys it; or it is closed */
     bool is_condemned; /* wl_client_destroy was called while `depth` was not 0 */
     bool is_ending;    /* its resources are destroyed: what they send goes nowhere */
     bool is_destroyed;
     bool is_full;            /* the socket took no more */
     bool was_read;           /* something came from it */
-    struct wl_list writable; /* in the display's list, if something is to be sent */
-    size_t unread, unsent;   /* descriptors that are in no request yet; that are in an event and not sent */
     struct trace *trace;
 };
 
@@ -116,14 +111,13 @@ struct wl_display {
     int wakeup; /* an eventfd, by which wl_display_terminate ends a wait */
     struct wl_event_source *wakeup_source;
     uint32_t serial;
-    struct wl_list clients, leaving, writable, globals, sockets, loggers;
+    struct wl_list clients, leaving, globals, sockets, loggers;
     struct wl_list registries; /* of all clients, the newest first */
     struct wl_signal destroy_signal, client_created_signal;
     wl_display_global_filter_func_t filter;
     void *filter_data;
     struct wl_array shm_formats;
     bool is_printing; /* WAYLAND_DEBUG */
-    bool has_cut;     /* a client may be cut */
 };
 
 /* signal.c: emits a signal for the last time. Each listener is taken out before it is called. */
@@ -139,8 +133,6 @@ void globals_end(struct wl_display *display);
 void registry_begin(struct wl_client *client, const nb_object_id *object);
 
 /* client.c */
-void client_fail(struct wl_client *client);
-void client_hold(struct wl_client *client);
 void client_let_go(struct wl_client *client); /* it may be gone afterwards */
 void client_release(struct wl_client *client);
 /* Whether the session has the client. It is inserted at the first call, so that one of which nothing is asked takes no room
@@ -149,7 +141,6 @@ bool client_enter(struct wl_client *client);
 
 /* rounds.c */
 bool client_send(struct wl_client *client);
-void client_flush(struct wl_client *client);
 void client_read(struct wl_client *client);
 void display_settle(struct wl_display *display);
 
