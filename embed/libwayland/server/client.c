@@ -30,13 +30,17 @@ void client_release(struct wl_client *client)
 bool client_enter(struct wl_client *client)
 {
     nb_server *core = &client->display->core;
+    struct wl_resource *display = client->display_resource;
+    nb_held_object held;
     if (client->was_inserted)
         return client->is_inside;
     client->was_inserted = true;
     client->is_inside = nb_serve_client(core, (uint64_t)(uintptr_t)client, &client->id) == NB_OK;
     client->has_error = client->has_error || !client->is_inside;
-    if (client->is_inside && client->display_resource)
-        nb_server_object_for_protocol_id(core, &client->id, NB_INTERFACE_DISPLAY, 1, &client->display_resource->core);
+    if (display && client->is_inside && nb_server_object_by_number(core, &client->id, 1, &held) == NB_OK) {
+        display->core = held.object;
+        nb_server_set_object_data(core, &held.object, (uint64_t)(uintptr_t)display);
+    }
     return client->is_inside;
 }
 
@@ -89,8 +93,8 @@ EXPORT struct wl_client *wl_client_create(struct wl_display *display, int fd)
     wl_signal_init(&client->destroy_late_signal);
     wl_signal_init(&client->resource_created_signal);
     wl_list_init(&client->displaced);
-    wl_list_init(&client->lent);
-    if (getsockopt(fd, SOL_SOCKET, SO_PEERCRED, &client->peer, &size) == 0 && resource_begin_display(client))
+    client->display_resource = resource_of_session(client, &wl_display_interface, 1);
+    if (client->display_resource && getsockopt(fd, SOL_SOCKET, SO_PEERCRED, &client->peer, &size) == 0)
         client->source = wl_event_loop_add_fd(display->loop, fd, WL_EVENT_READABLE, is_ready, client);
     if (!client->source) {
         resources_end(client);

@@ -54,10 +54,10 @@ struct wl_resource {
     struct wl_list displaced; /* in its client's list, if its number names another one now */
 };
 
-/* Resources by number: those of one range. */
-struct numbered {
-    struct wl_resource **at;
-    size_t room;
+/* A wl_resource that is the program's own struct, or NULL, and its object of the session. */
+struct lent {
+    struct wl_resource *resource;
+    nb_object_id core;
 };
 
 struct wl_client {
@@ -75,10 +75,9 @@ struct wl_client {
     bool is_inside;    /* the session has it, and its data point here */
 
     struct wl_resource *display_resource; /* NULL once the resources are destroyed */
-    struct numbered own, served;          /* of the client's range, and of the server's */
-    struct wl_list displaced, lent;       /* resources; the program's own structs */
-    nb_object_id created; /* the object that the last request has made, as long as it has no resource; else null */
-    uint32_t created_version;
+    struct wl_array resources[2];         /* by number, of the client's range and of the server's: pointers */
+    struct wl_list displaced;             /* resources */
+    struct wl_array lent;
 
     unsigned depth;    /* how many calls look at it */
     bool has_error;    /* it is told nothing more, and is destroyed when its socket can be read */
@@ -145,47 +144,40 @@ void client_read(struct wl_client *client);
 void display_settle(struct wl_display *display);
 
 /* resource.c */
-bool resource_begin_display(struct wl_client *client);
-struct wl_resource *resource_at(struct wl_client *client, uint32_t id);
-/* The resource of a registry that the session has made. NULL without memory. */
-struct wl_resource *resource_for_registry(struct wl_client *client, const nb_object_id *object);
-struct wl_resource *resource_without_data(struct wl_client *client, const nb_object_id *core);
+/* A resource of what the session makes by itself, the display or a registry. NULL without memory. */
+struct wl_resource *resource_of_session(struct wl_client *client, const struct wl_interface *interface, uint32_t id);
+/* Gives a resource its number and its object of the session. A client that the session has no more gets one by number
+ * alone. False if it cannot be. */
+bool resource_join(struct wl_resource *resource, int version, uint32_t id, nb_object_id *object);
+void resource_leave(struct wl_resource *resource);
 void resources_end(struct wl_client *client);
-bool number_put(struct wl_client *client, uint32_t id, struct wl_resource *resource);
-void number_take_out(struct wl_client *client, uint32_t id, const struct wl_resource *resource);
-/* The session's object that a resource with this number is to stand for: one that a request has made, or a new one at a
- * number that is free, or with 0 at one of the server's. It serves the requests of the version. False if there is none, or
- * it has a resource. */
-bool object_find(struct wl_client *client, const struct wl_interface *interface, int version, uint32_t id,
-                 uint64_t data, nb_object_id *object);
-void object_forget(struct wl_client *client, const nb_object_id *object);
 
-/* deprecated.c: the program's own structs. NULL if the resource is the library's. */
-const nb_object_id *lent_core_of(const struct wl_resource *resource);
+/* deprecated.c */
 void lent_end(struct wl_resource *resource);
 
-/* The list is empty in each program of today. */
-static inline const nb_object_id *lent_core(const struct wl_resource *resource)
+/* NULL if the resource is the library's. The array is empty in each program of today. */
+static inline struct lent *lent_of(const struct wl_client *client, const struct wl_resource *resource)
 {
-    const struct wl_list *list = &resource->client->lent;
-    return list->next == list ? NULL : lent_core_of(resource);
+    struct lent *lent = client->lent.data;
+    for (size_t i = 0; i < client->lent.size / sizeof *lent; i++)
+        if (lent[i].resource == resource)
+            return &lent[i];
+    return NULL;
 }
 
 /* The resource of an object with these data; NULL if the program has none, or is at the end of it: its destructor may
  * have freed what a handler would look at. */
-static inline struct wl_resource *resource_of(struct wl_client *client, const nb_object_id *core, uint64_t data)
+static inline struct wl_resource *resource_of(struct wl_client *client, uint64_t data)
 {
     struct wl_resource *resource = (struct wl_resource *)(uintptr_t)data;
-    if (!resource)
-        return resource_without_data(client, core);
-    return !lent_core(resource) && resource->is_ending ? NULL : resource;
+    return resource && !lent_of(client, resource) && resource->is_ending ? NULL : resource;
 }
 
 /* The session's object of a resource; null if it has none. */
 static inline const nb_object_id *core_of(const struct wl_resource *resource)
 {
-    const nb_object_id *core = lent_core(resource);
-    return core ? core : &resource->core;
+    const struct lent *lent = lent_of(resource->client, resource);
+    return lent ? &lent->core : &resource->core;
 }
 
 /* errors.c */

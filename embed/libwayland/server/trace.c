@@ -126,7 +126,7 @@ static void tell_of_display(struct wl_client *client, uint32_t opcode, uint32_t 
 
 static bool is_registry(struct wl_client *client, uint32_t id)
 {
-    const struct wl_resource *resource = resource_at(client, id);
+    const struct wl_resource *resource = wl_client_get_object(client, id);
     return resource && resource->is_told;
 }
 

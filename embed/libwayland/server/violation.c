@@ -5,7 +5,7 @@
 /* The request, as the program declares it; NULL if it is not known. */
 static const struct wl_message *request_of(struct wl_client *client, const nb_violation *violation)
 {
-    const struct wl_resource *resource = resource_at(client, violation->sender);
+    const struct wl_resource *resource = wl_client_get_object(client, violation->sender);
     const struct wl_interface *interface = resource ? resource->object.interface : NULL;
     if (violation->interface == NB_INTERFACE_DISPLAY)
         interface = &wl_display_interface;
@@ -17,7 +17,7 @@ static const struct wl_message *request_of(struct wl_client *client, const nb_vi
 /* The name of the interface that an argument has. */
 static const char *found_of(struct wl_client *client, const nb_violation *violation)
 {
-    const struct wl_resource *resource = resource_at(client, violation->number);
+    const struct wl_resource *resource = wl_client_get_object(client, violation->number);
     return resource ? resource->object.interface->name : "unknown";
 }
 
