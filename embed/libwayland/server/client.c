@@ -35,6 +35,8 @@ bool client_enter(struct wl_client *client)
     if (client->was_inserted)
         return client->is_inside;
     client->was_inserted = true;
+    client->is_told = trace_is_on(client->display);
+    nb_server_tell_messages(core, client->is_told);
     client->is_inside = nb_serve_client(core, (uint64_t)(uintptr_t)client, &client->id) == NB_OK;
     client->has_error = client->has_error || !client->is_inside;
     if (display && client->is_inside && nb_server_object_by_number(core, &client->id, 1, &held) == NB_OK) {
@@ -127,7 +129,6 @@ EXPORT void wl_client_destroy(struct wl_client *client)
     wl_list_remove(&client->resource_created_signal.listener_list);
     if (client->user_data_destroy)
         client->user_data_destroy(client->user_data);
-    trace_end(client);
     wl_list_remove(&client->link);
     wl_list_insert(&display->leaving, &client->link);
     if (client->is_inside) {

@@ -109,7 +109,7 @@ EXPORT void wl_resource_post_error_vargs(struct wl_resource *resource, uint32_t 
     if (client->has_error || !client->display_resource || !client_enter(client))
         return;
     vsnprintf(text, sizeof text, msg, argp);
-    trace_error(client, resource, code, text);
+    trace_error(resource, code, text);
     if (nb_server_object_info(core, object, &info) != NB_OK)
         object = &client->display_resource->core;
     nb_server_post_error(core, object, code, (const uint8_t *)text, strlen(text));

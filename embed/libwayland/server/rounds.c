@@ -34,7 +34,7 @@ bool client_send(struct wl_client *client)
         nb_status status = nb_server_to_send(core, &client->id, bytes, NB_MOST_WAITING, descriptors,
                                              NB_MOST_DESCRIPTORS, &counts);
         if (status != NB_OK || counts.bytes == 0) {
-            watch_for(client, false);
+            watch_for(client, status != NB_OK); /* without memory it is tried again */
             return status == NB_OK;
         }
         ssize_t taken = socket_send(client->socket, bytes, counts.bytes, descriptors, counts.descriptors);
@@ -47,6 +47,7 @@ bool client_send(struct wl_client *client)
         }
         nb_server_sent(core, &client->id, (uint32_t)taken);
         close_all(descriptors, counts.descriptors);
+        trace_read(client); /* events alone, of which no more is told */
     }
     return false;
 }
@@ -111,8 +112,7 @@ static void take_actions(struct wl_client *client)
     while (status == NB_OK && !client->has_error && !client->is_condemned) {
         status = nb_server_next_action(&display->core, &client->id, &action, arguments, MOST_ARGUMENTS, text,
                                        sizeof text);
-        if (trace_is_on(display) && (status == NB_OK || status == NB_WOULD_BLOCK))
-            trace_read(client, status == NB_OK);
+        trace_read(client);
         if (status == NB_OK)
             dispatch(client, &action, arguments, text);
     }
@@ -127,9 +127,6 @@ static void take_in(struct wl_client *client, size_t length, const int32_t *desc
 {
     struct wl_display *display = client->display;
     nb_waiting waiting;
-    if (trace_is_on(display))
-        trace_received(client, display->buffer, length);
-    client->was_read = true;
     if (client->has_error || !client_enter(client) ||
         nb_server_waiting(&display->core, &client->id, &waiting) != NB_OK ||
         waiting.received.descriptors + count > MOST_HELD ||

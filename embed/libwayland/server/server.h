@@ -33,8 +33,6 @@
 #define READ_ONLY(type)                                                                                                \
     __typeof__(_Generic(&wl_resource_get_id, uint32_t (*)(const struct wl_resource *): (const type *)0, default: (type *)0))
 
-struct trace;
-
 /* The fields up to `data` are shown by wayland-server.h, so their order is fixed; a program may have such a struct of
  * its own, without those that follow (deprecated.c). */
 struct wl_resource {
@@ -85,9 +83,8 @@ struct wl_client {
     bool is_condemned; /* wl_client_destroy was called while `depth` was not 0 */
     bool is_ending;    /* its resources are destroyed: what they send goes nowhere */
     bool is_destroyed;
-    bool is_full;            /* the socket took no more */
-    bool was_read;           /* something came from it */
-    struct trace *trace;
+    bool is_full;      /* the socket took no more */
+    bool is_told;      /* the session tells its messages */
 };
 
 struct wl_global {
@@ -197,11 +194,9 @@ static inline bool trace_is_on(const struct wl_display *display)
 
 /* An event or request, if it is on. */
 void trace_message(struct wl_resource *resource, bool is_event, uint32_t opcode, union wl_argument *arguments);
-void trace_received(struct wl_client *client, const uint8_t *bytes, size_t length);
-void trace_read(struct wl_client *client, bool has_action);
+void trace_read(struct wl_client *client);
 void trace_delete_id(struct wl_client *client, uint32_t id);
-void trace_error(struct wl_client *client, struct wl_resource *resource, uint32_t code, const char *text);
+void trace_error(struct wl_resource *resource, uint32_t code, const char *text);
 void trace_announcement(struct wl_resource *registry, const struct wl_global *global, bool is_removal);
-void trace_end(struct wl_client *client);
 
 #endif
