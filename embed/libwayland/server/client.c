@@ -48,36 +48,33 @@ bool client_enter(struct wl_client *client)
 
 /* ======== What its socket is ready for */
 
-static void end_with(struct wl_client *client, const char *reason)
-{
-    log_line("%s (pid %u)\n", reason, (unsigned)client->peer.pid);
-    wl_client_destroy(client);
-}
-
 static int is_ready(int fd, uint32_t mask, void *data)
 {
     struct wl_client *client = data;
+    const char *fault = NULL;
     (void)fd;
     if (client->depth > 0 && client->is_condemned) /* in a loop within its own handler: it is as good as gone */
         return 1;
-    if ((mask & WL_EVENT_HANGUP) || client->is_cut) {
-        wl_client_destroy(client);
-        return 1;
+    client->depth++;
+    if ((mask & WL_EVENT_HANGUP) || client->is_cut)
+        client->is_condemned = true;
+    else if (mask & WL_EVENT_ERROR)
+        fault = "socket error";
+    else {
+        if (mask & WL_EVENT_WRITABLE)
+            wl_client_flush(client);
+        if (client->is_cut)
+            fault = "failed to flush client connection";
+        else if (mask & WL_EVENT_READABLE)
+            fault = client_read(client);
+        if (!fault && client->has_error)
+            fault = "error in client communication";
     }
-    if (mask & WL_EVENT_ERROR) {
-        end_with(client, "socket error");
-        return 1;
+    if (fault) {
+        log_line("%s (pid %u)\n", fault, (unsigned)client->peer.pid);
+        client->is_condemned = true;
     }
-    if (mask & WL_EVENT_WRITABLE) {
-        client_send(client);
-        wl_client_flush(client);
-    }
-    if (client->is_cut)
-        end_with(client, "failed to flush client connection");
-    else if (mask & WL_EVENT_READABLE)
-        client_read(client);
-    else if (client->has_error)
-        end_with(client, "error in client communication");
+    client_let_go(client);
     return 1;
 }
 

@@ -61,8 +61,7 @@ static void call_handler(struct request *request, uint32_t opcode)
     struct wl_resource *resource = request->resource;
     const struct wl_object *object = &resource->object;
     void (*const *handlers)(void) = object->implementation;
-    if (trace_is_on(request->client->display))
-        trace_message(resource, false, opcode, request->values);
+    trace_message(resource, false, opcode, request->values);
     if (!lent_of(request->client, resource) && resource->dispatcher) {
         resource->dispatcher(handlers, resource, opcode, &object->interface->methods[opcode], request->values);
         return;

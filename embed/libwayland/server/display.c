@@ -53,25 +53,6 @@ static bool begin_parts(struct wl_display *display)
            nb_server_hand_out_registries(&display->core, 1) == NB_OK;
 }
 
-static void end_loop(struct wl_display *display)
-{
-    if (display->wakeup_source)
-        wl_event_source_remove(display->wakeup_source);
-    if (display->wakeup >= 0)
-        close(display->wakeup);
-    if (display->loop)
-        wl_event_loop_destroy(display->loop);
-}
-
-static void end_memory(struct wl_display *display)
-{
-    nb_server_end(&display->core);
-    table_end(&display->table);
-    free(display->buffer);
-    free(display->shm_formats.data);
-    free(display);
-}
-
 EXPORT struct wl_display *wl_display_create(void)
 {
     struct wl_display *display = calloc(1, sizeof *display);
@@ -82,18 +63,24 @@ EXPORT struct wl_display *wl_display_create(void)
     display->is_printing = print_is_asked("server");
     if (begin_parts(display))
         return display;
-    end_loop(display);
-    end_memory(display);
+    wl_display_destroy(display);
     return NULL;
 }
 
-/* Clients that the program has not destroyed keep what they have: they point to a display that is gone, and no call may
+/* Also of a display that has not all its parts.
+ *
+ * Clients that the program has not destroyed keep what they have: they point to a display that is gone, and no call may
  * be made for them. Those that it has destroyed, and that the session has not given back for want of memory, go here. */
 EXPORT void wl_display_destroy(struct wl_display *display)
 {
     signal_emit_last(&display->destroy_signal, display);
     sockets_end(display);
-    end_loop(display);
+    if (display->wakeup_source)
+        wl_event_source_remove(display->wakeup_source);
+    if (display->wakeup >= 0)
+        close(display->wakeup);
+    if (display->loop)
+        wl_event_loop_destroy(display->loop);
     globals_end(display);
     display_settle(display);
     while (!wl_list_empty(&display->leaving)) {
@@ -101,12 +88,12 @@ EXPORT void wl_display_destroy(struct wl_display *display)
         client->is_inside = false;
         client_release(client);
     }
-    while (!wl_list_empty(&display->loggers)) {
-        struct wl_list *first = display->loggers.next;
-        wl_list_remove(first);
-        wl_list_init(first);
-    }
-    end_memory(display);
+    wl_list_remove(&display->loggers); /* those that are left may end later */
+    nb_server_end(&display->core);
+    table_end(&display->table);
+    free(display->buffer);
+    free(display->shm_formats.data);
+    free(display);
 }
 
 EXPORT struct wl_event_loop *wl_display_get_event_loop(struct wl_display *display)
@@ -179,7 +166,6 @@ EXPORT void wl_display_set_global_filter(struct wl_display *display, wl_display_
 }
 
 /* Since 1.23. */
-EXPORT void wl_display_set_default_max_buffer_size(struct wl_display *display, size_t max_buffer_size);
 EXPORT void wl_display_set_default_max_buffer_size(struct wl_display *display, size_t max_buffer_size)
 {
     nb_server_set_default_max_buffer_size(&display->core, max_buffer_size);

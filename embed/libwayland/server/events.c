@@ -53,8 +53,7 @@ static void send_event(struct wl_resource *resource, uint32_t opcode, union wl_a
                      resource->object.interface->name, message->name);
             client->has_error = true;
         } else {
-            if (trace_is_on(client->display))
-                trace_message(resource, true, opcode, arguments);
+            trace_message(resource, true, opcode, arguments);
             fault = hand_over(resource, opcode, &packed);
         }
     }

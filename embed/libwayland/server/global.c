@@ -22,8 +22,7 @@ static void announce(struct wl_resource *registry, const struct wl_global *globa
     struct wl_client *client = registry->client;
     if (client->has_error || !client->is_inside || !global_is_visible(global, client))
         return;
-    if (trace_is_on(client->display))
-        trace_announcement(registry, global, false);
+    trace_announcement(registry, global, false);
     if (nb_server_announce_global(&client->display->core, &registry->core, &global->id) != NB_OK)
         client->has_error = true;
 }
@@ -149,7 +148,6 @@ EXPORT void wl_global_set_user_data(struct wl_global *global, void *data)
 }
 
 /* Since 1.22: the name that a client binds the global by, or 0 if it does not see it. */
-EXPORT uint32_t wl_global_get_name(const struct wl_global *global, const struct wl_client *client);
 EXPORT uint32_t wl_global_get_name(const struct wl_global *global, const struct wl_client *client)
 {
     return global_is_visible(global, client) ? global->id.name : 0;

@@ -100,7 +100,6 @@ static struct wl_resource *resource_new(struct wl_client *client, const struct w
     resource->object.interface = interface;
     resource->client = client;
     resource->version = version;
-    resource->core = nb_null();
     wl_list_init(&resource->link);
     wl_list_init(&resource->displaced);
     wl_signal_init(&resource->old_destroy_signal);
@@ -239,9 +238,7 @@ EXPORT void wl_resource_set_implementation(struct wl_resource *resource, const v
 EXPORT void wl_resource_set_dispatcher(struct wl_resource *resource, wl_dispatcher_func_t dispatcher,
                                        const void *implementation, void *data, wl_resource_destroy_func_t destroy)
 {
-    resource->object.implementation = implementation;
-    resource->data = data;
-    resource->destroy = destroy;
+    wl_resource_set_implementation(resource, implementation, data, destroy);
     resource->dispatcher = dispatcher;
 }
 
@@ -263,8 +260,6 @@ EXPORT struct wl_resource *wl_resource_from_link(struct wl_list *link)
 EXPORT struct wl_resource *wl_resource_find_for_client(struct wl_list *list, struct wl_client *client)
 {
     struct wl_resource *resource;
-    if (!client)
-        return NULL;
     wl_resource_for_each(resource, list)
         if (resource->client == client)
             return resource;

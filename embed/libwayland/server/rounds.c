@@ -122,36 +122,24 @@ static void take_actions(struct wl_client *client)
     }
 }
 
-/* Hands to the session what came. What comes after an error is thrown away. */
-static void take_in(struct wl_client *client, size_t length, const int32_t *descriptors, size_t count)
+/* Receives once, and takes the actions that there are. What comes after an error is thrown away. */
+const char *client_read(struct wl_client *client)
 {
     struct wl_display *display = client->display;
+    int32_t descriptors[NB_MOST_DESCRIPTORS];
+    size_t count = 0;
     nb_waiting waiting;
-    if (client->has_error || !client_enter(client) ||
-        nb_server_waiting(&display->core, &client->id, &waiting) != NB_OK ||
-        waiting.received.descriptors + count > MOST_HELD ||
-        nb_server_received(&display->core, &client->id, display->buffer, length, descriptors, count) != NB_OK) {
+    ssize_t came = socket_receive(client->socket, display->buffer, NB_MOST_BYTES, descriptors, &count);
+    if (came <= 0 && came != -EAGAIN)
+        return "failed to read client connection";
+    if (came > 0 && (client->has_error || !client_enter(client) ||
+                     nb_server_waiting(&display->core, &client->id, &waiting) != NB_OK ||
+                     waiting.received.descriptors + count > MOST_HELD ||
+                     nb_server_received(&display->core, &client->id, display->buffer, (size_t)came, descriptors,
+                                        count) != NB_OK)) {
         close_all(descriptors, count);
         client->has_error = true;
     }
-}
-
-void client_read(struct wl_client *client)
-{
-    int32_t descriptors[NB_MOST_DESCRIPTORS];
-    size_t count = 0;
-    ssize_t came = socket_receive(client->socket, client->display->buffer, NB_MOST_BYTES, descriptors, &count);
-    const char *fault = came > 0 || came == -EAGAIN ? NULL : "failed to read client connection";
-    client->depth++;
-    if (came > 0)
-        take_in(client, (size_t)came, descriptors, count);
-    if (!fault)
-        take_actions(client);
-    if (!fault && client->has_error)
-        fault = "error in client communication";
-    if (fault) {
-        log_line("%s (pid %u)\n", fault, (unsigned)client->peer.pid);
-        client->is_condemned = true;
-    }
-    client_let_go(client);
+    take_actions(client);
+    return NULL;
 }

@@ -73,8 +73,8 @@ struct wl_client {
     bool is_inside;    /* the session has it, and its data point here */
 
     struct wl_resource *display_resource; /* NULL once the resources are destroyed */
-    struct wl_array resources[2];         /* by number, of the client's range and of the server's: pointers */
-    struct wl_list displaced;             /* resources */
+    struct wl_array resources[2]; /* by number, of the client's range and of the server's: pointers */
+    struct wl_list displaced;     /* resources */
     struct wl_array lent;
 
     unsigned depth;    /* how many calls look at it */
@@ -137,7 +137,8 @@ bool client_enter(struct wl_client *client);
 
 /* rounds.c */
 bool client_send(struct wl_client *client);
-void client_read(struct wl_client *client);
+/* Why the client has to end, or NULL. */
+const char *client_read(struct wl_client *client);
 void display_settle(struct wl_display *display);
 
 /* resource.c */

@@ -7,15 +7,6 @@ static void pass(struct wl_listener *listener, void *data)
     (void)data;
 }
 
-/* Moves a mark behind the element that follows it, and answers that one. */
-static struct wl_listener *step(struct wl_listener *mark)
-{
-    struct wl_list *next = mark->link.next;
-    wl_list_remove(&mark->link);
-    wl_list_insert(next, &mark->link);
-    return CONTAINER(next, struct wl_listener, link);
-}
-
 /* Two marks stand in the list while it is walked: a listener may take out itself or others, and those that it adds at
  * the end are not called. Each mark is a listener that does nothing, for an emission within this one. */
 EXPORT void wl_signal_emit_mutable(struct wl_signal *signal, void *data)
@@ -26,7 +17,10 @@ EXPORT void wl_signal_emit_mutable(struct wl_signal *signal, void *data)
     wl_list_insert(&signal->listener_list, &here.link);
     wl_list_insert(signal->listener_list.prev, &end.link);
     while (here.link.next != &end.link) {
-        struct wl_listener *listener = step(&here);
+        struct wl_list *next = here.link.next;
+        struct wl_listener *listener = CONTAINER(next, struct wl_listener, link);
+        wl_list_remove(&here.link);
+        wl_list_insert(next, &here.link);
         listener->notify(listener, data);
     }
     wl_list_remove(&here.link);

@@ -14,13 +14,12 @@
 
 enum { LAST_NAME = 32, WAITING = 128 };
 
-/* A path is empty until the file is there, and a descriptor -1. */
+/* A descriptor is -1 until there is one. Of a socket that the program gave the path is empty. */
 struct listener {
     struct wl_list link;
     struct wl_event_source *source;
     int socket, lock;
     struct sockaddr_un address;
-    char path[sizeof((struct sockaddr_un *)0)->sun_path];
     char lock_path[sizeof((struct sockaddr_un *)0)->sun_path + sizeof ".lock"];
 };
 
@@ -35,21 +34,21 @@ static struct listener *listener_begin(void)
     return listener;
 }
 
-/* `errno` stays what it was. */
+/* Takes the files away that are this server's: the socket is bound, the lock is held. `errno` stays what it was. */
 static void listener_end(struct listener *listener)
 {
     int reason = errno;
     wl_list_remove(&listener->link);
     if (listener->source)
         wl_event_source_remove(listener->source);
-    if (listener->path[0])
-        unlink(listener->path);
-    if (listener->socket >= 0)
+    if (listener->socket >= 0) {
+        unlink(listener->address.sun_path);
         close(listener->socket);
-    if (listener->lock_path[0])
+    }
+    if (listener->lock >= 0) {
         unlink(listener->lock_path);
-    if (listener->lock >= 0)
         close(listener->lock);
+    }
     free(listener);
     errno = reason;
 }
@@ -97,7 +96,6 @@ static bool find_path(struct listener *listener, const char *name)
     if (length < 0 || (size_t)length >= room) {
         log_line("error: socket path \"%s%s%s\" plus null terminator exceeds %zu bytes\n", folder, is_path ? "" : "/",
                  name, room);
-        listener->address.sun_path[0] = 0;
         errno = ENAMETOOLONG;
         return false;
     }
@@ -108,19 +106,20 @@ static bool find_path(struct listener *listener, const char *name)
  * ended has left is. */
 static bool take_lock(struct listener *listener)
 {
-    char path[sizeof listener->lock_path];
+    const char *path = listener->lock_path;
     struct stat left;
-    snprintf(path, sizeof path, "%s.lock", listener->address.sun_path);
-    listener->lock = open(path, O_CREAT | O_CLOEXEC | O_RDWR, S_IRUSR | S_IWUSR | S_IRGRP | S_IWGRP);
-    if (listener->lock < 0) {
+    snprintf(listener->lock_path, sizeof listener->lock_path, "%s.lock", listener->address.sun_path);
+    int lock = open(path, O_CREAT | O_CLOEXEC | O_RDWR, S_IRUSR | S_IWUSR | S_IRGRP | S_IWGRP);
+    if (lock < 0) {
         log_line("unable to open lockfile %s check permissions\n", path);
         return false;
     }
-    if (flock(listener->lock, LOCK_EX | LOCK_NB) < 0) {
+    if (flock(lock, LOCK_EX | LOCK_NB) < 0) {
         log_line("unable to lock lockfile %s, maybe another compositor is running\n", path);
+        close(lock);
         return false;
     }
-    memcpy(listener->lock_path, path, sizeof path);
+    listener->lock = lock;
     if (lstat(listener->address.sun_path, &left) == 0)
         unlink(listener->address.sun_path);
     else if (errno != ENOENT) {
@@ -134,15 +133,16 @@ static bool open_socket(struct listener *listener)
 {
     const struct sockaddr_un *address = &listener->address;
     const socklen_t size = (socklen_t)(offsetof(struct sockaddr_un, sun_path) + strlen(address->sun_path));
-    listener->socket = socket(AF_UNIX, SOCK_STREAM | SOCK_CLOEXEC, 0);
-    if (listener->socket < 0)
+    int made = socket(AF_UNIX, SOCK_STREAM | SOCK_CLOEXEC, 0);
+    if (made < 0)
         return false;
-    if (bind(listener->socket, (const struct sockaddr *)address, size) < 0) {
+    if (bind(made, (const struct sockaddr *)address, size) < 0) {
         log_line("bind() failed with error: %s\n", strerror(errno));
+        close(made);
         return false;
     }
-    memcpy(listener->path, address->sun_path, sizeof listener->path);
-    if (listen(listener->socket, WAITING) < 0) {
+    listener->socket = made;
+    if (listen(made, WAITING) < 0) {
         log_line("listen() failed with error: %s\n", strerror(errno));
         return false;
     }
@@ -180,7 +180,7 @@ EXPORT const char *wl_display_add_socket_auto(struct wl_display *display)
         snprintf(name, sizeof name, "wayland-%d", i);
         struct listener *listener = serve(display, name, &is_hopeless);
         if (listener)
-            return strrchr(listener->path, '/') + 1;
+            return strrchr(listener->address.sun_path, '/') + 1;
         if (is_hopeless)
             return NULL;
     }

@@ -37,6 +37,8 @@ EXPORT void wl_protocol_logger_destroy(struct wl_protocol_logger *logger)
 void trace_message(struct wl_resource *resource, bool is_event, uint32_t opcode, union wl_argument *arguments)
 {
     struct wl_display *display = resource->client->display;
+    if (!trace_is_on(display))
+        return;
     const struct wl_interface *interface = resource->object.interface;
     const struct wl_message *message = is_event ? &interface->events[opcode] : &interface->methods[opcode];
     const struct wl_protocol_logger_message told = { .resource = resource,
@@ -59,15 +61,14 @@ enum { DISPLAY_ERROR = 0, DISPLAY_DELETE_ID = 1, REGISTRY_GLOBAL = 0, REGISTRY_R
 void trace_delete_id(struct wl_client *client, uint32_t id)
 {
     union wl_argument arguments[] = { { .u = id } };
-    if (trace_is_on(client->display) && client->display_resource && !client->has_error && !client->is_ending)
+    if (client->display_resource && !client->has_error && !client->is_ending)
         trace_message(client->display_resource, true, DISPLAY_DELETE_ID, arguments);
 }
 
 void trace_error(struct wl_resource *resource, uint32_t code, const char *text)
 {
     union wl_argument arguments[] = { { .o = &resource->object }, { .u = code }, { .s = text } };
-    if (trace_is_on(resource->client->display))
-        trace_message(resource->client->display_resource, true, DISPLAY_ERROR, arguments);
+    trace_message(resource->client->display_resource, true, DISPLAY_ERROR, arguments);
 }
 
 void trace_announcement(struct wl_resource *registry, const struct wl_global *global, bool is_removal)
