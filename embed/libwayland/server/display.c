@@ -7,8 +7,6 @@
 #include <sys/eventfd.h>
 #include <unistd.h>
 
-enum { LIMIT = 1 << 20 /* of the bytes that wait for a client, until the program sets one */ };
-
 static int wakes_up(int fd, uint32_t mask, void *data)
 {
     uint64_t count;
@@ -41,13 +39,11 @@ static bool begin_parts(struct wl_display *display)
     nb_table_fault fault;
     display->wakeup = eventfd(0, EFD_CLOEXEC | EFD_NONBLOCK);
     display->loop = wl_event_loop_create();
-    display->buffer = malloc(NB_MOST_WAITING);
-    if (display->wakeup < 0 || !display->loop || !display->buffer)
+    if (display->wakeup < 0 || !display->loop)
         return false;
     display->wakeup_source =
         wl_event_loop_add_fd(display->loop, display->wakeup, WL_EVENT_READABLE, wakes_up, NULL);
     return display->wakeup_source && nb_server_start(&display->core, &nothing, &fault) == NB_OK &&
-           nb_server_set_default_max_buffer_size(&display->core, LIMIT) == NB_OK &&
            nb_server_keep_global_names(&display->core, 1) == NB_OK &&
            nb_server_keep_notes(&display->core, 0) == NB_OK && /* the program ends resources, not notes */
            nb_server_hand_out_registries(&display->core, 1) == NB_OK;
@@ -91,7 +87,6 @@ EXPORT void wl_display_destroy(struct wl_display *display)
     wl_list_remove(&display->loggers); /* those that are left may end later */
     nb_server_end(&display->core);
     table_end(&display->table);
-    free(display->buffer);
     free(display->shm_formats.data);
     free(display);
 }

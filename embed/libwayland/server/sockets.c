@@ -28,8 +28,8 @@ static struct listener *listener_begin(void)
     struct listener *listener = calloc(1, sizeof *listener);
     if (!listener)
         return NULL;
-    listener->socket = -1;
-    listener->lock = -1;
+    listener->address.sun_family = AF_UNIX;
+    listener->socket = listener->lock = -1;
     wl_list_init(&listener->link);
     return listener;
 }
@@ -93,40 +93,36 @@ static bool find_path(struct listener *listener, const char *name)
         return false;
     }
     int length = snprintf(listener->address.sun_path, room, "%s%s%s", folder, is_path ? "" : "/", name);
-    if (length < 0 || (size_t)length >= room) {
-        log_line("error: socket path \"%s%s%s\" plus null terminator exceeds %zu bytes\n", folder, is_path ? "" : "/",
-                 name, room);
-        errno = ENAMETOOLONG;
-        return false;
-    }
-    return true;
+    if (length >= 0 && (size_t)length < room)
+        return true;
+    log_line("error: socket path \"%s%s%s\" plus null terminator exceeds %zu bytes\n", folder, is_path ? "" : "/",
+             name, room);
+    errno = ENAMETOOLONG;
+    return false;
 }
 
 /* The lock is held as long as the server lives: so the socket of one that runs is never taken away, and what one that
  * ended has left is. */
 static bool take_lock(struct listener *listener)
 {
-    const char *path = listener->lock_path;
+    const char *path = listener->address.sun_path, *lock_path = listener->lock_path;
     struct stat left;
-    snprintf(listener->lock_path, sizeof listener->lock_path, "%s.lock", listener->address.sun_path);
-    int lock = open(path, O_CREAT | O_CLOEXEC | O_RDWR, S_IRUSR | S_IWUSR | S_IRGRP | S_IWGRP);
-    if (lock < 0) {
-        log_line("unable to open lockfile %s check permissions\n", path);
-        return false;
+    snprintf(listener->lock_path, sizeof listener->lock_path, "%s.lock", path);
+    int lock = open(lock_path, O_CREAT | O_CLOEXEC | O_RDWR, S_IRUSR | S_IWUSR | S_IRGRP | S_IWGRP);
+    if (lock < 0)
+        log_line("unable to open lockfile %s check permissions\n", lock_path);
+    else if (flock(lock, LOCK_EX | LOCK_NB) < 0)
+        log_line("unable to lock lockfile %s, maybe another compositor is running\n", lock_path);
+    else if (lstat(path, &left) < 0 && errno != ENOENT)
+        log_line("did not manage to stat file %s\n", path);
+    else {
+        unlink(path);
+        listener->lock = lock;
+        return true;
     }
-    if (flock(lock, LOCK_EX | LOCK_NB) < 0) {
-        log_line("unable to lock lockfile %s, maybe another compositor is running\n", path);
+    if (lock >= 0)
         close(lock);
-        return false;
-    }
-    listener->lock = lock;
-    if (lstat(listener->address.sun_path, &left) == 0)
-        unlink(listener->address.sun_path);
-    else if (errno != ENOENT) {
-        log_line("did not manage to stat file %s\n", listener->address.sun_path);
-        return false;
-    }
-    return true;
+    return false;
 }
 
 static bool open_socket(struct listener *listener)
@@ -142,49 +138,43 @@ static bool open_socket(struct listener *listener)
         return false;
     }
     listener->socket = made;
-    if (listen(made, WAITING) < 0) {
-        log_line("listen() failed with error: %s\n", strerror(errno));
-        return false;
-    }
-    return true;
-}
-
-/* A listener at this name, or NULL. `*is_hopeless`: another name would be no better. */
-static struct listener *serve(struct wl_display *display, const char *name, bool *is_hopeless)
-{
-    struct listener *listener = listener_begin();
-    *is_hopeless = true;
-    if (!listener)
-        return NULL;
-    listener->address.sun_family = AF_UNIX;
-    *is_hopeless = !find_path(listener, name);
-    if (!*is_hopeless && take_lock(listener) && open_socket(listener) && listen_in(display, listener))
-        return listener;
-    listener_end(listener);
-    return NULL;
+    if (listen(made, WAITING) == 0)
+        return true;
+    log_line("listen() failed with error: %s\n", strerror(errno));
+    return false;
 }
 
 EXPORT int wl_display_add_socket(struct wl_display *display, const char *name)
 {
-    bool is_hopeless;
+    struct listener *listener = listener_begin();
+    if (!listener)
+        return -1;
     if (!name)
         name = getenv("WAYLAND_DISPLAY");
-    return serve(display, name ? name : "wayland-0", &is_hopeless) ? 0 : -1;
+    if (find_path(listener, name ? name : "wayland-0") && take_lock(listener) && open_socket(listener) &&
+        listen_in(display, listener))
+        return 0;
+    listener_end(listener);
+    return -1;
 }
 
 EXPORT const char *wl_display_add_socket_auto(struct wl_display *display)
 {
     char name[sizeof "wayland-" + 12];
-    bool is_hopeless;
-    for (int i = 0; i <= LAST_NAME; i++) {
+    struct listener *listener = listener_begin();
+    bool is_locked = false;
+    if (!listener)
+        return NULL;
+    for (int i = 0; i <= LAST_NAME && !is_locked; i++) {
         snprintf(name, sizeof name, "wayland-%d", i);
-        struct listener *listener = serve(display, name, &is_hopeless);
-        if (listener)
-            return strrchr(listener->address.sun_path, '/') + 1;
-        if (is_hopeless)
-            return NULL;
+        if (!find_path(listener, name))
+            break;
+        is_locked = take_lock(listener);
+        errno = EINVAL;
     }
-    errno = EINVAL;
+    if (is_locked && open_socket(listener) && listen_in(display, listener))
+        return strrchr(listener->address.sun_path, '/') + 1;
+    listener_end(listener);
     return NULL;
 }
 
