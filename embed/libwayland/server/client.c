@@ -8,7 +8,6 @@
  * of them to end. */
 #include "server.h"
 #include <stdlib.h>
-#include <sys/socket.h>
 #include <unistd.h>
 
 void client_let_go(struct wl_client *client)

@@ -26,7 +26,7 @@ EXPORT uint32_t wl_client_add_resource(struct wl_client *client, struct wl_resou
     if (!lent || !resource_join(resource, 0, id, &lent->core)) {
         if (lent)
             lent->resource = NULL;
-        client_post_error(client, WL_DISPLAY_ERROR_INVALID_OBJECT, "invalid new id %d", (int)id);
+        wl_resource_post_error(client->display_resource, WL_DISPLAY_ERROR_INVALID_OBJECT, "invalid new id %d", (int)id);
         return 0;
     }
     wl_signal_init(&resource->old_destroy_signal);

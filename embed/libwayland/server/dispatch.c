@@ -38,16 +38,17 @@ static bool complete(struct request *request, const nb_argument *arguments)
  * table may have more. If the request is refused its client is told, and its descriptors are nobody's. */
 static bool is_refused(struct request *request, const nb_action *action, const nb_argument *arguments)
 {
+    struct wl_resource *display = request->client->display_resource;
     const struct wl_object *object = request->resource ? &request->resource->object : NULL;
     const struct wl_interface *interface = object ? object->interface : NULL;
     if (!object)
-        client_post_error(request->client, WL_DISPLAY_ERROR_INVALID_OBJECT, "invalid object %u",
+        wl_resource_post_error(display, WL_DISPLAY_ERROR_INVALID_OBJECT, "invalid object %u",
                           action->sender.number);
     else if (action->opcode >= (uint32_t)interface->method_count)
-        client_post_error(request->client, WL_DISPLAY_ERROR_INVALID_METHOD, "invalid method %u, object %s@%u",
+        wl_resource_post_error(display, WL_DISPLAY_ERROR_INVALID_METHOD, "invalid method %u, object %s@%u",
                           action->opcode, interface->name, object->id);
     else if (action->forbidden_null || !complete(request, arguments))
-        client_post_error(request->client, WL_DISPLAY_ERROR_INVALID_METHOD, "invalid arguments for %s@%u.%s",
+        wl_resource_post_error(display, WL_DISPLAY_ERROR_INVALID_METHOD, "invalid arguments for %s@%u.%s",
                           interface->name, object->id, interface->methods[action->opcode].name);
     else
         return false;
@@ -77,7 +78,7 @@ static void bind_global(struct wl_client *client, const nb_action *action)
     if (global_is_visible(global, client))
         global->bind(client, global->data, action->version, action->created.number);
     else
-        client_post_error(client, WL_DISPLAY_ERROR_INVALID_OBJECT, "invalid global %s (%u)", global->interface->name,
+        wl_resource_post_error(client->display_resource, WL_DISPLAY_ERROR_INVALID_OBJECT, "invalid global %s (%u)", global->interface->name,
                           global->id.name);
 }
 

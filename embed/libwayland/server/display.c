@@ -20,8 +20,13 @@ static nb_status merge(void *session, const nb_table *rows, nb_extension_fault *
     return nb_server_merge(session, rows, fault);
 }
 
-static void begin_lists(struct wl_display *display)
+EXPORT struct wl_display *wl_display_create(void)
 {
+    const nb_table nothing = { NULL, 0, NULL, 0, NULL, 0, NULL, 0 };
+    nb_table_fault fault;
+    struct wl_display *display = calloc(1, sizeof *display);
+    if (!display)
+        return NULL;
     wl_list_init(&display->clients);
     wl_list_init(&display->leaving);
     wl_list_init(&display->globals);
@@ -30,34 +35,17 @@ static void begin_lists(struct wl_display *display)
     wl_list_init(&display->loggers);
     wl_signal_init(&display->destroy_signal);
     wl_signal_init(&display->client_created_signal);
-    wl_array_init(&display->shm_formats);
-}
-
-static bool begin_parts(struct wl_display *display)
-{
-    const nb_table nothing = { NULL, 0, NULL, 0, NULL, 0, NULL, 0 };
-    nb_table_fault fault;
-    display->wakeup = eventfd(0, EFD_CLOEXEC | EFD_NONBLOCK);
-    display->loop = wl_event_loop_create();
-    if (display->wakeup < 0 || !display->loop)
-        return false;
-    display->wakeup_source =
-        wl_event_loop_add_fd(display->loop, display->wakeup, WL_EVENT_READABLE, wakes_up, NULL);
-    return display->wakeup_source && nb_server_start(&display->core, &nothing, &fault) == NB_OK &&
-           nb_server_keep_global_names(&display->core, 1) == NB_OK &&
-           nb_server_keep_notes(&display->core, 0) == NB_OK && /* the program ends resources, not notes */
-           nb_server_hand_out_registries(&display->core, 1) == NB_OK;
-}
-
-EXPORT struct wl_display *wl_display_create(void)
-{
-    struct wl_display *display = calloc(1, sizeof *display);
-    if (!display)
-        return NULL;
-    begin_lists(display);
     table_begin(&display->table, merge, &display->core);
     display->is_printing = print_is_asked("server");
-    if (begin_parts(display))
+    display->loop = wl_event_loop_create();
+    display->wakeup = eventfd(0, EFD_CLOEXEC | EFD_NONBLOCK);
+    if (display->loop && display->wakeup >= 0)
+        display->wakeup_source =
+            wl_event_loop_add_fd(display->loop, display->wakeup, WL_EVENT_READABLE, wakes_up, NULL);
+    if (display->wakeup_source && nb_server_start(&display->core, &nothing, &fault) == NB_OK &&
+        nb_server_keep_global_names(&display->core, 1) == NB_OK &&
+        nb_server_keep_notes(&display->core, 0) == NB_OK && /* the program ends resources, not notes */
+        nb_server_hand_out_registries(&display->core, 1) == NB_OK)
         return display;
     wl_display_destroy(display);
     return NULL;

@@ -7,16 +7,22 @@
 
 enum { MOST_UNSENT = 1024 /* descriptors in events that wait for a client */ };
 
-/* Puts the ids of the objects in. False if one is another client's. */
-static bool name_objects(struct packed *packed, const union wl_argument *arguments, const struct wl_client *client)
+/* Puts the ids of the objects in. False if one is another client's: that is as great a fault of the program's. */
+static bool name_objects(struct packed *packed, const union wl_argument *arguments, const struct wl_resource *sender,
+                         const struct wl_message *message)
 {
     for (uint32_t i = 0; i < packed->count; i++) {
         nb_argument *argument = &packed->arguments[i];
         if ((argument->kind != NB_OBJECT && argument->kind != NB_NEW_ID) || !arguments[i].o)
             continue;
         const struct wl_resource *resource = CONTAINER(arguments[i].o, struct wl_resource, object);
-        if (resource->client != client)
+        if (resource->client != sender->client) {
+            log_line("compositor bug: The compositor tried to use an object from one client in a '%s.%s' for a "
+                     "different client.\n",
+                     sender->object.interface->name, message->name);
+            sender->client->has_error = true;
             return false;
+        }
         argument->object = *core_of(resource);
     }
     return true;
@@ -46,16 +52,9 @@ static void send_event(struct wl_resource *resource, uint32_t opcode, union wl_a
     const struct wl_message *message = &resource->object.interface->events[opcode];
     struct packed packed;
     const char *fault = packed.fault; /* empty where pack finds none */
-    if (pack(&packed, message->signature, arguments, true)) {
-        if (!name_objects(&packed, arguments, client)) {
-            log_line("compositor bug: The compositor tried to use an object from one client in a '%s.%s' for a "
-                     "different client.\n",
-                     resource->object.interface->name, message->name);
-            client->has_error = true;
-        } else {
-            trace_message(resource, true, opcode, arguments);
-            fault = hand_over(resource, opcode, &packed);
-        }
+    if (pack(&packed, message->signature, arguments, true) && name_objects(&packed, arguments, resource, message)) {
+        trace_message(resource, true, opcode, arguments);
+        fault = hand_over(resource, opcode, &packed);
     }
     if (fault && *fault) {
         log_line("error marshalling arguments for %s (signature %s): %s\n", message->name, message->signature, fault);
@@ -96,15 +95,18 @@ EXPORT void wl_resource_queue_event(struct wl_resource *resource, uint32_t opcod
 
 enum { ERROR_ROOM = 1024 };
 
-/* The session ends the client for it. If the object is gone the error is the display's, so that the client is told. */
+/* The session ends the client for it. If the object is gone the error is the display's, so that the client is told.
+ * Once the display's resource is gone nobody is. */
 WL_PRINTF(3, 0)
 EXPORT void wl_resource_post_error_vargs(struct wl_resource *resource, uint32_t code, const char *msg, va_list argp)
 {
+    nb_object_info info;
+    char text[ERROR_ROOM];
+    if (!resource)
+        return;
     struct wl_client *client = resource->client;
     nb_server *core = &client->display->core;
     const nb_object_id *object = core_of(resource);
-    nb_object_info info;
-    char text[ERROR_ROOM];
     if (client->has_error || !client->display_resource || !client_enter(client))
         return;
     vsnprintf(text, sizeof text, msg, argp);
@@ -123,15 +125,6 @@ EXPORT void wl_resource_post_error(struct wl_resource *resource, uint32_t code, 
     va_end(list);
 }
 
-void client_post_error(struct wl_client *client, uint32_t code, const char *format, ...)
-{
-    va_list list;
-    va_start(list, format);
-    if (client->display_resource)
-        wl_resource_post_error_vargs(client->display_resource, code, format, list);
-    va_end(list);
-}
-
 EXPORT void wl_resource_post_no_memory(struct wl_resource *resource)
 {
     wl_client_post_no_memory(resource->client);
@@ -139,14 +132,13 @@ EXPORT void wl_resource_post_no_memory(struct wl_resource *resource)
 
 EXPORT void wl_client_post_no_memory(struct wl_client *client)
 {
-    client_post_error(client, WL_DISPLAY_ERROR_NO_MEMORY, "no memory");
+    wl_resource_post_error(client->display_resource, WL_DISPLAY_ERROR_NO_MEMORY, "no memory");
 }
 
 EXPORT void wl_client_post_implementation_error(struct wl_client *client, const char *msg, ...)
 {
     va_list list;
     va_start(list, msg);
-    if (client->display_resource)
-        wl_resource_post_error_vargs(client->display_resource, WL_DISPLAY_ERROR_IMPLEMENTATION, msg, list);
+    wl_resource_post_error_vargs(client->display_resource, WL_DISPLAY_ERROR_IMPLEMENTATION, msg, list);
     va_end(list);
 }

@@ -65,7 +65,7 @@ EXPORT struct wl_global *wl_global_create(struct wl_display *display, const stru
         return NULL;
     }
     uint32_t number = table_number(&display->table, interface);
-    struct wl_global *global = number ? calloc(1, sizeof *global) : NULL;
+    struct wl_global *global = number ? malloc(sizeof *global) : NULL;
     if (!global)
         return NULL;
     *global = (struct wl_global){ .display = display,
@@ -73,10 +73,8 @@ EXPORT struct wl_global *wl_global_create(struct wl_display *display, const stru
                                   .version = (uint32_t)version,
                                   .data = data,
                                   .bind = bind };
-    nb_status status = nb_server_create_global(&display->core, number, global->version, (uint64_t)(uintptr_t)global, 1,
-                                               NULL, 0, &global->id);
-    if (status != NB_OK) {
-        log_line("wl_global_create: %s: %s\n", interface->name, nb_status_text(status));
+    if (nb_server_create_global(&display->core, number, global->version, (uint64_t)(uintptr_t)global, 1, NULL, 0,
+                                &global->id) != NB_OK) {
         free(global);
         return NULL;
     }

@@ -1,6 +1,6 @@
 /* Resources: what a program has of an object. It touches a client's resources by number, and the session's objects.
  *
- * The session's data of an object are its wl_resource, or 0. So a resource is freed (`resource_free`) only once no object
+ * The session's data of an object are its wl_resource, or 0. So wl_resource_destroy frees a resource only once no object
  * points to it: it was destroyed, or its data were set to 0. A resource stands in its client's numbers until then, or
  * among the displaced ones: the session ends a wl_callback by itself when it is done, and its number may be another's
  * before the program destroys the resource. */
@@ -94,12 +94,10 @@ static void forget_object(struct wl_client *client, const nb_object_id *object)
 
 static struct wl_resource *resource_new(struct wl_client *client, const struct wl_interface *interface, int version)
 {
-    struct wl_resource *resource = calloc(1, sizeof *resource);
+    struct wl_resource *resource = malloc(sizeof *resource);
     if (!resource)
         return NULL;
-    resource->object.interface = interface;
-    resource->client = client;
-    resource->version = version;
+    *resource = (struct wl_resource){ .object = { .interface = interface }, .client = client, .version = version };
     wl_list_init(&resource->link);
     wl_list_init(&resource->displaced);
     wl_signal_init(&resource->old_destroy_signal);
@@ -107,19 +105,11 @@ static struct wl_resource *resource_new(struct wl_client *client, const struct w
     return resource;
 }
 
-static void resource_free(struct wl_resource *resource)
-{
-    wl_list_remove(&resource->displaced);
-    if (resource->is_told)
-        wl_list_remove(&resource->link);
-    free(resource);
-}
-
 struct wl_resource *resource_of_session(struct wl_client *client, const struct wl_interface *interface, uint32_t id)
 {
     struct wl_resource *resource = resource_new(client, interface, 1);
     if (resource && !put(resource, id)) {
-        resource_free(resource);
+        free(resource);
         return NULL;
     }
     return resource;
@@ -162,8 +152,8 @@ EXPORT struct wl_resource *wl_resource_create(struct wl_client *client, const st
     if (!resource)
         return NULL;
     if (!resource_join(resource, version, id, &resource->core)) {
-        resource_free(resource);
-        client_post_error(client, WL_DISPLAY_ERROR_INVALID_OBJECT, "invalid new id %d", (int)id);
+        free(resource);
+        wl_resource_post_error(client->display_resource, WL_DISPLAY_ERROR_INVALID_OBJECT, "invalid new id %d", (int)id);
         return NULL;
     }
     wl_signal_emit_mutable(&client->resource_created_signal, resource);
@@ -186,7 +176,10 @@ EXPORT void wl_resource_destroy(struct wl_resource *resource)
     if (resource->destroy)
         resource->destroy(resource);
     resource_leave(resource);
-    resource_free(resource);
+    wl_list_remove(&resource->displaced);
+    if (resource->is_told)
+        wl_list_remove(&resource->link);
+    free(resource);
     client_let_go(client);
 }
 

@@ -9,11 +9,6 @@
 
 /* ======== Sending */
 
-static struct wl_client *client_of(uint64_t data)
-{
-    return (struct wl_client *)(uintptr_t)data;
-}
-
 static void watch_for(struct wl_client *client, bool is_full)
 {
     if (client->is_full == is_full)
@@ -66,7 +61,7 @@ EXPORT void wl_display_flush_clients(struct wl_display *display)
     uint64_t data;
     while (nb_server_next_writable(&display->core, &id) == NB_OK)
         if (nb_server_client_data(&display->core, &id, &data) == NB_OK)
-            client_send(client_of(data));
+            client_send((struct wl_client *)(uintptr_t)data);
     display_settle(display);
 }
 
@@ -90,7 +85,7 @@ void display_settle(struct wl_display *display)
     nb_server_cleanup(&display->core);
     while (nb_server_next_gone(&display->core, &gone, display->buffer, NB_MOST_WAITING, descriptors,
                                NB_MOST_DESCRIPTORS) == NB_OK) {
-        give_back(client_of(gone.data), &gone, display->buffer, descriptors);
+        give_back((struct wl_client *)(uintptr_t)gone.data, &gone, display->buffer, descriptors);
         close_all(descriptors, gone.waiting.descriptors);
     }
     while (nb_server_next_dropped(&display->core, &dropped) == NB_OK)

@@ -7,7 +7,7 @@
  *
  *   - a client by `client_release` (client.c), once the program or its end has destroyed it *and* the session has given
  *     it back, whichever comes last: until then the session's data of the client point to it;
- *   - a resource by `resource_free` (resource.c), once the session's object has no data that point to it;
+ *   - a resource by wl_resource_destroy (resource.c), once the session's object has no data that point to it;
  *   - a global by wl_global_destroy or its display's end (global.c), once the session has removed it;
  *   - a source by `free_removed` (loop.c), after the round in which it was removed;
  *   - a pool and a buffer of shared memory by their last reference (shm.c);
@@ -177,9 +177,6 @@ static inline const nb_object_id *core_of(const struct wl_resource *resource)
     const struct lent *lent = lent_of(resource->client, resource);
     return lent ? &lent->core : &resource->core;
 }
-
-/* errors.c */
-void client_post_error(struct wl_client *client, uint32_t code, const char *format, ...) WL_PRINTF(3, 4);
 
 /* violation.c: what libwayland logs of the message for which the session has ended the client, if it was one. */
 void log_violation(struct wl_client *client);
