@@ -5,71 +5,43 @@
 #include "call.h"
 #include <string.h>
 
-/* A request on its way to its handler. */
-struct request {
-    struct wl_client *client;
-    struct wl_resource *resource;
-    uint32_t count;
-    union wl_argument values[MOST_ARGUMENTS];
-    struct wl_array arrays[MOST_ARGUMENTS];
-    uintptr_t words[MOST_WORDS]; /* the client, the resource, and the arguments */
-};
-
-/* Puts the resources in, and each argument into its word. A new id is a number. False if an object has no resource. */
-static bool complete(struct request *request, const nb_argument *arguments)
+/* Looks at what the session does not: whether there is a resource, whether its own struct has the request, of which the
+ * table may have more, and whether no argument is null that may not be, and each object has a resource. If the request is
+ * refused its client is told. */
+static bool is_refused(struct wl_client *client, const struct wl_resource *resource, const nb_action *action,
+                       bool is_complete)
 {
-    const uintptr_t first[FEW_WORDS] = { (uintptr_t)request->client, (uintptr_t)request->resource };
-    memcpy(request->words, first, sizeof first);
-    for (uint32_t i = 0; i < request->count; i++) {
-        const nb_argument *argument = &arguments[i];
-        union wl_argument *value = &request->values[i];
-        if (argument->kind == NB_OBJECT && !nb_is_null(&argument->object)) {
-            struct wl_resource *resource = resource_of(request->client, argument->data);
-            if (!resource)
-                return false;
-            value->o = &resource->object;
-        }
-        memcpy(&request->words[2 + i], value, sizeof *value);
-    }
-    return true;
-}
-
-/* Looks at what the session does not: whether there is a resource, and whether its own struct has the request, of which the
- * table may have more. If the request is refused its client is told, and its descriptors are nobody's. */
-static bool is_refused(struct request *request, const nb_action *action, const nb_argument *arguments)
-{
-    struct wl_resource *display = request->client->display_resource;
-    const struct wl_object *object = request->resource ? &request->resource->object : NULL;
-    const struct wl_interface *interface = object ? object->interface : NULL;
-    if (!object)
-        wl_resource_post_error(display, WL_DISPLAY_ERROR_INVALID_OBJECT, "invalid object %u",
-                          action->sender.number);
+    const struct wl_interface *interface = resource ? resource->object.interface : NULL;
+    if (!resource)
+        wl_resource_post_error(client->display_resource, WL_DISPLAY_ERROR_INVALID_OBJECT, "invalid object %u",
+                               action->sender.number);
     else if (action->opcode >= (uint32_t)interface->method_count)
-        wl_resource_post_error(display, WL_DISPLAY_ERROR_INVALID_METHOD, "invalid method %u, object %s@%u",
-                          action->opcode, interface->name, object->id);
-    else if (action->forbidden_null || !complete(request, arguments))
-        wl_resource_post_error(display, WL_DISPLAY_ERROR_INVALID_METHOD, "invalid arguments for %s@%u.%s",
-                          interface->name, object->id, interface->methods[action->opcode].name);
+        wl_resource_post_error(client->display_resource, WL_DISPLAY_ERROR_INVALID_METHOD,
+                               "invalid method %u, object %s@%u", action->opcode, interface->name,
+                               resource->object.id);
+    else if (!is_complete)
+        wl_resource_post_error(client->display_resource, WL_DISPLAY_ERROR_INVALID_METHOD,
+                               "invalid arguments for %s@%u.%s", interface->name, resource->object.id,
+                               interface->methods[action->opcode].name);
     else
         return false;
-    close_descriptors(arguments, request->count);
     return true;
 }
 
-/* Calls the handler, whose are the descriptors among the arguments. */
-static void call_handler(struct request *request, uint32_t opcode)
+static void call_handler(struct wl_resource *resource, const nb_action *action, union wl_argument *values,
+                         uintptr_t *words)
 {
-    struct wl_resource *resource = request->resource;
     const struct wl_object *object = &resource->object;
     void (*const *handlers)(void) = object->implementation;
-    trace_message(resource, false, opcode, request->values);
-    if (!lent_of(request->client, resource) && resource->dispatcher) {
-        resource->dispatcher(handlers, resource, opcode, &object->interface->methods[opcode], request->values);
+    const uint32_t opcode = action->opcode;
+    trace_message(resource, false, opcode, values);
+    if (!lent_of(resource->client, resource) && resource->dispatcher) {
+        resource->dispatcher(handlers, resource, opcode, &object->interface->methods[opcode], values);
         return;
     }
     if (!handlers || !handlers[opcode])
         log_and_abort("listener function for opcode %u of %s is NULL\n", opcode, object->interface->name);
-    call_words(handlers[opcode], request->words, 2 + request->count);
+    call_words(handlers[opcode], words, 2 + action->arguments);
 }
 
 static void bind_global(struct wl_client *client, const nb_action *action)
@@ -95,26 +67,37 @@ static bool finish(struct wl_client *client, const nb_action *action)
     return nb_server_finish_request_with(core, &client->id, 0, &is_kept) == NB_OK;
 }
 
+/* Descriptors among the arguments are the handler's, if it is called. A new id is a number. */
 void dispatch(struct wl_client *client, const nb_action *action, const nb_argument *arguments, uint8_t *text)
 {
-    struct request request;
-    request.client = client;
-    request.count = action->kind == NB_REQUEST ? action->arguments : 0;
-    for (uint32_t i = 0; i < request.count; i++) {
-        request.values[i].o = NULL; /* all of its word */
-        unpack(&request.values[i], &arguments[i], text, &request.arrays[i]);
+    const uint32_t count = action->kind == NB_REQUEST ? action->arguments : 0;
+    struct wl_resource *resource = action->kind == NB_REQUEST ? resource_of(client, action->data) : NULL;
+    union wl_argument values[MOST_ARGUMENTS];
+    struct wl_array arrays[MOST_ARGUMENTS];
+    uintptr_t words[MOST_WORDS]; /* the client, the resource, and the arguments */
+    const uintptr_t first[FEW_WORDS] = { (uintptr_t)client, (uintptr_t)resource };
+    bool is_complete = !action->forbidden_null;
+    memcpy(words, first, sizeof first);
+    for (uint32_t i = 0; i < count; i++) {
+        values[i].o = NULL; /* all of its word */
+        unpack(&values[i], &arguments[i], text, &arrays[i]);
+        if (arguments[i].kind == NB_OBJECT && !nb_is_null(&arguments[i].object)) {
+            struct wl_resource *named = resource_of(client, arguments[i].data);
+            values[i].o = named ? &named->object : NULL;
+            is_complete = is_complete && named;
+        }
+        memcpy(&words[2 + i], &values[i], sizeof *words);
     }
     if (!finish(client, action)) {
-        close_descriptors(arguments, request.count);
+        close_descriptors(arguments, count);
         wl_client_post_no_memory(client);
         client->has_error = true;
-        return;
-    }
-    request.resource = action->kind == NB_REQUEST ? resource_of(client, action->data) : NULL;
-    if (action->kind == NB_REGISTRY)
+    } else if (action->kind == NB_REGISTRY)
         registry_begin(client, &action->created);
     else if (action->kind == NB_BIND)
         bind_global(client, action);
-    else if (!is_refused(&request, action, arguments))
-        call_handler(&request, action->opcode);
+    else if (is_refused(client, resource, action, is_complete))
+        close_descriptors(arguments, count);
+    else
+        call_handler(resource, action, values, words);
 }

@@ -46,14 +46,20 @@ static const char *hand_over(struct wl_resource *resource, uint32_t opcode, cons
 }
 
 /* An event that cannot be sent is the program's fault; but the client lacks it, and ends. */
-static void send_event(struct wl_resource *resource, uint32_t opcode, union wl_argument *arguments)
+EXPORT void wl_resource_post_event_array(struct wl_resource *resource, uint32_t opcode, union wl_argument *args)
 {
     struct wl_client *client = resource->client;
-    const struct wl_message *message = &resource->object.interface->events[opcode];
+    const struct wl_interface *interface = resource->object.interface;
     struct packed packed;
     const char *fault = packed.fault; /* empty where pack finds none */
-    if (pack(&packed, message->signature, arguments, true) && name_objects(&packed, arguments, resource, message)) {
-        trace_message(resource, true, opcode, arguments);
+    client_enter(client);
+    if (client->has_error)
+        return;
+    if (opcode >= (uint32_t)interface->event_count)
+        log_and_abort("%s has no event %u\n", interface->name, opcode);
+    const struct wl_message *message = &interface->events[opcode];
+    if (pack(&packed, message->signature, args, true) && name_objects(&packed, args, resource, message)) {
+        trace_message(resource, true, opcode, args);
         fault = hand_over(resource, opcode, &packed);
     }
     if (fault && *fault) {
@@ -61,17 +67,6 @@ static void send_event(struct wl_resource *resource, uint32_t opcode, union wl_a
         client->has_error = true;
     }
     packed_end(&packed, !fault);
-}
-
-EXPORT void wl_resource_post_event_array(struct wl_resource *resource, uint32_t opcode, union wl_argument *args)
-{
-    struct wl_client *client = resource->client;
-    client_enter(client);
-    if (client->has_error)
-        return;
-    if (opcode >= (uint32_t)resource->object.interface->event_count)
-        log_and_abort("%s has no event %u\n", resource->object.interface->name, opcode);
-    send_event(resource, opcode, args);
 }
 
 EXPORT void wl_resource_post_event(struct wl_resource *resource, uint32_t opcode, ...)

@@ -81,13 +81,12 @@ static void forget_object(struct wl_client *client, const nb_object_id *object)
     nb_server *core = &client->display->core;
     trace_delete_id(client, object->number);
     nb_status status = nb_server_destroy_object(core, object);
-    if (status == NB_OK)
-        return;
-    nb_server_set_object_data(core, object, 0);
-    if (status != NB_OUT_OF_MEMORY)
-        return;
-    nb_server_kill_client(core, &client->id);
-    client->has_error = true;
+    if (status != NB_OK)
+        nb_server_set_object_data(core, object, 0);
+    if (status == NB_OUT_OF_MEMORY) {
+        nb_server_kill_client(core, &client->id);
+        client->has_error = true;
+    }
 }
 
 /* ======== Beginning and end */

@@ -67,17 +67,7 @@ EXPORT void wl_display_flush_clients(struct wl_display *display)
 
 /* ======== Who is gone */
 
-/* The session has given a client back: it gets its last bytes, the error message among them. */
-static void give_back(struct wl_client *client, const nb_gone *gone, const uint8_t *bytes, const int32_t *descriptors)
-{
-    if (gone->waiting.bytes > 0 && !client->is_ending && !client->is_cut)
-        socket_send(client->socket, bytes, gone->waiting.bytes, descriptors, gone->waiting.descriptors);
-    client->is_inside = false;
-    if (!client->is_cut)
-        client->has_error = true;
-    client_release(client);
-}
-
+/* A client that the session gives back gets its last bytes, the error message among them. */
 void display_settle(struct wl_display *display)
 {
     int32_t descriptors[NB_MOST_DESCRIPTORS], dropped;
@@ -85,8 +75,13 @@ void display_settle(struct wl_display *display)
     nb_server_cleanup(&display->core);
     while (nb_server_next_gone(&display->core, &gone, display->buffer, NB_MOST_WAITING, descriptors,
                                NB_MOST_DESCRIPTORS) == NB_OK) {
-        give_back((struct wl_client *)(uintptr_t)gone.data, &gone, display->buffer, descriptors);
+        struct wl_client *client = (struct wl_client *)(uintptr_t)gone.data;
+        if (gone.waiting.bytes > 0 && !client->is_ending && !client->is_cut)
+            socket_send(client->socket, display->buffer, gone.waiting.bytes, descriptors, gone.waiting.descriptors);
         close_all(descriptors, gone.waiting.descriptors);
+        client->is_inside = false;
+        client->has_error = client->has_error || !client->is_cut;
+        client_release(client);
     }
     while (nb_server_next_dropped(&display->core, &dropped) == NB_OK)
         close(dropped);
