@@ -71,7 +71,7 @@ static bool finish(struct wl_client *client, const nb_action *action)
 void dispatch(struct wl_client *client, const nb_action *action, const nb_argument *arguments, uint8_t *text)
 {
     const uint32_t count = action->kind == NB_REQUEST ? action->arguments : 0;
-    struct wl_resource *resource = action->kind == NB_REQUEST ? resource_of(client, action->data) : NULL;
+    struct wl_resource *resource = action->kind == NB_REQUEST ? resource_of(action->data) : NULL;
     union wl_argument values[MOST_ARGUMENTS];
     struct wl_array arrays[MOST_ARGUMENTS];
     uintptr_t words[MOST_WORDS]; /* the client, the resource, and the arguments */
@@ -82,7 +82,7 @@ void dispatch(struct wl_client *client, const nb_action *action, const nb_argume
         values[i].o = NULL; /* all of its word */
         unpack(&values[i], &arguments[i], text, &arrays[i]);
         if (arguments[i].kind == NB_OBJECT && !nb_is_null(&arguments[i].object)) {
-            struct wl_resource *named = resource_of(client, arguments[i].data);
+            struct wl_resource *named = resource_of(arguments[i].data);
             values[i].o = named ? &named->object : NULL;
             is_complete = is_complete && named;
         }

@@ -65,7 +65,11 @@ EXPORT void wl_display_destroy(struct wl_display *display)
         close(display->wakeup);
     if (display->loop)
         wl_event_loop_destroy(display->loop);
-    globals_end(display);
+    while (!wl_list_empty(&display->globals)) {
+        struct wl_global *global = CONTAINER(display->globals.next, struct wl_global, link);
+        global->is_removed = true; /* nobody is told */
+        wl_global_destroy(global);
+    }
     display_settle(display);
     while (!wl_list_empty(&display->leaving)) {
         struct wl_client *client = CONTAINER(display->leaving.next, struct wl_client, link);

@@ -1,7 +1,6 @@
 /* Events and errors that the program sends. It touches the session, and duplicates of the descriptors in events, which
  * are the session's once it has taken the event. */
 #include "server.h"
-#include "signature.h"
 #include <stdio.h>
 #include <string.h>
 

@@ -3,8 +3,8 @@
  * The session hands registries out. So the filter is asked at each announcement, and at each bind (dispatch.c). The session
  * keeps which registry was told of which global, and tells exactly those that it is gone.
  *
- * The session's data of a global point to its wl_global. So that is freed only once the session has removed it: by
- * wl_global_destroy, or with the display. */
+ * The session's data of a global point to its wl_global. So wl_global_destroy frees that only once the session has
+ * removed it. */
 #include "server.h"
 #include <stdlib.h>
 
@@ -100,24 +100,13 @@ EXPORT void wl_global_remove(struct wl_global *global)
     global->is_removed = true;
 }
 
-static void global_end(struct wl_global *global)
-{
-    nb_server_remove_global(&global->display->core, &global->id);
-    wl_list_remove(&global->link);
-    free(global);
-}
-
 EXPORT void wl_global_destroy(struct wl_global *global)
 {
     if (!global->is_removed)
         wl_global_remove(global);
-    global_end(global);
-}
-
-void globals_end(struct wl_display *display)
-{
-    while (!wl_list_empty(&display->globals))
-        global_end(CONTAINER(display->globals.next, struct wl_global, link));
+    nb_server_remove_global(&global->display->core, &global->id);
+    wl_list_remove(&global->link);
+    free(global);
 }
 
 EXPORT const struct wl_interface *wl_global_get_interface(const struct wl_global *global)

@@ -25,7 +25,7 @@ bool client_send(struct wl_client *client)
     uint8_t *bytes = client->display->buffer;
     int32_t descriptors[NB_MOST_DESCRIPTORS];
     nb_counts counts;
-    while (client->is_inside && !client->is_cut && !client->is_ending) {
+    while (client->is_inside && !client->is_cut) {
         nb_status status = nb_server_to_send(core, &client->id, bytes, NB_MOST_WAITING, descriptors,
                                              NB_MOST_DESCRIPTORS, &counts);
         if (status != NB_OK || counts.bytes == 0) {

@@ -8,7 +8,7 @@
  *   - a client by `client_release` (client.c), once the program or its end has destroyed it *and* the session has given
  *     it back, whichever comes last: until then the session's data of the client point to it;
  *   - a resource by wl_resource_destroy (resource.c), once the session's object has no data that point to it;
- *   - a global by wl_global_destroy or its display's end (global.c), once the session has removed it;
+ *   - a global by wl_global_destroy (global.c), once the session has removed it;
  *   - a source by `free_removed` (loop.c), after the round in which it was removed;
  *   - a pool and a buffer of shared memory by their last reference (shm.c);
  *   - a display by wl_display_destroy (display.c).
@@ -124,7 +124,6 @@ void sockets_end(struct wl_display *display);
 
 /* global.c */
 bool global_is_visible(const struct wl_global *global, const struct wl_client *client);
-void globals_end(struct wl_display *display);
 /* A client has made a registry: it is told of the globals that the client sees, now and later. */
 void registry_begin(struct wl_client *client, const nb_object_id *object);
 
@@ -165,10 +164,10 @@ static inline struct lent *lent_of(const struct wl_client *client, const struct 
 
 /* The resource of an object with these data; NULL if the program has none, or is at the end of it: its destructor may
  * have freed what a handler would look at. */
-static inline struct wl_resource *resource_of(struct wl_client *client, uint64_t data)
+static inline struct wl_resource *resource_of(uint64_t data)
 {
     struct wl_resource *resource = (struct wl_resource *)(uintptr_t)data;
-    return resource && !lent_of(client, resource) && resource->is_ending ? NULL : resource;
+    return resource && !lent_of(resource->client, resource) && resource->is_ending ? NULL : resource;
 }
 
 /* The session's object of a resource; null if it has none. */

@@ -108,11 +108,11 @@ static void tell_of_request(struct wl_client *client, const nb_told *told, const
 
 void trace_read(struct wl_client *client)
 {
-    struct wl_display *display = client->display;
     nb_argument arguments[MOST_ARGUMENTS];
+    _Alignas(8) uint8_t text[NB_MOST_BYTES]; /* a logger may make any call */
     nb_told told;
-    while (client->is_told && nb_server_next_told(&display->core, &client->id, &told, arguments, MOST_ARGUMENTS,
-                                                  display->buffer, NB_MOST_WAITING) == NB_OK)
+    while (client->is_told && nb_server_next_told(&client->display->core, &client->id, &told, arguments,
+                                                  MOST_ARGUMENTS, text, sizeof text) == NB_OK)
         if (told.kind == NB_MESSAGE && !told.is_event && told.interface <= NB_INTERFACE_REGISTRY)
-            tell_of_request(client, &told, arguments, display->buffer);
+            tell_of_request(client, &told, arguments, text);
 }
