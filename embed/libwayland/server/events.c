@@ -27,30 +27,16 @@ static bool name_objects(struct packed *packed, const union wl_argument *argumen
     return true;
 }
 
-/* Hands a packed event to the session, which has its descriptors then; else says why not. A client that the session has
- * no more is told nothing. */
-static const char *hand_over(struct wl_resource *resource, uint32_t opcode, const struct packed *packed)
-{
-    const struct wl_client *client = resource->client;
-    nb_server *core = &client->display->core;
-    nb_waiting waiting;
-    if (!client->is_inside)
-        return "";
-    if (packed->descriptors > 0 && nb_server_waiting(core, &client->id, &waiting) == NB_OK &&
-        waiting.to_send.descriptors + packed->descriptors > MOST_UNSENT)
-        return "too many descriptors wait for the client";
-    nb_status status = nb_server_send_event(core, core_of(resource), opcode, packed->arguments, packed->count,
-                                            packed->bytes, packed->length);
-    return status == NB_OK ? NULL : nb_status_text(status);
-}
-
-/* An event that cannot be sent is the program's fault; but the client lacks it, and ends. */
+/* An event that cannot be sent is the program's fault; but the client lacks it, and ends. One that the session has no
+ * more is told nothing. */
 EXPORT void wl_resource_post_event_array(struct wl_resource *resource, uint32_t opcode, union wl_argument *args)
 {
     struct wl_client *client = resource->client;
     const struct wl_interface *interface = resource->object.interface;
+    nb_server *core = &client->display->core;
+    nb_waiting waiting = { { 0, 0 }, { 0, 0 } };
     struct packed packed;
-    const char *fault = packed.fault; /* empty where pack finds none */
+    const char *fault = packed.fault; /* empty where pack finds none; NULL once the session has the descriptors */
     client_enter(client);
     if (client->has_error)
         return;
@@ -59,7 +45,15 @@ EXPORT void wl_resource_post_event_array(struct wl_resource *resource, uint32_t 
     const struct wl_message *message = &interface->events[opcode];
     if (pack(&packed, message->signature, args, true) && name_objects(&packed, args, resource, message)) {
         trace_message(resource, true, opcode, args);
-        fault = hand_over(resource, opcode, &packed);
+        if (packed.descriptors > 0)
+            nb_server_waiting(core, &client->id, &waiting);
+        if (waiting.to_send.descriptors + packed.descriptors > MOST_UNSENT)
+            fault = "too many descriptors wait for the client";
+        else if (client->is_inside) {
+            nb_status status = nb_server_send_event(core, core_of(resource), opcode, packed.arguments, packed.count,
+                                                    packed.bytes, packed.length);
+            fault = status == NB_OK ? NULL : nb_status_text(status);
+        }
     }
     if (fault && *fault) {
         log_line("error marshalling arguments for %s (signature %s): %s\n", message->name, message->signature, fault);

@@ -91,14 +91,34 @@ void display_settle(struct wl_display *display)
 
 enum { MOST_HELD = 1024 /* descriptors of a client that are in no request yet */ };
 
-/* Takes the client's actions and calls the program for each, until there is no whole message, or it has an error. */
-static void take_actions(struct wl_client *client)
+/* Whether the session has what came, with its descriptors. What comes after an error is thrown away. */
+static bool take_in(struct wl_client *client, size_t length, const int32_t *descriptors, size_t count)
+{
+    nb_server *core = &client->display->core;
+    nb_waiting waiting;
+    return !client->has_error && client_enter(client) && nb_server_waiting(core, &client->id, &waiting) == NB_OK &&
+           waiting.received.descriptors + count <= MOST_HELD &&
+           nb_server_received(core, &client->id, client->display->buffer, length, descriptors, count) == NB_OK;
+}
+
+/* Receives once, takes the actions that there are, and calls the program for each, until there is no whole message, or the
+ * client has an error. */
+const char *client_read(struct wl_client *client)
 {
     struct wl_display *display = client->display;
+    int32_t descriptors[NB_MOST_DESCRIPTORS];
     nb_argument arguments[MOST_ARGUMENTS];
     _Alignas(8) uint8_t text[NB_MOST_BYTES]; /* a handler may use it, and take actions of its own meanwhile */
     nb_action action;
-    nb_status status = NB_OK;
+    size_t count = 0;
+    ssize_t came = socket_receive(client->socket, display->buffer, NB_MOST_BYTES, descriptors, &count);
+    if (came <= 0 && came != -EAGAIN)
+        return "failed to read client connection";
+    nb_status status = came > 0 ? NB_OK : NB_WOULD_BLOCK;
+    if (came > 0 && !take_in(client, (size_t)came, descriptors, count)) {
+        close_all(descriptors, count);
+        client->has_error = true;
+    }
     while (status == NB_OK && !client->has_error && !client->is_condemned) {
         status = nb_server_next_action(&display->core, &client->id, &action, arguments, MOST_ARGUMENTS, text,
                                        sizeof text);
@@ -110,26 +130,5 @@ static void take_actions(struct wl_client *client)
         log_violation(client);
         client->has_error = true;
     }
-}
-
-/* Receives once, and takes the actions that there are. What comes after an error is thrown away. */
-const char *client_read(struct wl_client *client)
-{
-    struct wl_display *display = client->display;
-    int32_t descriptors[NB_MOST_DESCRIPTORS];
-    size_t count = 0;
-    nb_waiting waiting;
-    ssize_t came = socket_receive(client->socket, display->buffer, NB_MOST_BYTES, descriptors, &count);
-    if (came <= 0 && came != -EAGAIN)
-        return "failed to read client connection";
-    if (came > 0 && (client->has_error || !client_enter(client) ||
-                     nb_server_waiting(&display->core, &client->id, &waiting) != NB_OK ||
-                     waiting.received.descriptors + count > MOST_HELD ||
-                     nb_server_received(&display->core, &client->id, display->buffer, (size_t)came, descriptors,
-                                        count) != NB_OK)) {
-        close_all(descriptors, count);
-        client->has_error = true;
-    }
-    take_actions(client);
     return NULL;
 }
