@@ -30,7 +30,6 @@ bool client_enter(struct wl_client *client)
 {
     nb_server *core = &client->display->core;
     struct wl_resource *display = client->display_resource;
-    nb_held_object held;
     if (client->was_inserted)
         return client->is_inside;
     client->was_inserted = true;
@@ -38,9 +37,9 @@ bool client_enter(struct wl_client *client)
     nb_server_tell_messages(core, client->is_told);
     client->is_inside = nb_serve_client(core, (uint64_t)(uintptr_t)client, &client->id) == NB_OK;
     client->has_error = client->has_error || !client->is_inside;
-    if (display && client->is_inside && nb_server_object_by_number(core, &client->id, 1, &held) == NB_OK) {
-        display->core = held.object;
-        nb_server_set_object_data(core, &held.object, (uint64_t)(uintptr_t)display);
+    if (display && client->is_inside) {
+        nb_server_object_for_protocol_id(core, &client->id, NB_INTERFACE_DISPLAY, 1, &display->core);
+        nb_server_set_object_data(core, &display->core, (uint64_t)(uintptr_t)display);
     }
     return client->is_inside;
 }

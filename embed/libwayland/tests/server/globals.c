@@ -153,6 +153,18 @@ static void laxer_struct(int which)
     printf("  a second struct: %s\n", second ? "taken" : "refused");
 }
 
+/* The same of two resources. */
+static void two_structs_of_resources(int which)
+{
+    static const struct wl_message other[] = { { "destroy", "s", NULL } };
+    static const struct wl_interface second = { "part", 1, 1, other, 0, NULL };
+    (void)which;
+    begin();
+    printf("  a resource: %s\n", make_part(client, 1, 0) ? "made" : "refused");
+    printf("  of a second struct: %s\n", wl_resource_create(client, &second, 1, 0) ? "made" : "refused");
+    turn();
+}
+
 static const struct wl_message longer_requests[] = {
     { "destroy", "", NULL }, { "number", "i", NULL }, { "late", "2i", NULL }, { "more", "i", NULL }
 };
@@ -311,6 +323,7 @@ const struct test global_tests[] = {
     { "bad-bind", bad_binds, 16 },      { "bad-bind", bad_binds, 17 },     { "bad-bind", bad_binds, 18 },
     { "sync-serial", sync_serial, 0 },  { "sync-serial", sync_serial, 3 },
     { "two-structs", two_structs, 0 },  { "two-structs", two_structs, 1 }, { "two-structs", two_structs, 2 },
+    { "two-structs-of-resources", two_structs_of_resources, 0 },
     { "longer-struct", longer_struct, 0 }, { "longer-struct", longer_struct, 1 },
     { "laxer-struct", laxer_struct, 0 }, { "laxer-struct", laxer_struct, 1 },
     { "filter", filtered, 0 },          { "filter", filtered, 1 },         { "filter", filtered, 2 },
