@@ -17,8 +17,7 @@ static bool is_refused(struct wl_client *client, const struct wl_resource *resou
                                action->sender.number);
     else if (action->opcode >= (uint32_t)interface->method_count)
         wl_resource_post_error(client->display_resource, WL_DISPLAY_ERROR_INVALID_METHOD,
-                               "invalid method %u, object %s@%u", action->opcode, interface->name,
-                               resource->object.id);
+                               "invalid method %u, object %s@%u", action->opcode, interface->name, resource->object.id);
     else if (!is_complete)
         wl_resource_post_error(client->display_resource, WL_DISPLAY_ERROR_INVALID_METHOD,
                                "invalid arguments for %s@%u.%s", interface->name, resource->object.id,
@@ -50,8 +49,8 @@ static void bind_global(struct wl_client *client, const nb_action *action)
     if (global_is_visible(global, client))
         global->bind(client, global->data, action->version, action->created.number);
     else
-        wl_resource_post_error(client->display_resource, WL_DISPLAY_ERROR_INVALID_OBJECT, "invalid global %s (%u)", global->interface->name,
-                          global->id.name);
+        wl_resource_post_error(client->display_resource, WL_DISPLAY_ERROR_INVALID_OBJECT, "invalid global %s (%u)",
+                               global->interface->name, global->id.name);
 }
 
 /* Finishes the open action. It is none that ends its sender: the rows have no destructors, since a wl_message does not

@@ -19,7 +19,7 @@ static void watch_for(struct wl_client *client, bool is_full)
 
 /* Sends what is ready, until nothing is or the socket takes no more. Whether all that was ready is sent. A socket that
  * fails is cut off: that is no error of the client, and what its resources say at their end is logged. */
-bool client_send(struct wl_client *client)
+static bool client_send(struct wl_client *client)
 {
     nb_server *core = &client->display->core;
     uint8_t *bytes = client->display->buffer;

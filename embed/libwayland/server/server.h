@@ -73,9 +73,9 @@ struct wl_client {
     bool is_inside;    /* the session has it, and its data point here */
 
     struct wl_resource *display_resource; /* NULL once the resources are destroyed */
-    struct wl_array resources[2]; /* by number, of the client's range and of the server's: pointers */
-    struct wl_list displaced;     /* resources */
-    struct wl_array lent;
+    struct wl_array resources[2];         /* pointers by number: of the client's range, and of the server's */
+    struct wl_list displaced;             /* resources */
+    struct wl_array lent;                 /* of struct lent */
 
     unsigned depth;    /* how many calls look at it */
     bool has_error;    /* it is told nothing more, and is destroyed when its socket can be read */
@@ -83,8 +83,8 @@ struct wl_client {
     bool is_condemned; /* wl_client_destroy was called while `depth` was not 0 */
     bool is_ending;    /* its resources are destroyed: what they send goes nowhere */
     bool is_destroyed;
-    bool is_full;      /* the socket took no more */
-    bool is_told;      /* the session tells its messages */
+    bool is_full; /* the socket took no more */
+    bool is_told; /* the session tells its messages */
 };
 
 struct wl_global {
@@ -135,7 +135,6 @@ void client_release(struct wl_client *client);
 bool client_enter(struct wl_client *client);
 
 /* rounds.c */
-bool client_send(struct wl_client *client);
 /* Why the client has to end, or NULL. */
 const char *client_read(struct wl_client *client);
 void display_settle(struct wl_display *display);

@@ -37,6 +37,7 @@ void log_violation(struct wl_client *client)
     else
         snprintf(what, sizeof what, texts[it.kind], it.number, found ? found->object.interface->name : "unknown");
     log_line("%s, message %s(%s)\n",
-             it.kind == NB_VIOLATION_INVALID_NEW_ID && it.number == 0 ? "NULL new ID received on non-nullable type" : what,
+             it.kind == NB_VIOLATION_INVALID_NEW_ID && it.number == 0 ? "NULL new ID received on non-nullable type"
+                                                                      : what,
              request ? request->name : "unknown", request ? request->signature : "");
 }
