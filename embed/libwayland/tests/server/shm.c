@@ -136,7 +136,8 @@ static void resizes(int which)
         break;
     }
     turn();
-    show_buffer();
+    if (which > 1) /* else its client has ended */
+        show_buffer();
     show();
 }
 
