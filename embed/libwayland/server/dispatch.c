@@ -33,7 +33,8 @@ static void call_handler(struct wl_resource *resource, const nb_action *action, 
     const struct wl_object *object = &resource->object;
     void (*const *handlers)(void) = object->implementation;
     const uint32_t opcode = action->opcode;
-    trace_message(resource, false, opcode, values);
+    if (trace_is_on(resource->client->display))
+        trace_message(resource, false, opcode, values);
     if (!lent_of(resource->client, resource) && resource->dispatcher) {
         resource->dispatcher(handlers, resource, opcode, &object->interface->methods[opcode], values);
         return;

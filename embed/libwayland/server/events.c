@@ -44,7 +44,8 @@ EXPORT void wl_resource_post_event_array(struct wl_resource *resource, uint32_t 
         log_and_abort("%s has no event %u\n", interface->name, opcode);
     const struct wl_message *message = &interface->events[opcode];
     if (pack(&packed, message->signature, args, true) && name_objects(&packed, args, resource, message)) {
-        trace_message(resource, true, opcode, args);
+        if (trace_is_on(client->display))
+            trace_message(resource, true, opcode, args);
         if (packed.descriptors > 0)
             nb_server_waiting(core, &client->id, &waiting);
         if (waiting.to_send.descriptors + packed.descriptors > MOST_UNSENT)
