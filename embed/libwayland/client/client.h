@@ -18,8 +18,6 @@
 #define CLIENT_H
 
 #include "../common/common.h"
-#include "../common/table.h"
-#include <numbyroga.h>
 #include <pthread.h>
 #include <time.h>
 #include <wayland-client-core.h>

@@ -2,11 +2,8 @@
  * environment, and all that a display has. */
 #include "client.h"
 #include "../../socket.h"
-#include "../common/log.h"
-#include "../common/print.h"
 #include <errno.h>
 #include <fcntl.h>
-#include <stdlib.h>
 #include <string.h>
 #include <wayland-client-protocol.h>
 
@@ -75,9 +72,7 @@ EXPORT int wl_display_flush(struct wl_display *display)
     return answer(error, sent);
 }
 
-/* Newer than the headers of 1.21. */
-void wl_display_set_max_buffer_size(struct wl_display *display, size_t max_buffer_size);
-
+/* Since 1.23. */
 EXPORT void wl_display_set_max_buffer_size(struct wl_display *display, size_t max_buffer_size)
 {
     pthread_mutex_lock(&display->lock);
@@ -153,23 +148,9 @@ EXPORT uint32_t wl_display_get_protocol_error(struct wl_display *display, const 
 /* Connects to a name in $XDG_RUNTIME_DIR, or to a path. -1 with errno. */
 static int connect_to(const char *name)
 {
-    struct sockaddr_un address = { .sun_family = AF_UNIX };
-    const size_t room = sizeof address.sun_path;
-    const char *folder = getenv("XDG_RUNTIME_DIR"), *between = "/";
-    if (!name)
-        name = getenv("WAYLAND_DISPLAY");
-    if (!name)
-        name = "wayland-0";
-    if (name[0] == '/')
-        folder = between = "";
-    else if (!folder || folder[0] != '/') {
-        log_line("error: XDG_RUNTIME_DIR is invalid or not set in the environment.\n");
-        return answer(ENOENT, -1);
-    }
-    if ((size_t)snprintf(address.sun_path, room, "%s%s%s", folder, between, name) >= room) {
-        log_line("error: socket path \"%s%s%s\" plus null terminator exceeds %zu bytes\n", folder, between, name, room);
-        return answer(ENAMETOOLONG, -1);
-    }
+    struct sockaddr_un address;
+    if (!find_address(&address, name, "."))
+        return -1;
     int connection = socket(AF_UNIX, SOCK_STREAM | SOCK_CLOEXEC, 0);
     if (connection < 0 || connect(connection, (struct sockaddr *)&address, sizeof address) == 0)
         return connection;

@@ -2,13 +2,7 @@
  * them out, closes the descriptors of those that the program is not told of, and calls listeners, for which it gives up
  * the lock. */
 #include "client.h"
-#include "../common/arguments.h"
-#include "../common/call.h"
-#include "../common/log.h"
-#include "../common/print.h"
-#include "../common/signature.h"
 #include <errno.h>
-#include <stdlib.h>
 #include <string.h>
 #include <unistd.h>
 
@@ -192,30 +186,13 @@ void print_event(const char *before, const struct event *event)
     print_message(before, &event->sender->object, event->message, event->arguments, true);
 }
 
-/* Calls the listener or dispatcher. A number is the low half of its word. */
-static void hand_out(struct event *event, wl_dispatcher_func_t dispatcher, const void *implementation)
-{
-    struct wl_proxy *proxy = event->sender;
-    if (dispatcher) {
-        dispatcher(implementation, proxy, event->opcode, event->message, event->arguments);
-        return;
-    }
-    void (*const *listener)(void) = implementation;
-    if (!listener[event->opcode])
-        log_and_abort("listener function for opcode %u of %s is NULL\n", event->opcode, proxy->object.interface->name);
-    _Static_assert(sizeof(union wl_argument) == sizeof(uintptr_t), "an argument has one word");
-    uintptr_t words[MOST_WORDS] = { (uintptr_t)proxy->user_data, (uintptr_t)proxy };
-    memcpy(words + 2, event->arguments, event->count * sizeof *words);
-    call_words(listener[event->opcode], words, event->count + 2);
-}
-
+/* A listener that is set stays, so it is looked at without the lock, too. */
 void event_dispatch_locked(struct wl_display *display, struct event *event)
 {
-    wl_dispatcher_func_t dispatcher = event->sender->dispatcher;
-    const void *implementation = event->sender->object.implementation;
+    struct wl_proxy *sender = event->sender;
     if (event->is_dropped && is_logging)
         print_event("discarded ", event);
-    if (event->is_dropped || (!dispatcher && !implementation))
+    if (event->is_dropped || (!sender->dispatcher && !sender->object.implementation))
         return;
     event->is_told = true;
     for (uint32_t i = 0; i < event->count; i++)
@@ -224,6 +201,7 @@ void event_dispatch_locked(struct wl_display *display, struct event *event)
     pthread_mutex_unlock(&display->lock);
     if (is_logging)
         print_event("", event);
-    hand_out(event, dispatcher, implementation);
+    call_program(&sender->object, sender->dispatcher, sender->user_data, event->opcode, event->message,
+                 event->arguments, event->count);
     pthread_mutex_lock(&display->lock);
 }

@@ -7,9 +7,7 @@
  * (a frame's wp_presentation_feedback, ..). The session remembers that, and nb_client_reclaim frees the number when the
  * object is destroyed. */
 #include "client.h"
-#include "../common/log.h"
 #include <errno.h>
-#include <stdlib.h>
 #include <string.h>
 
 /* ======== Making and destroying */
@@ -244,11 +242,7 @@ EXPORT const char *wl_proxy_get_class(struct wl_proxy *proxy)
     return proxy->object.interface->name;
 }
 
-/* Newer than the headers of 1.21. */
-struct wl_display *wl_proxy_get_display(struct wl_proxy *proxy);
-struct wl_event_queue *wl_proxy_get_queue(const struct wl_proxy *proxy);
-const struct wl_interface *wl_proxy_get_interface(struct wl_proxy *proxy);
-
+/* Since 1.23 and 1.24. */
 EXPORT struct wl_display *wl_proxy_get_display(struct wl_proxy *proxy)
 {
     return proxy->display;

@@ -7,18 +7,10 @@
 #include <errno.h>
 #include <poll.h>
 #include <stdatomic.h>
-#include <stdlib.h>
 #include <string.h>
 #include <wayland-client-protocol.h>
 
 /* ======== The queues */
-
-/* Newer than the headers of 1.21. */
-struct wl_event_queue *wl_display_create_queue_with_name(struct wl_display *display, const char *name);
-const char *wl_event_queue_get_name(const struct wl_event_queue *queue);
-int wl_display_dispatch_timeout(struct wl_display *display, const struct timespec *timeout);
-int wl_display_dispatch_queue_timeout(struct wl_display *display, struct wl_event_queue *queue,
-                                      const struct timespec *timeout);
 
 EXPORT struct wl_event_queue *wl_display_create_queue_with_name(struct wl_display *display, const char *name)
 {

@@ -6,11 +6,7 @@
  * passes over or drops. */
 #include "client.h"
 #include "../../socket.h"
-#include "../common/arguments.h"
-#include "../common/log.h"
-#include "../common/print.h"
 #include <errno.h>
-#include <stdlib.h>
 #include <string.h>
 #include <wayland-client-protocol.h>
 

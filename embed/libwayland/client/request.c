@@ -1,12 +1,7 @@
 /* Requests: from the program's arguments to the session. It touches the arguments, and makes the proxy of what a
  * request makes. */
 #include "client.h"
-#include "../common/arguments.h"
-#include "../common/log.h"
-#include "../common/print.h"
-#include "../common/signature.h"
 #include <errno.h>
-#include <stdarg.h>
 #include <string.h>
 
 /* ======== Arguments */

@@ -1,10 +1,8 @@
 /* Arguments in the two forms. It touches the heap, and duplicates or closes the descriptors among arguments. */
-#include "arguments.h"
-#include "signature.h"
+#include "common.h"
 #include <errno.h>
 #include <fcntl.h>
 #include <stdio.h>
-#include <stdlib.h>
 #include <string.h>
 #include <unistd.h>
 

@@ -1,12 +1,15 @@
-/* What both libraries share: which names are seen, and the forms that wayland-util.h leaves open.
- *
- * Nothing here knows a session. Names are hidden unless EXPORT stands before them. */
+/* What both libraries share. Names are hidden unless EXPORT stands before them. */
 #ifndef COMMON_H
 #define COMMON_H
 
+#include <numbyroga.h>
+#include <stdarg.h>
 #include <stdbool.h>
 #include <stddef.h>
 #include <stdint.h>
+#include <stdlib.h>
+#include <sys/socket.h>
+#include <sys/un.h>
 #include <wayland-util.h>
 
 #define EXPORT __attribute__((visibility("default")))
@@ -30,5 +33,149 @@ static inline bool is_of_server(uint32_t id)
 {
     return id >= FIRST_OF_SERVER;
 }
+
+/* ======== log.c: what a library tells its program in words */
+
+/* Whom the words go to: standard error, until the program sets another one. */
+extern wl_log_func_t log_handler;
+
+void log_line(const char *format, ...) WL_PRINTF(1, 2);
+
+/* For what the program did that no call can mend. */
+#define log_and_abort(...) (log_line(__VA_ARGS__), abort())
+
+/* ======== print.c: the lines of WAYLAND_DEBUG */
+
+/* Whether WAYLAND_DEBUG asks for the lines of this side, "server" or "client". */
+bool print_is_asked(const char *side);
+
+/* Prints a message on standard error, with the time. `before` stands before the sender's name, as " -> " of a message
+ * that is sent. `new_ids_are_objects`: the new ids are in `o`, and else numbers. */
+void print_message(const char *before, const struct wl_object *sender, const struct wl_message *message,
+                   const union wl_argument *arguments, bool new_ids_are_objects);
+
+/* Prints that a message of a number that has no object is thrown away. `what` stands for its interface. */
+void print_thrown_away(const char *what, uint32_t sender, uint32_t opcode, uint32_t descriptors, size_t bytes);
+
+/* ======== address.c: where a server listens */
+
+/* The address of a name in $XDG_RUNTIME_DIR, or of a path, which begins with a slash. Without a name it is that of
+ * $WAYLAND_DISPLAY, or else wayland-0. If there is none, it is false with errno; the line in the log that says that the
+ * folder is missing ends in `stop`. */
+bool find_address(struct sockaddr_un *address, const char *name, const char *stop);
+
+/* ======== signature.c: signatures of messages, a version, and a letter for each argument, with a question mark before
+ * one that may be null */
+
+/* The next argument's letter, and where the rest begins; NULL if there is none. It is here since each message is walked
+ * through by it. */
+static inline const char *signature_next(const char *signature, char *letter, bool *is_nullable)
+{
+    *is_nullable = false;
+    for (; *signature; signature++)
+        switch (*signature) {
+        case '?': *is_nullable = true; break;
+        case 'i':
+        case 'u':
+        case 'f':
+        case 's':
+        case 'o':
+        case 'n':
+        case 'a':
+        case 'h': *letter = *signature; return signature + 1;
+        }
+    return NULL;
+}
+
+uint32_t signature_count(const char *signature);
+
+/* Whether the argument at this index may be null. */
+bool signature_is_nullable(const char *signature, uint32_t index);
+
+/* ======== call.c: calls of a program's functions whose types are known only when the program runs */
+
+/* Calls the program for a message to this wl_resource or wl_proxy: its dispatcher, if there is one, or else its function
+ * of the opcode, with these data, the object and the arguments. All of an argument's word has to be set. It ends the
+ * program if there is neither. */
+void call_program(struct wl_object *object, wl_dispatcher_func_t dispatcher, void *data, uint32_t opcode,
+                  const struct wl_message *message, union wl_argument *arguments, uint32_t count);
+
+/* ======== arguments.c: arguments in the two forms, wl_argument, with pointers, and nb_argument, with ranges of bytes */
+
+/* The arguments of a call like wl_resource_post_event, in the order of the signature. */
+void arguments_from_list(const char *signature, va_list list, union wl_argument *arguments);
+
+/* ---- from a session to the program */
+
+/* Makes of an argument that the session wrote what a handler takes. A string and an array stay where they are in
+ * `bytes`, which begin at a multiple of eight; `array` is the struct of an array. An object is left NULL, and a new id
+ * is its number: the caller knows what they stand for. */
+void unpack(union wl_argument *to, const nb_argument *from, uint8_t *bytes, struct wl_array *array);
+
+/* Closes the descriptors among arguments that nobody takes. */
+void close_descriptors(const nb_argument *arguments, uint32_t count);
+
+/* ---- from the program to a session */
+
+enum { FEW_BYTES = 1024 };
+
+/* Arguments as a session takes them. `fault` says in words why they cannot be sent, and is empty else; so does
+ * errno. */
+struct packed {
+    nb_argument arguments[MOST_ARGUMENTS];
+    uint32_t count, descriptors;
+    const uint8_t *bytes;
+    size_t length, size; /* of the bytes; of the message, with its head */
+    char fault[128];
+    uint8_t *many, few[FEW_BYTES];
+};
+
+/* Packs what the program gave. Descriptors are duplicated, since the program keeps its own. An object and a new id are
+ * null, with their kind: the caller puts their ids in. A new id that the program gives is an object if
+ * `new_ids_are_objects`, and may not be null then. packed_end is due in any case. */
+bool pack(struct packed *to, const char *signature, const union wl_argument *arguments, bool new_ids_are_objects);
+
+/* `is_taken` says that the session has the descriptors: else they are closed. */
+static inline void packed_end(struct packed *packed, bool is_taken)
+{
+    if (!is_taken)
+        close_descriptors(packed->arguments, packed->count);
+    if (packed->many)
+        free(packed->many);
+}
+
+/* ======== table.c: which number a session has for a `struct wl_interface` of the program
+ *
+ * An interface gets into the table when it is first named, with all that the rows of its messages name. A name has one
+ * row. Another struct of the same name, as each module that was linked has its own, is the same interface if the
+ * messages that both have are the same; if it has more, the row grows.
+ *
+ * A client's table is not so strict, as libwayland-client is not. A struct that no row of its name fits has a row of
+ * its own, under a name that nobody sees. Object arguments are of any interface: in a request the server judges them.
+ */
+
+/* nb_server_merge or nb_client_merge, for the session that `session` points to. */
+typedef nb_status table_merge(void *session, const nb_table *rows, nb_extension_fault *fault);
+
+struct table {
+    table_merge *merge;
+    void *session;
+    struct wl_array rows; /* those from NB_INTERFACE_FIRST on */
+    struct wl_array keys; /* the structs that were named, with their numbers */
+    bool is_of_client;
+};
+
+void table_begin(struct table *table, table_merge *merge, void *session);
+void table_end(struct table *table);
+
+/* The number of an interface, which is put into the session's table if it is not there. 0 if it cannot be, which is
+ * logged. */
+uint32_t table_number(struct table *table, const struct wl_interface *interface);
+
+/* How many descriptors an event of this interface has; 0 if there is no such event. */
+uint32_t table_event_descriptors(const struct table *table, uint32_t number, uint32_t event);
+
+/* Whether any event of this interface has descriptors. */
+bool table_brings_descriptors(const struct table *table, uint32_t number);
 
 #endif

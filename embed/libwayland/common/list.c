@@ -1,6 +1,5 @@
 /* Lists and arrays of wayland-util.h, which both libraries export. They touch what the caller names, and the heap. */
 #include "common.h"
-#include <stdlib.h>
 #include <string.h>
 
 EXPORT void wl_list_init(struct wl_list *list)

@@ -1,6 +1,5 @@
 /* What a library tells its program in words. It touches the handler that the program set, and standard error. */
-#include "log.h"
-#include <stdarg.h>
+#include "common.h"
 #include <stdio.h>
 
 WL_PRINTF(1, 0) static void to_standard_error(const char *format, va_list list)

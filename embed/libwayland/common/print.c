@@ -1,8 +1,6 @@
 /* The lines of WAYLAND_DEBUG. It touches standard error and the environment, and asks the time. */
-#include "print.h"
-#include "signature.h"
+#include "common.h"
 #include <stdio.h>
-#include <stdlib.h>
 #include <string.h>
 #include <time.h>
 

@@ -1,5 +1,5 @@
 /* Signatures of messages. It touches nothing but the text that it is given. */
-#include "signature.h"
+#include "common.h"
 
 uint32_t signature_count(const char *signature)
 {

@@ -3,11 +3,8 @@
  *
  * The session compares the messages of two structs of one name. What it lets pass, and a handler does not expect, is
  * compared here: which arguments may be null, and which objects may be of any interface. */
-#include "table.h"
-#include "log.h"
-#include "signature.h"
+#include "common.h"
 #include <stdio.h>
-#include <stdlib.h>
 #include <string.h>
 
 /* What is kept of an interface. */

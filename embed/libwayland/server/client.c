@@ -7,7 +7,6 @@
  * `depth` is how many calls look at it. While it is not 0 a wl_client_destroy waits (`is_condemned`) for the outermost
  * of them to end. */
 #include "server.h"
-#include <stdlib.h>
 #include <unistd.h>
 
 void client_let_go(struct wl_client *client)

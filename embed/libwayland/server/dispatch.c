@@ -2,8 +2,6 @@
  * finishes before it calls the program: an object that the request has made has no data then, and gets them by
  * wl_resource_create. */
 #include "server.h"
-#include "call.h"
-#include <string.h>
 
 /* Looks at what the session does not: whether there is a resource, whether its own struct has the request, of which the
  * table may have more, and whether no argument is null that may not be, and each object has a resource. If the request is
@@ -25,23 +23,6 @@ static bool is_refused(struct wl_client *client, const struct wl_resource *resou
     else
         return false;
     return true;
-}
-
-static void call_handler(struct wl_resource *resource, const nb_action *action, union wl_argument *values,
-                         uintptr_t *words)
-{
-    const struct wl_object *object = &resource->object;
-    void (*const *handlers)(void) = object->implementation;
-    const uint32_t opcode = action->opcode;
-    if (trace_is_on(resource->client->display))
-        trace_message(resource, false, opcode, values);
-    if (!lent_of(resource->client, resource) && resource->dispatcher) {
-        resource->dispatcher(handlers, resource, opcode, &object->interface->methods[opcode], values);
-        return;
-    }
-    if (!handlers || !handlers[opcode])
-        log_and_abort("listener function for opcode %u of %s is NULL\n", opcode, object->interface->name);
-    call_words(handlers[opcode], words, 2 + action->arguments);
 }
 
 static void bind_global(struct wl_client *client, const nb_action *action)
@@ -74,10 +55,7 @@ void dispatch(struct wl_client *client, const nb_action *action, const nb_argume
     struct wl_resource *resource = action->kind == NB_REQUEST ? resource_of(action->data) : NULL;
     union wl_argument values[MOST_ARGUMENTS];
     struct wl_array arrays[MOST_ARGUMENTS];
-    uintptr_t words[MOST_WORDS]; /* the client, the resource, and the arguments */
-    const uintptr_t first[FEW_WORDS] = { (uintptr_t)client, (uintptr_t)resource };
     bool is_complete = !action->forbidden_null;
-    memcpy(words, first, sizeof first);
     for (uint32_t i = 0; i < count; i++) {
         values[i].o = NULL; /* all of its word */
         unpack(&values[i], &arguments[i], text, &arrays[i]);
@@ -86,7 +64,6 @@ void dispatch(struct wl_client *client, const nb_action *action, const nb_argume
             values[i].o = named ? &named->object : NULL;
             is_complete = is_complete && named;
         }
-        memcpy(&words[2 + i], &values[i], sizeof *words);
     }
     if (!finish(client, action)) {
         close_descriptors(arguments, count);
@@ -98,6 +75,10 @@ void dispatch(struct wl_client *client, const nb_action *action, const nb_argume
         bind_global(client, action);
     else if (is_refused(client, resource, action, is_complete))
         close_descriptors(arguments, count);
-    else
-        call_handler(resource, action, values, words);
+    else {
+        if (trace_is_on(client->display))
+            trace_message(resource, false, action->opcode, values);
+        call_program(&resource->object, lent_of(client, resource) ? NULL : resource->dispatcher, client, action->opcode,
+                     &resource->object.interface->methods[action->opcode], values, count);
+    }
 }

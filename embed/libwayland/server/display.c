@@ -1,9 +1,7 @@
 /* The display: what a server has once. It owns the session, the loop and the buffer of a round; wl_display_destroy is
  * the only place that frees a display. */
 #include "server.h"
-#include "print.h"
 #include <errno.h>
-#include <stdlib.h>
 #include <sys/eventfd.h>
 #include <unistd.h>
 

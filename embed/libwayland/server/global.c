@@ -6,7 +6,6 @@
  * The session's data of a global point to its wl_global. So wl_global_destroy frees that only once the session has
  * removed it. */
 #include "server.h"
-#include <stdlib.h>
 
 bool global_is_visible(const struct wl_global *global, const struct wl_client *client)
 {

@@ -5,7 +5,6 @@
  * among the displaced ones: the session ends a wl_callback by itself when it is done, and its number may be another's
  * before the program destroys the resource. */
 #include "server.h"
-#include <stdlib.h>
 #include <string.h>
 
 /* ======== Resources by number */

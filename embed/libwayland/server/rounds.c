@@ -112,10 +112,10 @@ const char *client_read(struct wl_client *client)
     nb_action action;
     size_t count = 0;
     ssize_t came = socket_receive(client->socket, display->buffer, NB_MOST_BYTES, descriptors, &count);
-    if (came <= 0 && came != -EAGAIN)
-        return "failed to read client connection";
-    nb_status status = came > 0 ? NB_OK : NB_WOULD_BLOCK;
-    if (came > 0 && !take_in(client, (size_t)came, descriptors, count)) {
+    if (came <= 0)
+        return came == -EAGAIN ? NULL : "failed to read client connection";
+    nb_status status = NB_OK;
+    if (!take_in(client, (size_t)came, descriptors, count)) {
         close_all(descriptors, count);
         client->has_error = true;
     }

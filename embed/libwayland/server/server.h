@@ -20,12 +20,7 @@
 #define SERVER_H
 
 #define WL_HIDE_DEPRECATED
-#include "arguments.h"
 #include "common.h"
-#include "log.h"
-#include "table.h"
-#include <numbyroga.h>
-#include <sys/socket.h>
 #include <wayland-server-core.h>
 #include <wayland-server-protocol.h>
 

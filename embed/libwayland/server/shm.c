@@ -10,7 +10,6 @@
 #include <errno.h>
 #include <fcntl.h>
 #include <signal.h>
-#include <stdlib.h>
 #include <string.h>
 #include <sys/mman.h>
 #include <sys/stat.h>
@@ -372,9 +371,6 @@ EXPORT int32_t wl_shm_buffer_get_height(READ_ONLY(struct wl_shm_buffer) buffer)
 }
 
 /* Since 1.24. */
-EXPORT struct wl_shm_buffer *wl_shm_buffer_ref(struct wl_shm_buffer *buffer);
-EXPORT void wl_shm_buffer_unref(struct wl_shm_buffer *buffer);
-
 EXPORT struct wl_shm_buffer *wl_shm_buffer_ref(struct wl_shm_buffer *buffer)
 {
     buffer->owners++;

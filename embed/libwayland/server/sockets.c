@@ -4,12 +4,9 @@
 #include <errno.h>
 #include <fcntl.h>
 #include <stdio.h>
-#include <stdlib.h>
 #include <string.h>
 #include <sys/file.h>
-#include <sys/socket.h>
 #include <sys/stat.h>
-#include <sys/un.h>
 #include <unistd.h>
 
 enum { LAST_NAME = 32, WAITING = 128 };
@@ -28,7 +25,6 @@ static struct listener *listener_begin(void)
     struct listener *listener = calloc(1, sizeof *listener);
     if (!listener)
         return NULL;
-    listener->address.sun_family = AF_UNIX;
     listener->socket = listener->lock = -1;
     wl_list_init(&listener->link);
     return listener;
@@ -81,26 +77,6 @@ static bool listen_in(struct wl_display *display, struct listener *listener)
     return true;
 }
 
-/* The path of a name in $XDG_RUNTIME_DIR; an absolute name is a path. */
-static bool find_path(struct listener *listener, const char *name)
-{
-    const bool is_path = name[0] == '/';
-    const char *folder = is_path ? "" : getenv("XDG_RUNTIME_DIR");
-    const size_t room = sizeof listener->address.sun_path;
-    if (!is_path && (!folder || folder[0] != '/')) {
-        log_line("error: XDG_RUNTIME_DIR is invalid or not set in the environment\n");
-        errno = ENOENT;
-        return false;
-    }
-    int length = snprintf(listener->address.sun_path, room, "%s%s%s", folder, is_path ? "" : "/", name);
-    if (length >= 0 && (size_t)length < room)
-        return true;
-    log_line("error: socket path \"%s%s%s\" plus null terminator exceeds %zu bytes\n", folder, is_path ? "" : "/",
-             name, room);
-    errno = ENAMETOOLONG;
-    return false;
-}
-
 /* The lock is held as long as the server lives: so the socket of one that runs is never taken away, and what one that
  * ended has left is. */
 static bool take_lock(struct listener *listener)
@@ -149,9 +125,7 @@ EXPORT int wl_display_add_socket(struct wl_display *display, const char *name)
     struct listener *listener = listener_begin();
     if (!listener)
         return -1;
-    if (!name)
-        name = getenv("WAYLAND_DISPLAY");
-    if (find_path(listener, name ? name : "wayland-0") && take_lock(listener) && open_socket(listener) &&
+    if (find_address(&listener->address, name, "") && take_lock(listener) && open_socket(listener) &&
         listen_in(display, listener))
         return 0;
     listener_end(listener);
@@ -167,7 +141,7 @@ EXPORT const char *wl_display_add_socket_auto(struct wl_display *display)
         return NULL;
     for (int i = 0; i <= LAST_NAME && !is_locked; i++) {
         snprintf(name, sizeof name, "wayland-%d", i);
-        if (!find_path(listener, name))
+        if (!find_address(&listener->address, name, ""))
             break;
         is_locked = take_lock(listener);
         errno = EINVAL;

@@ -4,9 +4,6 @@
  * by itself, and does not say by which registry a client binds. So it tells the messages of a client that comes while
  * somebody listens (nb_server_next_told): of these the requests to the display and to registries are told on. */
 #include "server.h"
-#include "print.h"
-#include "signature.h"
-#include <stdlib.h>
 
 struct wl_protocol_logger {
     struct wl_list link;
