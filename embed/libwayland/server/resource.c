@@ -78,7 +78,6 @@ static bool find_object(struct wl_resource *resource, int version, uint32_t id, 
 static void forget_object(struct wl_client *client, const nb_object_id *object)
 {
     nb_server *core = &client->display->core;
-    trace_delete_id(client, object->number);
     nb_status status = nb_server_destroy_object(core, object);
     if (status != NB_OK)
         nb_server_set_object_data(core, object, 0);
@@ -139,8 +138,10 @@ void resource_leave(struct wl_resource *resource)
         *place = NULL;
     if (client->display_resource == resource)
         client->display_resource = NULL;
-    if (client->is_inside && !nb_is_null(&object))
-        forget_object(client, &object);
+    if (!client->is_inside || nb_is_null(&object))
+        return;
+    trace_delete_id(client, object.number);
+    forget_object(client, &object);
 }
 
 EXPORT struct wl_resource *wl_resource_create(struct wl_client *client, const struct wl_interface *interface,

@@ -34,15 +34,17 @@ static bool client_send(struct wl_client *client)
         }
         ssize_t taken = socket_send(client->socket, bytes, counts.bytes, descriptors, counts.descriptors);
         if (taken < 0) {
-            watch_for(client, true); /* one that is cut can be written, too: so the loop destroys the client */
+            watch_for(client, true); /* one that is cut can be written, too: so the loop ends the client, if no flush does */
             client->is_cut = taken != -EAGAIN;
-            if (client->is_cut)
+            if (client->is_cut) {
                 nb_server_send_failed(core, &client->id);
+                client->display->has_cut = true;
+            }
             return false;
         }
         nb_server_sent(core, &client->id, (uint32_t)taken);
         close_all(descriptors, counts.descriptors);
-        trace_read(client); /* events alone, of which no more is told */
+        trace_read(client, false); /* a logger could end the client */
     }
     return false;
 }
@@ -55,6 +57,20 @@ EXPORT void wl_client_flush(struct wl_client *client)
         continue;
 }
 
+/* Those whose sockets have failed end, but for one that a call looks at. What a client's end calls may end others. */
+static void end_cut(struct wl_display *display)
+{
+    struct wl_list *it = &display->clients;
+    while (display->has_cut && (it = it->next) != &display->clients) {
+        struct wl_client *client = CONTAINER(it, struct wl_client, link);
+        if (client->is_cut && client->depth == 0) {
+            wl_client_destroy(client);
+            it = &display->clients;
+        }
+    }
+    display->has_cut = false;
+}
+
 EXPORT void wl_display_flush_clients(struct wl_display *display)
 {
     nb_client_id id;
@@ -63,6 +79,7 @@ EXPORT void wl_display_flush_clients(struct wl_display *display)
         if (nb_server_client_data(&display->core, &id, &data) == NB_OK)
             client_send((struct wl_client *)(uintptr_t)data);
     display_settle(display);
+    end_cut(display);
 }
 
 /* ======== Who is gone */
@@ -122,13 +139,13 @@ const char *client_read(struct wl_client *client)
     while (status == NB_OK && !client->has_error && !client->is_condemned) {
         status = nb_server_next_action(&display->core, &client->id, &action, arguments, MOST_ARGUMENTS, text,
                                        sizeof text);
-        trace_read(client);
+        if (status != NB_OK && status != NB_WOULD_BLOCK)
+            log_violation(client);
+        trace_read(client, true);
         if (status == NB_OK)
             dispatch(client, &action, arguments, text);
-    }
-    if (status != NB_OK && status != NB_WOULD_BLOCK) {
-        log_violation(client);
-        client->has_error = true;
+        else if (status != NB_WOULD_BLOCK)
+            client->has_error = true;
     }
     return NULL;
 }

@@ -74,7 +74,7 @@ struct wl_client {
 
     unsigned depth;    /* how many calls look at it */
     bool has_error;    /* it is told nothing more, and is destroyed when its socket can be read */
-    bool is_cut;       /* its socket failed: the loop destroys it; or it is closed */
+    bool is_cut;       /* its socket failed: wl_display_flush_clients or the loop destroys it; or it is closed */
     bool is_condemned; /* wl_client_destroy was called while `depth` was not 0 */
     bool is_ending;    /* its resources are destroyed: what they send goes nowhere */
     bool is_destroyed;
@@ -109,6 +109,7 @@ struct wl_display {
     void *filter_data;
     struct wl_array shm_formats;
     bool is_printing; /* WAYLAND_DEBUG */
+    bool has_cut;     /* a client may be cut */
 };
 
 /* signal.c: emits a signal for the last time. Each listener is taken out before it is called. */
@@ -185,7 +186,9 @@ static inline bool trace_is_on(const struct wl_display *display)
 
 /* An event or request, if it is on. */
 void trace_message(struct wl_resource *resource, bool is_event, uint32_t opcode, union wl_argument *arguments);
-void trace_read(struct wl_client *client);
+/* Takes what the session tells of a client's messages. What it has asked of the display and of registries is told on, if
+ * it `is_told`. */
+void trace_read(struct wl_client *client, bool is_told);
 void trace_delete_id(struct wl_client *client, uint32_t id);
 void trace_error(struct wl_resource *resource, uint32_t code, const char *text);
 void trace_announcement(struct wl_resource *registry, const struct wl_global *global, bool is_removal);

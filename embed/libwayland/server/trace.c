@@ -2,7 +2,8 @@
  *
  * Requests are told before their handlers are called, and events when they are sent. The session answers wl_display.sync
  * by itself, and does not say by which registry a client binds. So it tells the messages of a client that comes while
- * somebody listens (nb_server_next_told): of these the requests to the display and to registries are told on. */
+ * somebody listens (nb_server_next_told): of these the requests to the display and to registries are told on, and the error
+ * for which the session ends the client. */
 #include "server.h"
 
 struct wl_protocol_logger {
@@ -58,7 +59,7 @@ enum { DISPLAY_ERROR = 0, DISPLAY_DELETE_ID = 1, REGISTRY_GLOBAL = 0, REGISTRY_R
 void trace_delete_id(struct wl_client *client, uint32_t id)
 {
     union wl_argument arguments[] = { { .u = id } };
-    if (client->display_resource && !client->has_error && !client->is_ending)
+    if (client->display_resource && !is_of_server(id) && !client->has_error && !client->is_ending)
         trace_message(client->display_resource, true, DISPLAY_DELETE_ID, arguments);
 }
 
@@ -90,26 +91,49 @@ static void tell_of_sync(struct wl_client *client, uint32_t id)
     trace_delete_id(client, id);
 }
 
-static void tell_of_request(struct wl_client *client, const nb_told *told, const nb_argument *from, uint8_t *bytes)
+/* What could not be told for want of memory comes later, when its number may be another object's. */
+static void tell(struct wl_client *client, const nb_told *told, const nb_argument *from, uint8_t *bytes)
 {
-    struct wl_resource *resource = wl_client_get_object(client, told->number);
+    const bool is_of_display = told->interface == NB_INTERFACE_DISPLAY;
+    struct wl_resource *resource = wl_client_get_object(client, told->number), *named;
     union wl_argument arguments[MOST_ARGUMENTS];
-    if (!resource)
+    if (!resource || resource->object.interface != (is_of_display ? &wl_display_interface : &wl_registry_interface))
         return;
-    for (uint32_t i = 0; i < told->arguments; i++)
+    for (uint32_t i = 0; i < told->arguments; i++) {
         unpack(&arguments[i], &from[i], bytes, NULL); /* no array */
-    trace_message(resource, false, told->opcode, arguments);
-    if (told->interface == NB_INTERFACE_DISPLAY && told->opcode == DISPLAY_SYNC)
+        if (from[i].kind == NB_OBJECT && (named = wl_client_get_object(client, from[i].object.number)))
+            arguments[i].o = &named->object;
+    }
+    trace_message(resource, told->is_event, told->opcode, arguments);
+    if (is_of_display && !told->is_event && told->opcode == DISPLAY_SYNC)
         tell_of_sync(client, arguments[0].n);
 }
 
-void trace_read(struct wl_client *client)
+/* Whether nobody has told of it: a request to the display or to a registry, but not one that libwayland cannot read; and the
+ * error with which the session ends the client. */
+static bool is_news(const nb_told *told, const nb_argument *arguments, const nb_violation *wrong)
 {
+    if (told->kind != NB_MESSAGE || told->interface > NB_INTERFACE_REGISTRY)
+        return false;
+    if (told->is_event)
+        return wrong->kind != 0 && told->interface == NB_INTERFACE_DISPLAY && told->opcode == DISPLAY_ERROR;
+    if (told->number != wrong->sender || told->opcode != wrong->opcode)
+        return true;
+    return wrong->kind != NB_VIOLATION_NULL_NAME &&
+           (wrong->kind != NB_VIOLATION_INVALID_NEW_ID || arguments[told->arguments - 1].object.number != wrong->number);
+}
+
+void trace_read(struct wl_client *client, bool is_told)
+{
+    nb_server *core = &client->display->core;
     nb_argument arguments[MOST_ARGUMENTS];
     _Alignas(8) uint8_t text[NB_MOST_BYTES]; /* a logger may make any call */
+    nb_violation wrong = { 0 };
     nb_told told;
-    while (client->is_told && nb_server_next_told(&client->display->core, &client->id, &told, arguments,
-                                                  MOST_ARGUMENTS, text, sizeof text) == NB_OK)
-        if (told.kind == NB_MESSAGE && !told.is_event && told.interface <= NB_INTERFACE_REGISTRY)
-            tell_of_request(client, &told, arguments, text);
+    if (client->is_told && nb_server_violation(core, &client->id, &wrong) == NB_OK)
+        nb_server_flush_client(core, &client->id); /* the error, too */
+    while (client->is_told && nb_server_next_told(core, &client->id, &told, arguments, MOST_ARGUMENTS, text,
+                                                  sizeof text) == NB_OK)
+        if (is_told && is_news(&told, arguments, &wrong))
+            tell(client, &told, arguments, text);
 }

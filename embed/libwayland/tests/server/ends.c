@@ -76,6 +76,24 @@ static void calls_at_the_end(int which)
     show();
 }
 
+/* A socket that can be written no more, and what the server sends there. */
+static void sent_to_the_gone(int which)
+{
+    begin_with_thing();
+    wl_client_add_destroy_listener(client, named("client"));
+    wl_resource_post_event(thing, THING_NOTHING);
+    shutdown(peer, SHUT_RD);
+    if (which > 0)
+        wl_client_flush(client);
+    if (which == 0 || which == 3)
+        wl_display_flush_clients(display);
+    printf("  flushed: %d clients\n", wl_list_length(wl_display_get_client_list(display)));
+    if (which == 2)
+        wl_client_destroy(client);
+    dispatch_all();
+    printf("  %d clients\n", wl_list_length(wl_display_get_client_list(display)));
+}
+
 /* The end of a resource that others look for. */
 static struct wl_resource *seen_in_listener;
 static void look(struct wl_listener *listener, void *data)
@@ -241,6 +259,8 @@ const struct test end_tests[] = {
     { "end", ends, 4 },   { "end", ends, 5 },   { "end", ends, 6 },   { "end", ends, 7 },
     { "end", ends, 8 },   { "end", ends, 9 },   { "end", ends, 10 },  { "end", ends, 11 },
     { "calls-at-the-end", calls_at_the_end, 0 },   { "calls-at-the-end", calls_at_the_end, 1 },
+    { "sent-to-the-gone", sent_to_the_gone, 0 },   { "sent-to-the-gone", sent_to_the_gone, 1 },
+    { "sent-to-the-gone", sent_to_the_gone, 2 },   { "sent-to-the-gone", sent_to_the_gone, 3 },
     { "listeners-see", listeners_see, 0 },         { "listeners-see", listeners_see, 1 },
     { "end-of-another", end_of_another, 0 },       { "end-of-the-sender", end_of_the_sender, 0 },
     { "made-after-an-error", made_after_an_error, 0 }, { "made-after-an-error", made_after_an_error, 1 },

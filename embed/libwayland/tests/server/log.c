@@ -54,6 +54,48 @@ static void logger(int which)
     wl_display_destroy(display);
 }
 
+/* Objects that the program ends: one of the client's numbers, and one of the server's. */
+static void told_of_ends(int which)
+{
+    begin_with_thing();
+    request(3, THING_MAKE, "w", 4);
+    turn();
+    struct wl_resource *made = make_part(client, 2, 0);
+    struct wl_protocol_logger *one = wl_display_add_protocol_logger(display, tell, "one");
+    wl_resource_destroy(which == 0 ? part : made);
+    wl_resource_post_event(thing, THING_NOTHING);
+    turn();
+    wl_client_destroy(client);
+    wl_protocol_logger_destroy(one);
+}
+
+/* Requests to the display and to a registry that are refused. */
+static void told_of_refused(int which)
+{
+    begin();
+    struct wl_protocol_logger *one = wl_display_add_protocol_logger(display, tell, "one");
+    get_registry(2);
+    turn();
+    switch (which) {
+    case 0: bind_global(2, 77, "thing", 5, 3); break;
+    case 1: bind_global(2, 1, "other", 5, 3); break;
+    case 2: bind_global(2, 1, "thing", 9, 3); break;
+    case 3: bind_global(2, 1, "thing", 5, 2); break;
+    case 4: request(1, 0, "w", 2); break;
+    case 5: request(1, 1, "w", 7); break;
+    case 6: request(1, 5, "w", 3); break;
+    case 7: bind_global(2, 1, NULL, 5, 3); break;
+    case 8:
+        request(1, 0, "w", 3);
+        request(1, 0, "w", 3);
+        request(1, 0, "w", 2);
+        break;
+    }
+    request(1, 0, "w", 3);
+    turn();
+    wl_protocol_logger_destroy(one);
+}
+
 static void debug(int which)
 {
     static const char *const words[] = { "1", "server", "client" };
@@ -81,6 +123,23 @@ static void handler(int which)
     wl_display_add_socket(display, "x");
 }
 
-const struct test log_tests[] = { { "logger", logger, 0 }, { "logger", logger, 1 }, { "debug", debug, 0 },
-                                  { "debug", debug, 1 },   { "debug", debug, 2 },   { "log-handler", handler, 0 },
-                                  { 0 } };
+const struct test log_tests[] = {
+    { "logger", logger, 0 },
+    { "logger", logger, 1 },
+    { "told-of-ends", told_of_ends, 0 },
+    { "told-of-ends", told_of_ends, 1 },
+    { "told-of-refused", told_of_refused, 0 },
+    { "told-of-refused", told_of_refused, 1 },
+    { "told-of-refused", told_of_refused, 2 },
+    { "told-of-refused", told_of_refused, 3 },
+    { "told-of-refused", told_of_refused, 4 },
+    { "told-of-refused", told_of_refused, 5 },
+    { "told-of-refused", told_of_refused, 6 },
+    { "told-of-refused", told_of_refused, 7 },
+    { "told-of-refused", told_of_refused, 8 },
+    { "debug", debug, 0 },
+    { "debug", debug, 1 },
+    { "debug", debug, 2 },
+    { "log-handler", handler, 0 },
+    { 0 }
+};
