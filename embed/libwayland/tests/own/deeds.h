@@ -44,14 +44,6 @@ static void expect_sent(bool holds, const char *what)
     expect(holds || !are_honest, what);
 }
 
-/* Reads memory that a handler gets, for the sanitizers. */
-static volatile unsigned char last_seen;
-static void look_at(const void *bytes, size_t length)
-{
-    for (size_t i = 0; i < length; i++)
-        last_seen = ((const unsigned char *)bytes)[i];
-}
-
 static void deeds(void);
 
 /* ======== The book of resources */
@@ -404,6 +396,23 @@ static void discard(const char *format, va_list list)
     (void)list;
 }
 
+static void hear(void *data, enum wl_protocol_logger_type type, const struct wl_protocol_logger_message *message)
+{
+    (void)data;
+    (void)type;
+    expect(look_at_message(message) == message->arguments_count, "as many arguments as the signature has");
+}
+
+/* Whether there is one. */
+static struct wl_protocol_logger *logger;
+static void set_logger(bool is_on)
+{
+    if (logger && !is_on)
+        wl_protocol_logger_destroy(logger);
+    if (!logger || !is_on)
+        logger = is_on ? wl_display_add_protocol_logger(display, hear, NULL) : NULL;
+}
+
 static void begin_server(void)
 {
     depth = 0;
@@ -419,6 +428,7 @@ static void end_server(void)
 {
     depth = MOST_DEPTH; /* no more deeds */
     wl_display_destroy_clients(display);
+    set_logger(false);
     expect(wl_list_empty(wl_display_get_client_list(display)), "all clients have ended");
     expect(resource_count == 0, "all resources have ended");
     wl_display_destroy(display);

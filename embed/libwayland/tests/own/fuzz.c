@@ -227,6 +227,7 @@ static void use_buffers(void)
 static void run(void)
 {
     begin_server();
+    set_logger(input_left % 2);
     wl_display_init_shm(display);
     for (int round = 0; round < MOST_ROUNDS && (round == 0 || input_left > 0); round++) {
         if (chance(4) == 0)

@@ -53,7 +53,8 @@ static void tell(void *data, enum wl_protocol_logger_type type, const struct wl_
 {
     (void)data;
     (void)type;
-    (void)message;
+    if (look_at_message(message) != message->arguments_count)
+        abort();
 }
 
 static bool for_all(const struct wl_client *of, const struct wl_global *global, void *data)

@@ -82,6 +82,8 @@ int main(int count, char **words)
         wl_display_flush_clients(display);
         if (chance(4) == 0)
             begin_client();
+        if (chance(60) == 0)
+            set_logger(chance(2));
     }
     end_server();
     close(file);

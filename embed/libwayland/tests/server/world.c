@@ -255,6 +255,32 @@ void bind_part(struct wl_client *of, void *data, uint32_t version, uint32_t id)
     part = make_part(of, (int)version, id);
 }
 
+static volatile unsigned char last_seen;
+void look_at(const void *bytes, size_t length)
+{
+    for (size_t i = 0; i < length; i++)
+        last_seen = ((const unsigned char *)bytes)[i];
+}
+
+int look_at_message(const struct wl_protocol_logger_message *message)
+{
+    const char *class = wl_resource_get_class(message->resource);
+    const union wl_argument *argument = message->arguments;
+    look_at(class, strlen(class));
+    for (const char *letter = message->message->signature; *letter; letter++) {
+        if (!strchr("iufsonah", *letter))
+            continue;
+        if (*letter == 's' && argument->s)
+            look_at(argument->s, strlen(argument->s));
+        if (*letter == 'a' && argument->a)
+            look_at(argument->a->data, argument->a->size);
+        if (*letter == 'o' && argument->o)
+            look_at(wl_resource_get_class((struct wl_resource *)argument->o), 1);
+        argument++;
+    }
+    return (int)(argument - message->arguments);
+}
+
 struct wl_client *connect_client(int *theirs)
 {
     int pair[2];

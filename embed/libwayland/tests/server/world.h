@@ -74,6 +74,12 @@ void begin_with_thing(void); /* which has a registry, 2, and a thing, 3 */
 void dispatch_all(void);    /* the loop, without waiting, until nothing more happens */
 void turn(void);            /* the same, and shows what the client got */
 
+/* Reads memory that a handler gets, for the sanitizers. */
+void look_at(const void *bytes, size_t length);
+
+/* Reads all that a logger is told. The answer is how many arguments the signature has. */
+int look_at_message(const struct wl_protocol_logger_message *message);
+
 /* ---- the client */
 
 extern int peer; /* its socket */
