@@ -1,0 +1,4 @@
+//! By what is tested.
+
+mod policies;
+mod sessions;

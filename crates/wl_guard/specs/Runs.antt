@@ -1,0 +1,86 @@
+-- Calls of a guard, one after another.
+use Rattle.std.specs.Prelude.{◌≡◌, ℕ, ◌+◌, List, [], ◌∷◌, ◌++◌, Some}
+use Rattle.std.specs.List.{sum_by}
+use Rattle.wl_wire.specs.declared.argument.Token.{Token}
+use Rattle.wl_link.specs.Exchange.{Queue, joined, nothing}
+use Rattle.wl_follow.specs.declared.side.Side.{Side}
+use Rattle.wl_follow.specs.declared.side.Side.TheVariants.{Client, Server}
+use Rattle.wl_guard.specs.Guard.{Arrives, GivesBack, GuardState, Sent, to_send}
+use Rattle.wl_guard.specs.Passages.{Passage}
+use Rattle.wl_guard.specs.Policy.{PolicyState}
+use Rattle.wl_guard.specs.Queues.{part_sent}
+
+-- a call of a guard that changed it, with what it was given and what came of it
+pub data Call : Type 0 where
+  -- this came from that side, and was passed so
+  Came : (side : Side) (came : Queue) (passages : List Passage) → Call
+  -- this was sent to that side
+  WasSent : (side : Side) (out : Queue) → Call
+  -- this token was given back
+  GaveBack : (token : Token) → Call
+
+-- What a call does. All are by one policy.
+abbrev pub Does : PolicyState → GuardState → Call → GuardState → Type 0
+Does p before (Came side came passages) after = (arrives : Arrives p side came before after) × (arrives.at.passages ≡ passages)
+Does p before (WasSent side out) after = (count : ℕ) × Sent side count before after × (out ≡ part_sent count (to_send side before))
+Does p before (GaveBack token) after = GivesBack before (Some token) after
+
+-- the calls lead from one state of the guard to another
+abbrev pub Leads : PolicyState → GuardState → List Call → GuardState → Type 0
+Leads p before [] after = after ≡ before
+Leads p before (c ∷ calls) after = (mid : GuardState) × Does p before c mid × Leads p mid calls after
+
+-- what came from the side
+abbrev pub came_in : Side → Call → Queue
+came_in Client (Came Client came passages) = came
+came_in Server (Came Server came passages) = came
+came_in _ _ = nothing
+
+abbrev pub all_came : Side → List Call → Queue
+all_came side [] = nothing
+all_came side (c ∷ calls) = joined (came_in side c) (all_came side calls)
+
+-- what was sent to the side
+abbrev pub out_in : Side → Call → Queue
+out_in Client (WasSent Client out) = out
+out_in Server (WasSent Server out) = out
+out_in _ _ = nothing
+
+abbrev pub all_out : Side → List Call → Queue
+all_out side [] = nothing
+all_out side (c ∷ calls) = joined (out_in side c) (all_out side calls)
+
+-- what became of the messages that the side sent
+abbrev pub passed_in : Side → Call → List Passage
+passed_in Client (Came Client came passages) = passages
+passed_in Server (Came Server came passages) = passages
+passed_in _ _ = []
+
+abbrev pub all_passed : Side → List Call → List Passage
+all_passed side [] = []
+all_passed side (c ∷ calls) = passed_in side c ++ all_passed side calls
+
+-- the tokens that were given back
+abbrev pub back_in : Call → List Token
+back_in (GaveBack token) = token ∷ []
+back_in _ = []
+
+abbrev pub all_back : List Call → List Token
+all_back [] = []
+all_back (c ∷ calls) = back_in c ++ all_back calls
+
+-- ---- tokens
+
+-- the weight of the tokens that a guard keeps: those to be sent, those to be given back, and those of what was not read
+abbrev pub kept_weight : (Token → ℕ) → GuardState → ℕ
+kept_weight weight g =
+    sum_by weight g.to_client.tokens + sum_by weight g.to_server.tokens + sum_by weight g.released + sum_by weight g.from_client.tokens
+    + sum_by weight g.from_server.tokens
+
+-- of those that came
+abbrev pub weight_in : (Token → ℕ) → List Call → ℕ
+weight_in weight calls = sum_by weight (all_came Client calls).tokens + sum_by weight (all_came Server calls).tokens
+
+-- and of those that left: sent to a side, or given back
+abbrev pub weight_out : (Token → ℕ) → List Call → ℕ
+weight_out weight calls = sum_by weight (all_out Client calls).tokens + sum_by weight (all_out Server calls).tokens + sum_by weight (all_back calls)
