@@ -11,6 +11,33 @@ use wl_wire::{Token, write_to_buffers};
 /// A message as data: the number of its sender, its opcode, and its arguments.
 pub type Sent = (u32, u16, &'static [Arg]);
 
+/// Bytes and tokens that a side sends as they are.
+#[derive(Clone, Copy)]
+pub struct Raw {
+    /// The side.
+    pub side: Side,
+    /// The bytes.
+    pub bytes: &'static [u8],
+    /// The tokens.
+    pub tokens: &'static [Token],
+}
+
+/// Nothing.
+pub const NOTHING: Raw = Raw {
+    side: Side::Client,
+    bytes: &[],
+    tokens: &[],
+};
+
+/// Which globals the policy of a test allows.
+#[derive(Clone, Copy, PartialEq, Eq)]
+pub enum Allowed {
+    /// `quad` up to version 2.
+    Quad,
+    /// The same, and `pair`.
+    QuadAndPair,
+}
+
 /// A session: what is sent, one message after another, and what comes of it.
 #[derive(Clone, Copy)]
 pub struct Row {
@@ -18,6 +45,8 @@ pub struct Row {
     pub name: &'static str,
     /// What the sides send, in this order.
     pub sends: &'static [(Side, Sent)],
+    /// What a side sends at last.
+    pub last: Raw,
     /// What the compositor is sent.
     pub to_server: &'static [Sent],
     /// What the client is sent.
@@ -41,6 +70,15 @@ pub fn quad_policy(alloc: Global) -> Result<Policy, Fail> {
     policy.allow("quad", 2)?;
     policy.refuse("quad", "link")?;
     policy.ignore("quad", "give")?;
+    Ok(policy)
+}
+
+/// The policy that allows these.
+fn policy_of(alloc: Global, allowed: Allowed) -> Result<Policy, Fail> {
+    let mut policy = quad_policy(alloc)?;
+    if allowed == Allowed::QuadAndPair {
+        policy.allow("pair", 1)?;
+    }
     Ok(policy)
 }
 
@@ -82,8 +120,28 @@ fn is_to_send(alloc: Global, guard: &Guard, side: Side, messages: &[Sent]) -> Re
     Ok(bytes == pieces.bytes.as_slice() && tokens == pieces.tokens.as_slice())
 }
 
-/// Puts in what the sides send, in single bytes if so.
-fn put_in(
+/// Puts in what a side sends, in single bytes if so: all tokens come with the first.
+fn put_one(
+    policy: &Policy,
+    guard: &mut Guard,
+    side: Side,
+    bytes: &[u8],
+    tokens: &[Token],
+    is_cut: bool,
+) {
+    if !is_cut || bytes.is_empty() {
+        let _ = guard.arrive(policy, side, bytes, tokens);
+        return;
+    }
+    let mut tokens = tokens;
+    for byte in bytes {
+        let _ = guard.arrive(policy, side, &[*byte], tokens);
+        tokens = &[];
+    }
+}
+
+/// Puts in what the sides send, one message after another.
+pub fn put_in(
     alloc: Global,
     policy: &Policy,
     guard: &mut Guard,
@@ -92,15 +150,7 @@ fn put_in(
 ) -> Result<(), Fail> {
     for (side, one) in sends {
         let pieces = spelled(alloc, &[*one])?;
-        if !is_cut {
-            let _ = guard.arrive(policy, *side, &pieces.bytes, &pieces.tokens);
-            continue;
-        }
-        let mut tokens = pieces.tokens.as_slice();
-        for byte in &pieces.bytes {
-            let _ = guard.arrive(policy, *side, &[*byte], tokens);
-            tokens = &[];
-        }
+        put_one(policy, guard, *side, &pieces.bytes, &pieces.tokens, is_cut);
     }
     Ok(())
 }
@@ -123,10 +173,24 @@ fn rule_of(guard: &Guard) -> Option<Rule> {
 }
 
 /// Fails if something else comes of the row, its messages cut into single bytes or not.
-pub fn row_holds(rt: &impl Eprint, alloc: Global, row: Row, is_cut: bool) -> Result<(), Fail> {
-    let policy = quad_policy(alloc)?;
+pub fn row_holds(
+    rt: &impl Eprint,
+    alloc: Global,
+    row: Row,
+    allowed: Allowed,
+    is_cut: bool,
+) -> Result<(), Fail> {
+    let policy = policy_of(alloc, allowed)?;
     let mut guard = Guard::new(alloc)?;
     put_in(alloc, &policy, &mut guard, row.sends, is_cut)?;
+    put_one(
+        &policy,
+        &mut guard,
+        row.last.side,
+        row.last.bytes,
+        row.last.tokens,
+        is_cut,
+    );
     let to_server = is_to_send(alloc, &guard, Side::Server, row.to_server)?;
     let to_client = is_to_send(alloc, &guard, Side::Client, row.to_client)?;
     let rule = rule_of(&guard) == row.rule;

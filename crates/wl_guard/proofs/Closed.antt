@@ -1,5 +1,5 @@
 -- That the objects stay within the policy's closure, and that nothing is kept beyond the limits.
-use Rattle.std.specs.Prelude.{◌≡◌, ◌≢◌, ℕ, suc, ◌+◌, ◌-◌, ◌≤◌, ◌<◌, ◌⊎◌, ◌==◌, ◌&&◌, ◌||◌, Bool, true, false, nat_le, nat_lt, List, [], ◌∷◌, length, Option, None, Some, Result, Ok, Err, MatchBool, MatchOption, is_some, if◌then◌else◌}
+use Rattle.std.specs.Prelude.{◌≡◌, ℕ, suc, ◌+◌, ◌-◌, ◌≤◌, ◌<◌, ◌⊎◌, ◌==◌, ◌&&◌, ◌||◌, Bool, true, false, nat_le, nat_lt, List, [], ◌∷◌, length, Option, None, Some, Result, Ok, Err, MatchBool, MatchOption, is_some, if◌then◌else◌}
 use Rattle.std.proofs.Common.{ap, arith, inl, inr, refl, subst, sym, ◌∙◌}
 use Rattle.std.proofs.lemmas.Bool.{eqb-true}
 use Rattle.std.proofs.lemmas.Bool.Decides.{nat_tests}
@@ -8,10 +8,10 @@ use Rattle.wl_wire.specs.declared.interface.InterfaceId.{InterfaceId}
 use Rattle.wl_wire.specs.Argument.{WireArgument}
 use Rattle.wl_wire.specs.Message.{WireMessage}
 use Rattle.wl_wire.specs.Parse.{length_of}
-use Rattle.wl_wire.specs.Table.{MessageRow, name_of}
+use Rattle.wl_wire.specs.Table.{MessageRow}
 use Rattle.wl_link.specs.declared.object.Object.{Object}
 use Rattle.wl_link.specs.Exchange.{Queue}
-use Rattle.wl_link.specs.Store.{Store, client_range, empty_store, held, server_range, stored}
+use Rattle.wl_link.specs.Store.{Store, client_range, empty_store, held, server_range}
 use Rattle.wl_link.proofs.Ids.StoreLaws.{held_empty}
 use Rattle.wl_follow.specs.Fronts.{row_at}
 use Rattle.wl_follow.specs.Objects.{IsBound, first_objects, is_bind, is_own, new_number, object_of}
@@ -22,14 +22,14 @@ use Rattle.wl_guard.specs.Closure.{AreBelow, AreWithin, IsBounded, IsClosed}
 use Rattle.wl_guard.specs.Events.{Announces, JudgesEvent, Shows, TellsOf, announcement_of, fate_of_removal}
 use Rattle.wl_guard.specs.Known.{Known, has_place, is_beyond, nothing_known, told_of, with_told}
 use Rattle.wl_guard.specs.Passages.{IsPassed, Judges, NotesUnder, Passage, Passes}
-use Rattle.wl_guard.specs.Policy.{PolicyState, allowed_version, lists}
-use Rattle.wl_guard.specs.Requests.{BindIsAllowed, BindsTold, IsAllowed, bind_of, fate_of_request}
-use Rattle.wl_guard.specs.declared.policy.Limits.{Limits}
+use Rattle.wl_guard.specs.Policy.{PolicyState, lists}
+use Rattle.wl_guard.specs.Requests.{BindIsAllowed, BindsTold, bind_of, fate_of_request}
 use Rattle.wl_guard.specs.declared.session.Fate.{Fate}
 use Rattle.wl_guard.specs.declared.session.Fate.TheVariants as fate
 use Rattle.wl_guard.specs.declared.session.Rule.{Rule}
 use Rattle.wl_guard.specs.declared.session.Rule.TheVariants as rule
 use Rattle.wl_guard.specs.declared.session.Told.{Told}
+use Rattle.wl_guard.proofs.Ended.{passed_ended}
 use Rattle.wl_guard.proofs.Noted.{Makes, all_noted, all_stored, some_same}
 
 none_held : (n : ℕ) (y : Object (Unit {0})) → held (empty_store {D = Unit {0}}) n ≡ Some y → ⊥
@@ -70,7 +70,7 @@ not_ignored p interface opcode is = go (lists p.ignored interface opcode) refl
     go false not_so = not_so
 
 -- an event that goes on makes no object beyond the limit
-event_below : (p : PolicyState) (told told' : List Told) (object : Object (Unit {0})) (m : WireMessage) (f : Fate) → JudgesEvent p told object m (Ok f) told'
+pub event_below : (p : PolicyState) (told told' : List Told) (object : Object (Unit {0})) (m : WireMessage) (f : Fate) → JudgesEvent p told object m (Ok f) told'
     → (is_beyond p.limits Server (new_number m.args) ≡ false) × TellsOf p told object.interface m (Ok f) told'
 event_below p told told' object m f judged = go (is_beyond p.limits Server (new_number m.args)) refl judged
   where
@@ -229,6 +229,7 @@ module _ (p : PolicyState) where
   passed_bounded side k k' q rest x passed bounded = record {
     objects = go x.fate passed.judged passed.noted;
     globals = judged_bound side k.told k'.told k.ended passed.object passed.row passed.message (length_of q.bytes) x.fate passed.judged bounded.globals;
+    ended = passed_ended p side k k' q rest x passed bounded.ended;
   }
     where
       go : (f : Fate) → Judges p side k.told k.ended passed.object passed.row passed.message (length_of q.bytes) (Ok f) k'.told
@@ -251,4 +252,5 @@ module _ (p : PolicyState) where
     objects = all_stored (λ n y. (n ≡ 1) ⊎ (n < p.limits.objects) ⊎ ((server_range.first ≤ n) × (n < server_range.first + p.limits.objects))) empty_store 1
         (object_of (record { 0 = 1 }) 1) (λ n y is. absurd (none_held n y is)) (inl refl);
     globals = omega arith;
+    ended = tt;
   }

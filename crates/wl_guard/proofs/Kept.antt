@@ -1,14 +1,14 @@
 -- What is kept of a session, as long as the connection has not ended.
-use Rattle.std.specs.Prelude.{◌≡◌, Bool, true, List, [], ◌∷◌, Option, None, Some, IsSome}
-use Rattle.std.proofs.Common.{ap, refl, subst, sym, ◌∙◌}
+use Rattle.std.specs.Prelude.{◌≡◌, Bool, List, [], ◌∷◌, Option, None, Some, IsSome}
+use Rattle.std.proofs.Common.{refl, subst, sym, ◌∙◌}
 use Rattle.wl_wire.specs.declared.interface.InterfaceId.{InterfaceId}
 use Rattle.wl_link.specs.Exchange.{Queue}
 use Rattle.wl_follow.specs.declared.side.Side.{Side}
 use Rattle.wl_follow.specs.declared.side.Side.TheVariants.{Client}
 use Rattle.wl_guard.specs.Closure.{AreWithin, IsBounded, IsClosed}
 use Rattle.wl_guard.specs.Ends.{StopsBy}
-use Rattle.wl_guard.specs.Guard.{GivesBack, GuardState, Sent, new_guard, unread}
-use Rattle.wl_guard.specs.Known.{Known, nothing_known}
+use Rattle.wl_guard.specs.Guard.{GuardState, new_guard, unread}
+use Rattle.wl_guard.specs.Known.{Known}
 use Rattle.wl_guard.specs.Passages.{Passage, Passes}
 use Rattle.wl_guard.specs.Policy.{PolicyState}
 use Rattle.wl_guard.specs.Runs.{Call, Came, Does, GaveBack, Leads, WasSent}

@@ -1,5 +1,5 @@
 -- What holds of each object that is held, also after a message, if it holds of the object that the message makes.
-use Rattle.std.specs.Prelude.{◌≡◌, ◌≢◌, ℕ, ◌⊎◌, ◌==◌, ◌&&◌, Bool, true, false, List, [], ◌∷◌, length, Option, None, Some, MatchBool, MatchOption, if◌then◌else◌}
+use Rattle.std.specs.Prelude.{◌≡◌, ◌≢◌, ℕ, ◌⊎◌, ◌==◌, Bool, true, false, List, [], ◌∷◌, Option, None, Some, MatchBool, MatchOption, if◌then◌else◌}
 use Rattle.std.proofs.Common.{arith, inl, inr, refl, subst, sym, ◌∙◌}
 use Rattle.wl_wire.specs.declared.argument.Argument.TheVariants as arg
 use Rattle.wl_wire.specs.declared.interface.InterfaceId.{InterfaceId}
@@ -17,7 +17,7 @@ use Rattle.wl_follow.specs.declared.side.Fault.TheVariants as fault
 use Rattle.wl_follow.specs.declared.side.Side.{Side}
 use Rattle.wl_follow.specs.declared.side.Side.TheVariants.{Client, Server}
 
-same_or_not : (m n : ℕ) → (m ≡ n) ⊎ (m ≢ n)
+pub same_or_not : (m n : ℕ) → (m ≡ n) ⊎ (m ≢ n)
 same_or_not m n = grind arith
 
 pub some_same : {A : Type 0} (x y : A) → Some x ≡ Some y → x ≡ y

@@ -1,5 +1,5 @@
 -- That what is passed one message after another is passed.
-use Rattle.std.specs.Prelude.{◌≡◌, ℕ, ◌<◌, ◌≤◌, List, [], ◌∷◌, ◌++◌, length, Option, None, Some, Result, Ok, Err}
+use Rattle.std.specs.Prelude.{◌≡◌, ℕ, ◌<◌, List, [], ◌∷◌, ◌++◌, length, Option, None, Some, Result, Ok, Err}
 use Rattle.std.proofs.Common.{ap, append_assoc, append-nil, arith, inl, inr, refl, subst, sym, ◌∙◌}
 use Rattle.std.proofs.lemmas.List.{length-drop, take-append-drop}
 use Rattle.wl_wire.specs.declared.argument.ArgumentType.{ArgumentType}
@@ -9,7 +9,7 @@ use Rattle.wl_wire.specs.Message.{WireMessage}
 use Rattle.wl_wire.specs.Parse.{IsThere, ReadsMessage, fd_count, length_of, payload_of}
 use Rattle.wl_wire.specs.Table.{InterfaceRow, MessageRow}
 use Rattle.wl_link.specs.declared.object.Object.{Object}
-use Rattle.wl_link.specs.Exchange.{Queue, joined, nothing}
+use Rattle.wl_link.specs.Exchange.{Queue, joined}
 use Rattle.wl_link.specs.HandOn.{first_of}
 use Rattle.wl_link.specs.Link.{after_first}
 use Rattle.wl_link.specs.Store.{Store}
@@ -126,7 +126,7 @@ module _ (p : PolicyState) (side : Side) where
   broken r k k1 k2 q q1 q2 out out1 out2 released released1 released2 before step = (
     k1,
     passed_so k k1 q q1 q2 out out1 out2 released released1 released2 before step.0,
-    subst (λ (x : Queue). Breaks p side k1 x r) (sym step.0.0) step.1,
+    (step.1, subst (λ (x : Queue). Breaks p side k1 x r) (sym step.0.0) step.2),
   )
 
   pub without_memory : (e : OutOfMemory) (k k1 k2 : Known) (q q1 q2 out out1 out2 : Queue) (released released1 released2 : List Token)
@@ -208,11 +208,11 @@ module _ (p : PolicyState) (side : Side) where
   pub unread_steps : (k : Known) (q q' out : Queue) (released : List Token) (reason : NoMessage) (answer : Result Passed OutOfMemory) → q' ≡ q
       → HasNoMessage p.table k.objects side q reason → UnreadAs reason answer → StepsAs p side k q out released answer k q' out released
   unread_steps k q q' out released (none.Unknown sender opcode) answer same lacks is =
-      subst (λ (a : Result Passed OutOfMemory). StepsAs p side k q out released a k q' out released) (sym is) ((same, refl, refl), inl (refl, (sender, opcode, lacks)))
+      subst (λ (a : Result Passed OutOfMemory). StepsAs p side k q out released a k q' out released) (sym is) ((same, refl, refl), refl, inl (refl, (sender, opcode, lacks)))
   unread_steps k q q' out released none.Incomplete answer same lacks is =
       subst (λ (a : Result Passed OutOfMemory). StepsAs p side k q out released a k q' out released) (sym is) (refl, (same, refl, refl), lacks)
   unread_steps k q q' out released none.Malformed answer same lacks is =
-      subst (λ (a : Result Passed OutOfMemory). StepsAs p side k q out released a k q' out released) (sym is) ((same, refl, refl), inr (inl (refl, lacks)))
+      subst (λ (a : Result Passed OutOfMemory). StepsAs p side k q out released a k q' out released) (sym is) ((same, refl, refl), refl, inr (inl (refl, lacks)))
   unread_steps k q q' out released none.OutOfMemory (Ok x) same lacks is = let e = is in absurd cc
   unread_steps k q q' out released none.OutOfMemory (Err e) same lacks is = (same, refl, refl)
 

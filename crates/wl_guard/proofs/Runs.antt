@@ -1,17 +1,16 @@
 -- What follows of calls one after another.
-use Rattle.std.specs.Prelude.{◌≡◌, ℕ, ◌==◌, ◌⊎◌, Bool, true, false, List, [], ◌∷◌, ◌++◌, drop, length, min, take, Option, None, Some, IsSome, if◌then◌else◌}
-use Rattle.std.proofs.Common.{ap, arith, inl, inr, refl, subst, sym, ◌∙◌}
+use Rattle.std.specs.Prelude.{◌≡◌, ℕ, ◌==◌, ◌⊎◌, Bool, true, false, List, [], ◌∷◌, ◌++◌, drop, min, take, Option, None, Some, IsSome, if◌then◌else◌}
+use Rattle.std.proofs.Common.{ap, inl, inr, refl, subst, sym, ◌∙◌}
 use Rattle.std.proofs.lemmas.List.{take-append-drop}
 use Rattle.wl_wire.specs.declared.argument.Token.{Token}
 use Rattle.wl_link.specs.Exchange.{Queue, joined, nothing}
 use Rattle.wl_link.proofs.Calls.QueueLaws.{joined_assoc, joined_nothing, queue_is}
-use Rattle.wl_follow.specs.Sides.{other_side}
 use Rattle.wl_follow.specs.declared.side.Side.{Side}
 use Rattle.wl_follow.specs.declared.side.Side.TheVariants.{Client, Server}
 use Rattle.wl_guard.specs.Ends.{StopsBy, told_end, told_for}
 use Rattle.wl_guard.specs.Guard.{Arrives, GivesBack, GuardState, Sent, new_guard, to_send, unread}
 use Rattle.wl_guard.specs.Known.{Known}
-use Rattle.wl_guard.specs.Passages.{Passage, Passes, all_pieces, all_sent}
+use Rattle.wl_guard.specs.Passages.{Passage, all_pieces, all_sent}
 use Rattle.wl_guard.specs.Policy.{PolicyState}
 use Rattle.wl_guard.specs.Queues.{left_after, offered, part_sent}
 use Rattle.wl_guard.specs.Runs.{Call, Came, Does, GaveBack, Leads, WasSent, all_came, all_out, all_passed, came_in, out_in, passed_in}
@@ -38,11 +37,11 @@ sent_out count q q' out left is =
 
 -- ---- what is told of an end
 
-told_none : (p : PolicyState) (k : Known) (e : Option End) (q : Queue) → e ≡ None → told_end p k e q ≡ q
+pub told_none : (p : PolicyState) (k : Known) (e : Option End) (q : Queue) → e ≡ None → told_end p k e q ≡ q
 told_none p k e q is = ap (λ (x : Option End). told_end p k x q) is
 
 -- the compositor is told of none
-told_server : (p : PolicyState) (last k : Known) (rest : Queue) (e : Option End) (q : Queue) → StopsBy p Server last rest e k → told_end p k e q ≡ q
+pub told_server : (p : PolicyState) (last k : Known) (rest : Queue) (e : Option End) (q : Queue) → StopsBy p Server last rest e k → told_end p k e q ≡ q
 told_server p last k rest None q stops = refl
 told_server p last k rest (Some end.OutOfMemory) q stops = refl
 told_server p last k rest (Some (end.Breach b)) q stops = ap (λ (s : Side). told_for p k b s q) stops.0
@@ -52,7 +51,7 @@ told_for_joined : (p : PolicyState) (k : Known) (b : Breach) (side : Side) (o q 
 told_for_joined p k b Client o q = sym (joined_assoc o q _)
 told_for_joined p k b Server o q = refl
 
-told_joined : (p : PolicyState) (k : Known) (e : Option End) (o q : Queue) → joined o (told_end p k e q) ≡ told_end p k e (joined o q)
+pub told_joined : (p : PolicyState) (k : Known) (e : Option End) (o q : Queue) → joined o (told_end p k e q) ≡ told_end p k e (joined o q)
 told_joined p k None o q = refl
 told_joined p k (Some end.OutOfMemory) o q = refl
 told_joined p k (Some (end.Breach b)) o q = told_for_joined p k b b.side o q
@@ -87,7 +86,7 @@ back_keeps before after t (inr (inr some)) = record {
 }
 
 -- a token that is given back before an end was not one of those to be read
-back_reads : (side : Side) (before after : GuardState) (t : Token) → GivesBack before (Some t) after → (IsSome before.end) ⊎ (unread side after ≡ unread side before)
+pub back_reads : (side : Side) (before after : GuardState) (t : Token) → GivesBack before (Some t) after → (IsSome before.end) ⊎ (unread side after ≡ unread side before)
 back_reads Client before after t (inl is) = inr (sym (ap (λ (g : GuardState). g.from_client) is))
 back_reads Server before after t (inl is) = inr (sym (ap (λ (g : GuardState). g.from_server) is))
 back_reads side before after t (inr (inl some)) = inl some.0
@@ -97,7 +96,7 @@ pub sent_keeps : (side : Side) (count : ℕ) (before after : GuardState) → Sen
 sent_keeps Client count before after is = (ap (λ (g : GuardState). g.known) is, ap (λ (g : GuardState). g.end) is)
 sent_keeps Server count before after is = (ap (λ (g : GuardState). g.known) is, ap (λ (g : GuardState). g.end) is)
 
-sent_reads : (by side : Side) (count : ℕ) (before after : GuardState) → Sent by count before after → unread side after ≡ unread side before
+pub sent_reads : (by side : Side) (count : ℕ) (before after : GuardState) → Sent by count before after → unread side after ≡ unread side before
 sent_reads Client Client count before after is = ap (λ (g : GuardState). g.from_client) is
 sent_reads Client Server count before after is = ap (λ (g : GuardState). g.from_server) is
 sent_reads Server Client count before after is = ap (λ (g : GuardState). g.from_client) is
@@ -111,11 +110,11 @@ sent_sends Client Server count out before after is out_is = ap (λ (g : GuardSta
 sent_sends Server Client count out before after is out_is = ap (λ (g : GuardState). g.to_client) is
 sent_sends Server Server count out before after is out_is = sent_out count before.to_server after.to_server out (ap (λ (g : GuardState). g.to_server) is) out_is
 
-back_sends : (side : Side) (before after : GuardState) → Keeps before after → to_send side after ≡ to_send side before
+pub back_sends : (side : Side) (before after : GuardState) → Keeps before after → to_send side after ≡ to_send side before
 back_sends Client before after keeps = keeps.to_client
 back_sends Server before after keeps = keeps.to_server
 
-not_some : (o : Option End) → o ≡ None → IsSome o → ⊥
+pub not_some : (o : Option End) → o ≡ None → IsSome o → ⊥
 not_some o none some = let e : IsSome {T = End} None = subst (λ (x : Option End). IsSome x) none some in absurd cc
 
 module _ (p : PolicyState) where

@@ -1,6 +1,6 @@
 -- What is written over a list of its length takes the place of all of it.
-use Rattle.std.specs.Prelude.{◌≡◌, ℕ, ◌≤◌, List, [], ◌++◌, drop, length, take}
-use Rattle.std.proofs.Common.{ap, append-nil, arith, refl, ◌∙◌}
+use Rattle.std.specs.Prelude.{◌≡◌, ℕ, List, [], ◌++◌, drop, length, take}
+use Rattle.std.proofs.Common.{ap, append-nil, arith, ◌∙◌}
 use Rattle.std.proofs.lemmas.List.{drop_all, take-append-le, take_all}
 
 pub overwritten : (payload old text : List ℕ) (len n : ℕ) → payload ≡ text ++ drop n old → n ≡ length text → length old ≡ len → n ≡ len

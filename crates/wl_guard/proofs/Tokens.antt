@@ -1,21 +1,20 @@
 -- That each token that came was sent, or given back, or is kept, once.
-use Rattle.std.specs.Prelude.{◌≡◌, ◌⊎◌, ℕ, ◌+◌, ◌==◌, Bool, true, false, List, [], ◌∷◌, ◌++◌, drop, min, take, Option, None, Some, IsSome, if◌then◌else◌}
+use Rattle.std.specs.Prelude.{◌≡◌, ℕ, ◌+◌, List, [], ◌∷◌, ◌++◌, Option, None, Some}
 use Rattle.std.specs.List.{sum_by}
-use Rattle.std.proofs.Common.{ap, arith, inl, inr, refl, subst, sym, ◌∙◌}
+use Rattle.std.proofs.Common.{ap, arith, inl, inr, refl}
 use Rattle.std.proofs.lemmas.List.Sums.{sum_by-append}
 use Rattle.wl_wire.specs.declared.argument.ArgumentType.{ArgumentType}
 use Rattle.wl_wire.specs.declared.argument.Token.{Token}
 use Rattle.wl_wire.specs.Message.{WireMessage}
-use Rattle.wl_link.specs.Exchange.{Queue, joined, nothing}
+use Rattle.wl_link.specs.Exchange.{Queue, joined}
 use Rattle.wl_link.specs.HandOn.{first_of}
 use Rattle.wl_follow.specs.declared.side.Side.{Side}
 use Rattle.wl_follow.specs.declared.side.Side.TheVariants.{Client, Server}
-use Rattle.wl_guard.specs.Ends.{error_of, told_end, told_for}
-use Rattle.wl_guard.specs.Guard.{Arrives, ArrivesAt, GivesBack, GuardState, new_guard}
+use Rattle.wl_guard.specs.Ends.{told_end, told_for}
+use Rattle.wl_guard.specs.Guard.{ArrivesAt, GuardState, new_guard}
 use Rattle.wl_guard.specs.Known.{Known}
 use Rattle.wl_guard.specs.Passages.{IsPassed, Passage, Passes, all_pieces, all_released, all_sent, released_for, sent_for}
 use Rattle.wl_guard.specs.Policy.{PolicyState}
-use Rattle.wl_guard.specs.Queues.{left_after, offered, part_sent}
 use Rattle.wl_guard.specs.Runs.{Call, Came, Does, GaveBack, Leads, WasSent, all_back, all_came, all_out, back_in, came_in, kept_weight, out_in, weight_in, weight_out}
 use Rattle.wl_guard.specs.declared.ending.Breach.{Breach}
 use Rattle.wl_guard.specs.declared.ending.End.{End}

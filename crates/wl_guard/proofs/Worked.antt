@@ -1,10 +1,10 @@
 -- Rows that were worked out by hand: what is remembered, what becomes of announcements, requests and removals, and what goes out in one
 -- send.
-use Rattle.std.specs.Prelude.{◌≡◌, ℕ, true, false, List, [], ◌∷◌, codes, None, Some, pos}
+use Rattle.std.specs.Prelude.{◌≡◌, true, false, [], ◌∷◌, codes, None, Some, pos}
 use Rattle.std.proofs.Common.{refl}
 use Rattle.wl_wire.specs.declared.argument.Argument.TheVariants as arg
 use Rattle.wl_follow.specs.declared.side.Side.TheVariants.{Client, Server}
-use Rattle.wl_guard.specs.Events.{announcement_of, fate_of_removal, lowered}
+use Rattle.wl_guard.specs.Events.{fate_of_removal, lowered}
 use Rattle.wl_guard.specs.Known.{has_place, is_beyond, told_of, with_told, without}
 use Rattle.wl_guard.specs.Policy.{PolicyState, allowed_version, new_policy}
 use Rattle.wl_guard.specs.Queues.{left_after, one_send, part_sent}

@@ -1,12 +1,12 @@
 -- The interfaces that objects of a connection may have, and the numbers that they may have.
-use Rattle.std.specs.Prelude.{◌≡◌, ℕ, ◌+◌, ◌<◌, ◌≤◌, ◌⊎◌, Bool, true, false, length, Option, None, Some}
+use Rattle.std.specs.Prelude.{◌≡◌, ℕ, ◌+◌, ◌<◌, ◌≤◌, ◌⊎◌, Bool, true, false, List, [], ◌∷◌, length, Some}
 use Rattle.wl_wire.specs.declared.interface.InterfaceId.{InterfaceId}
 use Rattle.wl_wire.specs.Table.{MessageRow, name_of}
 use Rattle.wl_link.specs.declared.object.Object.{Object}
 use Rattle.wl_link.specs.Store.{Store, held, server_range}
 use Rattle.wl_follow.specs.Fronts.{row_at}
 use Rattle.wl_follow.specs.declared.side.Side.TheVariants.{Client, Server}
-use Rattle.wl_guard.specs.Known.{Known}
+use Rattle.wl_guard.specs.Known.{Known, is_one_of}
 use Rattle.wl_guard.specs.Policy.{PolicyState, allowed_version, lists}
 
 -- A set of interfaces that has the display and those of whose name the policy allows a global, and that no message leaves: no request
@@ -29,7 +29,13 @@ abbrev pub AreBelow : PolicyState → Store (Unit {0}) → Type 0
 AreBelow p objects =
     (n : ℕ) (x : Object (Unit {0})) → held objects n ≡ Some x → (n ≡ 1) ⊎ (n < p.limits.objects) ⊎ ((server_range.first ≤ n) × (n < server_range.first + p.limits.objects))
 
--- nothing is kept beyond the limits
+-- each number is that of an object, and stands there once
+abbrev pub AreOnce : Store (Unit {0}) → List ℕ → Type 0
+AreOnce objects [] = Unit {0}
+AreOnce objects (n ∷ ns) = ((x : Object (Unit {0})) × (held objects n ≡ Some x)) × (is_one_of ns n ≡ false) × AreOnce objects ns
+
+-- Nothing is kept beyond the limits. The numbers that the client has ended are those of objects, each once, so they are no more than these.
 pub record IsBounded (p : PolicyState) (k : Known) : Type 0 where
   pub objects : AreBelow p k.objects
   pub globals : length k.told ≤ p.limits.globals
+  pub ended : AreOnce k.objects k.ended

@@ -34,11 +34,11 @@ front_sender q = if nat_lt (length q.bytes) 8 then 0 else sender_of q.bytes
 abbrev pub front_opcode : Queue → ℕ
 front_opcode q = if nat_lt (length q.bytes) 8 then 0 else opcode_of q.bytes
 
--- Why no more is passed of what a side sent. The breach names the message at the front.
+-- Why no more is passed of what a side sent. The breach names the message at the front, which makes no object.
 abbrev pub StopsBy : PolicyState → Side → Known → Queue → Option End → Known → Type 0
 StopsBy p side k q None k' = (k' ≡ k) × Awaits p side k q × (hoards q ≡ false)
 StopsBy p side k q (Some (end.Breach b)) k' =
-    (b.side ≡ side) × (b.object ≡ front_sender q) × (b.opcode ≡ front_opcode q)
+    (b.side ≡ side) × (b.object ≡ front_sender q) × (b.opcode ≡ front_opcode q) × (k'.objects ≡ k.objects)
     × (Breaks p side k q b.rule ⊎ ((b.rule ≡ rule.Descriptors) × Awaits p side k q × (hoards q ≡ true)))
 StopsBy p side k q (Some end.OutOfMemory) k' = Unit {0}
 

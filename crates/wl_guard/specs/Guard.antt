@@ -1,5 +1,5 @@
 -- A guard, as its callers see it.
-use Rattle.std.specs.Prelude.{◌≡◌, ◌⊎◌, ℕ, List, [], ◌∷◌, ◌++◌, Option, None, Some, IsSome}
+use Rattle.std.specs.Prelude.{◌≡◌, ◌≤◌, ◌⊎◌, ℕ, List, [], ◌∷◌, ◌++◌, length, Option, None, Some, IsSome}
 use Rattle.wl_wire.specs.declared.argument.Token.{Token}
 use Rattle.wl_link.specs.Exchange.{Queue, joined, nothing}
 use Rattle.wl_follow.specs.Sides.{other_side}
@@ -49,9 +49,11 @@ pub record ArrivesAt (p : PolicyState) (side : Side) (k : Known) (q out back : Q
   pub told : back' ≡ told_end p k' end back
   pub back_is : released' ≡ released ++ all_released passages
 
--- This came from the side, and was passed behind what was not read yet. What the other side sent stays as it was.
+-- This came from the side, and was passed behind what was not read yet: the connection had not ended, and there was room for the other
+-- side. What that sent stays as it was.
 pub record Arrives (p : PolicyState) (side : Side) (came : Queue) (before after : GuardState) : Type 0 where
   pub begun : before.end ≡ None
+  pub room : length (to_send (other_side side) before).bytes ≤ p.limits.waiting
   pub at : ArrivesAt p side before.known (joined (unread side before) came) (to_send (other_side side) before) (to_send side before) before.released
       after.end after.known (unread side after) (to_send (other_side side) after) (to_send side after) after.released
   pub other : unread (other_side side) after ≡ unread (other_side side) before

@@ -1,5 +1,5 @@
 -- What a guard knows of a session: the objects, what the client was told of globals, and which objects the client has ended.
-use Rattle.std.specs.Prelude.{ℕ, Bool, true, false, not, ◌&&◌, ◌||◌, ◌==◌, ◌-◌, nat_le, nat_lt, List, [], ◌∷◌, filter, is_some, length, Option, None, Some, if◌then◌else◌}
+use Rattle.std.specs.Prelude.{ℕ, Bool, false, not, ◌&&◌, ◌||◌, ◌==◌, ◌-◌, nat_le, nat_lt, List, [], ◌∷◌, filter, is_some, length, Option, None, Some, if◌then◌else◌}
 use Rattle.std.specs.List.{list_any}
 use Rattle.wl_link.specs.Store.{Store, client_range, server_range}
 use Rattle.wl_follow.specs.Objects.{first_objects}

@@ -4,6 +4,7 @@ pub mod Known
 pub mod Requests
 pub mod Events
 pub mod Passages
+pub mod Fates
 pub mod Steps
 pub mod Ends
 pub mod Queues

@@ -141,8 +141,24 @@ RefusesIgnore p name request e = RefusesRefuse p name request e
 
 -- ---- what holds of each policy
 
--- Each version that is allowed is that of an interface of the program, and at most the table's; each request that is ignored makes no
--- object and ends none; and no request lets the client choose.
+-- a call that gave a policy a rule
+pub data Given : Type 0 where
+  Allowed : (name : List ℕ) (version : ℕ) → Given
+  Refused : (name request : List ℕ) → Given
+  Ignored : (name request : List ℕ) → Given
+
+abbrev pub Gives : PolicyState → Given → PolicyState → Type 0
+Gives p (Allowed name version) p' = Allows p name version p'
+Gives p (Refused name request) p' = Refuses p name request p'
+Gives p (Ignored name request) p' = Ignores p name request p'
+
+-- calls one after another
+abbrev pub GivesAll : PolicyState → List Given → PolicyState → Type 0
+GivesAll p [] p' = p' ≡ p
+GivesAll p (g ∷ given) p' = (mid : PolicyState) × Gives p g mid × GivesAll mid given p'
+
+-- There is a version for each interface of the table. One that is allowed is of none of the fixed four, and at most the table's; each
+-- request that is ignored makes no object and ends none; and no request lets the client choose.
 pub record IsSound (p : PolicyState) : Type 0 where
   pub count : length p.versions ≡ length p.table
   pub named : (i : InterfaceId) → 1 ≤ allowed_version p i → 4 ≤ i.0

@@ -1,10 +1,11 @@
 -- Calls of a guard, one after another.
-use Rattle.std.specs.Prelude.{◌≡◌, ℕ, ◌+◌, List, [], ◌∷◌, ◌++◌, Some}
+use Rattle.std.specs.Prelude.{◌≡◌, ℕ, ◌+◌, List, [], ◌∷◌, ◌++◌, length, max, Some}
 use Rattle.std.specs.List.{sum_by}
 use Rattle.wl_wire.specs.declared.argument.Token.{Token}
 use Rattle.wl_link.specs.Exchange.{Queue, joined, nothing}
 use Rattle.wl_follow.specs.declared.side.Side.{Side}
 use Rattle.wl_follow.specs.declared.side.Side.TheVariants.{Client, Server}
+use Rattle.wl_guard.specs.Ends.{told_end}
 use Rattle.wl_guard.specs.Guard.{Arrives, GivesBack, GuardState, Sent, to_send}
 use Rattle.wl_guard.specs.Passages.{Passage}
 use Rattle.wl_guard.specs.Policy.{PolicyState}
@@ -68,6 +69,18 @@ back_in _ = []
 abbrev pub all_back : List Call → List Token
 all_back [] = []
 all_back (c ∷ calls) = back_in c ++ all_back calls
+
+-- ---- bytes
+
+-- the most bytes that came from the side in one call
+abbrev pub most_came : Side → List Call → ℕ
+most_came side [] = 0
+most_came side (c ∷ calls) = max (length (came_in side c).bytes) (most_came side calls)
+
+-- the error that the side was told, if there is one
+abbrev pub error_to : PolicyState → Side → GuardState → Queue
+error_to p Client g = told_end p g.known g.end nothing
+error_to p Server g = nothing
 
 -- ---- tokens
 

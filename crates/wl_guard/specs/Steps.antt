@@ -18,13 +18,14 @@ use Rattle.wl_guard.specs.declared.session.Rule.TheVariants as rule
 abbrev pub Stays : Queue → Queue → List Token → Queue → Queue → List Token → Type 0
 Stays q out released q' out' released' = (q' ≡ q) × (out' ≡ out) × (released' ≡ released)
 
--- The first message was passed; or it awaits more; or it breaks a rule; or there was no memory.
+-- The first message was passed; or it awaits more; or it breaks a rule, and makes no object; or there was no memory.
 abbrev pub StepsAs : PolicyState → Side → Known → Queue → Queue → List Token → Result Passed OutOfMemory → Known → Queue → Queue → List Token → Type 0
 StepsAs p side k q out released (Ok passed.One) k' q' out' released' =
     ((x : Passage) × IsPassed p side k q x k' q' × (out' ≡ joined out x.sent) × (released' ≡ released ++ x.released))
     × (length q'.bytes < length q.bytes)
 StepsAs p side k q out released (Ok passed.Nothing) k' q' out' released' = (k' ≡ k) × Stays q out released q' out' released' × Awaits p side k q
-StepsAs p side k q out released (Ok (passed.Breach r)) k' q' out' released' = Stays q out released q' out' released' × Breaks p side k q r
+StepsAs p side k q out released (Ok (passed.Breach r)) k' q' out' released' =
+    Stays q out released q' out' released' × (k'.objects ≡ k.objects) × Breaks p side k q r
 StepsAs p side k q out released (Err _) k' q' out' released' = Stays q out released q' out' released'
 
 -- what it means that no message was read
@@ -44,7 +45,7 @@ pub record HasPassed (p : PolicyState) (side : Side) (k : Known) (q out : Queue)
 -- why no more was: more is awaited; or a rule was broken; or there was no memory
 abbrev pub StopsAs : PolicyState → Side → Known → Queue → Result (Option Rule) OutOfMemory → Known → Type 0
 StopsAs p side k q (Ok None) k' = (k' ≡ k) × Awaits p side k q
-StopsAs p side k q (Ok (Some r)) k' = Breaks p side k q r
+StopsAs p side k q (Ok (Some r)) k' = (k'.objects ≡ k.objects) × Breaks p side k q r
 StopsAs p side k q (Err _) k' = Unit {0}
 
 -- The messages of what a side sent were passed, up to one that is not: of that and of what follows it, nothing is sent nor given back.

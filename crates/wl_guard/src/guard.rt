@@ -1,6 +1,6 @@
 //! The guard.
 
-ghost use Rattle.std.specs.Prelude.{◌≡◌, ◌↔◌, ◌<◌, Err, IfErr, IfOk, IsSome, None, OnErr, OnOk, length};
+ghost use Rattle.std.specs.Prelude.{◌≡◌, ◌↔◌, ◌<◌, ◌≤◌, Err, IfErr, IfOk, IsSome, None, OnErr, OnOk, length};
 ghost use Rattle.wl_link.specs.Exchange.{joined};
 ghost use Rattle.wl_follow.specs.Sides.{other_side};
 ghost use Rattle.wl_follow.specs.declared.side.Side.TheVariants.{Client, Server};
@@ -170,7 +170,7 @@ impl Guard {
         bytes: &[u8],
         tokens: &[Token],
     ) -> Result<(), ArriveError>
-        ensures arrived { OnOk result (self.old.end ≡ None → Arrives policy.now Client (record { bytes = bytes.now; tokens = tokens.now }) self.old self.new) }
+        ensures arrived { OnOk result (self.old.end ≡ None → length self.old.to_server.bytes ≤ policy.now.limits.waiting → Arrives policy.now Client (record { bytes = bytes.now; tokens = tokens.now }) self.old self.new) }
         ensures unchanged { OnErr result (self.new ≡ self.old) }
         ensures memory { IfErr result (λ e. e ≡ NoMemory) }
     {
@@ -195,7 +195,7 @@ impl Guard {
         bytes: &[u8],
         tokens: &[Token],
     ) -> Result<(), ArriveError>
-        ensures arrived { OnOk result (self.old.end ≡ None → Arrives policy.now Server (record { bytes = bytes.now; tokens = tokens.now }) self.old self.new) }
+        ensures arrived { OnOk result (self.old.end ≡ None → length self.old.to_client.bytes ≤ policy.now.limits.waiting → Arrives policy.now Server (record { bytes = bytes.now; tokens = tokens.now }) self.old self.new) }
         ensures unchanged { OnErr result (self.new ≡ self.old) }
         ensures memory { IfErr result (λ e. e ≡ NoMemory) }
     {

@@ -2,18 +2,39 @@
 //!
 //! A call that answers an error changes nothing, and stands in no list.
 
-ghost use Rattle.std.specs.Prelude.{◌≡◌, ◌+◌, ℕ, Bool, List, [], IsSome, None, true};
+ghost use Rattle.std.specs.Prelude.{◌≡◌, ◌+◌, ◌≤◌, ℕ, Bool, List, [], IsSome, None, Some, length, slice_get, true};
+ghost use Rattle.std.specs.List.{AllByRecursion};
 ghost use Rattle.wl_wire.specs.declared.argument.Token.{Token};
 ghost use Rattle.wl_wire.specs.declared.interface.InterfaceId.{InterfaceId};
+ghost use Rattle.wl_wire.specs.Table.{InterfaceRow};
 ghost use Rattle.wl_link.specs.Exchange.{Queue, joined};
+ghost use Rattle.wl_follow.specs.Sides.{other_side};
 ghost use Rattle.wl_follow.specs.declared.side.Side.{Side};
 ghost use Rattle.wl_follow.specs.declared.side.Side.TheVariants.{Client, Server};
 ghost use Rattle.wl_guard.specs.Closure.{AreWithin, IsBounded, IsClosed};
 ghost use Rattle.wl_guard.specs.Ends.{told_end};
-ghost use Rattle.wl_guard.specs.Guard.{GuardState, new_guard, to_send};
+ghost use Rattle.wl_guard.specs.Fates.{IsEvent, IsRequest};
+ghost use Rattle.wl_guard.specs.Guard.{GuardState, new_guard, to_send, unread};
 ghost use Rattle.wl_guard.specs.Passages.{all_pieces, all_sent};
-ghost use Rattle.wl_guard.specs.Policy.{PolicyState};
-ghost use Rattle.wl_guard.specs.Runs.{Call, Leads, all_came, all_out, all_passed, kept_weight, weight_in, weight_out};
+ghost use Rattle.wl_guard.specs.Policy.{Given, GivesAll, IsSound, LetsNoneChoose, PolicyState, new_policy};
+ghost use Rattle.wl_guard.specs.Requests.{BindsTold};
+ghost use Rattle.wl_guard.specs.Runs.{Call, Leads, all_came, all_out, all_passed, error_to, kept_weight, most_came, weight_in, weight_out};
+ghost use Rattle.wl_guard.specs.declared.policy.Limits.{Limits};
+ghost use Rattle.wl_guard.specs.declared.session.Told.{Told};
+
+/// Each policy that calls made of a new one is sound, if no request of its table makes an object of no named interface.
+pub fn each_policy_is_sound()
+    ensures { (table : List InterfaceRow) (limits : Limits) (given : List Given) (p : PolicyState) → LetsNoneChoose table
+        → GivesAll (new_policy table limits) given p → IsSound p }
+{}
+
+/// By a sound policy a bind that may be made is of an interface of the table that is none of the fixed four, in a version that the table
+/// has.
+pub fn binds_are_of_the_table()
+    ensures { (p : PolicyState) (told : List Told) (number : ℕ) (name : List ℕ) (version : ℕ) (binds : BindsTold p told number name version) → IsSound p
+        → (4 ≤ binds.last.interface.0)
+        × ((row : InterfaceRow) × (slice_get p.table binds.last.interface.0 ≡ Some row) × (row.name ≡ name) × (version ≤ row.version)) }
+{}
 
 /// Of a new guard: what the compositor was sent, and then what is to be sent to it, is what goes on for the messages that were passed of
 /// the client. And these are the first of what the client sent, one after another: none is left out.
@@ -32,15 +53,37 @@ pub fn only_what_is_hidden_is_hidden()
         × ((rest : Queue) × (joined (all_pieces (all_passed Server calls)) rest ≡ all_came Server calls)) }
 {}
 
+/// Each request that was passed is exactly as long as its arguments, is one of the version of its object, and is not refused. It goes on
+/// as it came, unless the policy ignores it: then nothing goes on, and its tokens are given back.
+pub fn only_what_is_allowed_goes_on()
+    ensures { (p : PolicyState) (calls : List Call) (before after : GuardState) → Leads p before calls after → AllByRecursion (IsRequest p) (all_passed Client calls) }
+{}
+
+/// Each event that was passed goes on as it came, unless it is of a registry: an announcement of a global that the policy does not allow
+/// is dropped, one above the allowed version has that version, and a removal may be dropped.
+pub fn only_globals_are_hidden()
+    ensures { (p : PolicyState) (calls : List Call) (before after : GuardState) → Leads p before calls after → AllByRecursion (IsEvent p) (all_passed Server calls) }
+{}
+
 /// Each object, as long as the connection has not ended, is of an interface of each closed set: so of the policy's closure.
 pub fn objects_stay_within_the_policy()
     ensures { (p : PolicyState) (set : InterfaceId → Bool) (calls : List Call) (after : GuardState) → IsClosed p set → Leads p new_guard calls after
         → after.end ≡ None → AreWithin set after.known.objects }
 {}
 
-/// As long as the connection has not ended, nothing is kept beyond the limits.
+/// As long as the connection has not ended, nothing is kept beyond the limits, and the numbers that the client has ended are those of
+/// objects, each once.
 pub fn what_is_kept_is_bounded()
     ensures { (p : PolicyState) (calls : List Call) (after : GuardState) → Leads p new_guard calls after → after.end ≡ None → IsBounded p after.known }
+{}
+
+/// Of a new guard: never more bytes wait for a side than the limit, the 65535 of the other side that may wait to be read, and those that
+/// came of it in one call; but for the error, if there is one. As long as the connection has not ended, no more wait to be read of a side
+/// than those, and 112 tokens.
+pub fn what_waits_is_bounded()
+    ensures { (p : PolicyState) (calls : List Call) (after : GuardState) (side : Side) → Leads p new_guard calls after
+        → (length (to_send side after).bytes ≤ p.limits.waiting + 65535 + most_came (other_side side) calls + length (error_to p side after).bytes)
+        × (after.end ≡ None → (length (unread side after).bytes ≤ 65535) × (length (unread side after).tokens ≤ 112)) }
 {}
 
 /// Once the connection has ended, nothing more is passed of either side, and it stays so.

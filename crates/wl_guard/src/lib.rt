@@ -4,7 +4,7 @@
 //! |---|---|---|
 //! | what a client may do | `policy` | `Policy` |
 //! | what is known of a session | `session` | `Known` |
-//! | which requests may be made, what the client is told, and what becomes of each message | `session` | `Requests`, `Events`, `Passages`, `Steps` |
+//! | which requests may be made, what the client is told, and what becomes of each message | `session` | `Requests`, `Events`, `Passages`, `Steps`, `Fates` |
 //! | how a connection ends | `ending` | `Ends` |
 //! | what waits on both ways | `bytes`, `inbox`, `outbox` | `Queues` |
 //! | the guard | `guard` | `Guard` |

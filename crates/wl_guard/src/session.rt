@@ -1,6 +1,6 @@
 //! What a guard knows of a session, and what becomes of a message.
 
-ghost use Rattle.std.specs.Prelude.{◌≡◌, ◌≢◌, ◌<◌, ◌≤◌, ◌⊎◌, ◌==◌, ◌↔◌, ◌++◌, IfOk, IsTrue, MatchBool, MatchOption, OnErr, OnOk, filter, not};
+ghost use Rattle.std.specs.Prelude.{◌≡◌, ◌≢◌, ◌<◌, ◌≤◌, ◌⊎◌, ◌==◌, ◌↔◌, ◌++◌, IfOk, IsTrue, MatchBool, MatchOption, OnErr, OnOk, OnSome, filter, not};
 ghost use Rattle.wl_wire.specs.Message.{content, size};
 ghost use Rattle.wl_wire.specs.Parse.{IsThere};
 ghost use Rattle.wl_wire.specs.Table.{message_row, name_of};
@@ -413,7 +413,7 @@ fn judge(
     }
 }
 
-/// Notes the objects of a message of which this becomes.
+/// Notes the objects of a message of which this becomes. At a fault they are as before.
 fn note_under(
     table: &Protocol,
     objects: &mut ObjectMap<()>,
@@ -421,8 +421,9 @@ fn note_under(
     message: &Message<u32, Token>,
     fate: Fate,
 ) -> Result<Option<Fault>, OutOfMemory>
-    ensures { IfOk result (λ fault. NotesUnder table.now found.entry.side (object_of found.entry.interface found.entry.version) (message_row found.entry.desc.now)
+    ensures noted { IfOk result (λ fault. NotesUnder table.now found.entry.side (object_of found.entry.interface found.entry.version) (message_row found.entry.desc.now)
         (content message.now) fate objects.old.store fault objects.new.store) }
+    ensures refused { IfOk result (λ fault. OnSome fault (objects.new.store ≡ objects.old.store)) }
 {
     match fate {
         Fate::HandOn => note_objects(

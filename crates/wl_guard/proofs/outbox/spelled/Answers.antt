@@ -1,5 +1,5 @@
 -- That the message takes all of the room that was made for it.
-use Rattle.std.proofs.Common.{List, ◌++◌, ◌≡◌, ap, arith, drop, ℕ, ◌∙◌}
+use Rattle.std.proofs.Common.{List, ◌++◌, ap, arith, drop, ℕ, ◌∙◌}
 use Rattle.wl_wire.specs.Message.{content, spelling}
 use Rattle.wl_wire.proofs.Spelling.RoundTrip.{length-spelling}
 use Rattle.wl_guard.proofs.Spelled.{overwritten}

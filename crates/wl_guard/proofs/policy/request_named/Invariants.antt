@@ -1,5 +1,5 @@
 -- That no request so far has the name.
-use Rattle.std.proofs.Common.{◌≡◌, ◌≢◌, ℕ, ◌<◌}
+use Rattle.std.proofs.Common.{◌≢◌, ℕ, ◌<◌}
 use Rattle.std.specs.Prelude.{Some, slice_get}
 use Rattle.wl_wire.specs.Table.{interface_row}
 use Rattle.wl_guard.specs.Policy.{name_in}

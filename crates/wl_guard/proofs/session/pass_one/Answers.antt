@@ -1,5 +1,4 @@
 -- That the first message was passed, or why it was not.
-use Rattle.std.proofs.Common.{refl}
 use Rattle.wl_wire.specs.Message.{content}
 use Rattle.wl_wire.specs.Table.{message_row}
 use Rattle.wl_follow.specs.Objects.{object_of}

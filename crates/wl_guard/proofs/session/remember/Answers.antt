@@ -1,7 +1,7 @@
 -- That the announcement takes the place of the first one of its number.
-use Rattle.std.proofs.Common.{List, ◌<◌, ◌≡◌, ap, arith, get_or, length, slice_set, sym, ◌∙◌}
+use Rattle.std.proofs.Common.{List, ◌<◌, ap, arith, get_or, length, slice_set, sym, ◌∙◌}
 use Rattle.wl_guard.specs.declared.session.Told.{Told}
-use Rattle.wl_guard.proofs.Announced.{goes_on, is_replaced}
+use Rattle.wl_guard.proofs.Announced.{is_replaced}
 use Rattle.wl_guard.proofs.session.remember.Goals as goal
 
 pub returns-then-index-announced-clause-ok : goal.returns-then-index-announced-clause-ok
