@@ -16,10 +16,11 @@
  *   6. Forget what nb_server_next_note says is gone. Close each descriptor that nb_server_next_dropped answers.
  *
  * Places. A session lives in a *place*: an nb_server or nb_client of yours, which has zeros in it at first (NB_EMPTY).
- * So do queues of events, in an nb_queues. The memory comes from malloc and goes back by free; nb_server_end,
- * nb_client_end and nb_queues_end give all of it back. A place may stand anywhere, and may be moved between calls, but
- * it must not be copied while it is in use: two places with one session would free it twice. A place that is empty or
- * ended answers NB_NO_SESSION to each call but the one that makes a session, or queues.
+ * So do queues of events, a policy and a guard, in an nb_queues, nb_policy and nb_guard. The memory comes from malloc
+ * and goes back by free; nb_server_end, nb_client_end, nb_queues_end, nb_policy_end and nb_guard_end give all of it
+ * back. A place may stand anywhere, and may be moved between calls, but it must not be copied while it is in use: two
+ * places with one session would free it twice. A place that is empty or ended answers NB_NO_SESSION to each call but
+ * the one that makes what is to be there.
  *
  * Threads. A place is for one thread at a time: any thread may call, if a lock of yours, or the start or end of a
  * thread, lies between two calls of one place. Different places have nothing to do with each other. The library has no
@@ -1386,6 +1387,131 @@ nb_status nb_queues_argument(nb_queues *place, uint64_t ticket, size_t index, si
  * Statuses: NB_INVALID_ID (no event is in hand with the ticket). */
 nb_status nb_queues_finish(nb_queues *place, uint64_t ticket, uint64_t *content);
 
+/* ======== A guard
+ *
+ * For a program between a client and its compositor: numbyroga-guard is one. It takes what both sides send, and hands on
+ * what a policy allows. The policy says which globals the client is told of and may bind, up to which version, and which
+ * requests it may not make; it has the table under which both sides are read. Nothing is allowed at first.
+ *
+ *   1. Make a policy by nb_policy_new, and give it its rules.
+ *   2. For each client make a guard by nb_guard_new, and connect to the compositor.
+ *   3. Receive from a side: nb_guard_received. Then send to both sides, while nb_guard_to_send has something:
+ *      nb_guard_to_send, sendmsg, nb_guard_sent.
+ *   4. Close each descriptor that nb_guard_next_released answers.
+ *   5. Once nb_guard_how_ended tells an end, send what is left, and close both sockets. So do when a side hangs up.
+ *
+ * A bind is of the last announcement of its number, which went on to the client: of its interface, in a version from 1
+ * to the one that was told. Any other request is to an object that the client knows and has not ended, of the table,
+ * within the object's version, and exactly as long as its arguments. What breaks a rule does not go on, nor does
+ * anything behind it: the connection has ended. If the client broke it, the guard tells it by wl_display.error of
+ * wl_display, with a text such as `refused by policy: wl_data_offer#12.receive`.
+ *
+ * The places of a policy and of a guard are as that of a session. One policy serves many guards, and is to be the same
+ * in all calls of a guard; nb_guard_received uses both places. */
+
+/* The place of a policy. Its fields are the library's. */
+typedef struct {
+    uint64_t state;
+    void *policy;
+} nb_policy;
+
+/* The place of a guard. Its fields are the library's. */
+typedef struct {
+    uint64_t state;
+    void *guard;
+} nb_guard;
+
+/* The sides of a guard. */
+enum { NB_CLIENT_SIDE = 0, NB_SERVER_SIDE = 1 };
+
+/* Why a guard's connection has ended. */
+enum {
+    NB_NOT_ENDED = 0,           /* it has not */
+    NB_END_MALFORMED = 1,       /* what a side sent is no message */
+    NB_END_UNKNOWN = 2,         /* there is no such object, or its interface has no such message */
+    NB_END_DESTROYED = 3,       /* the client has ended the object */
+    NB_END_LENGTH = 4,          /* the message is not as long as its arguments */
+    NB_END_VERSION = 5,         /* the version of the object does not have the request */
+    NB_END_POLICY = 6,          /* the policy refuses the request */
+    NB_END_GLOBAL = 7,          /* the client was not told last of such a global, or not in this version */
+    NB_END_NEW_ID = 8,          /* a new object may not have this number */
+    NB_END_OBJECTS = 9,         /* a new object has a number beyond the limit */
+    NB_END_GLOBALS = 10,        /* more numbers of globals were announced than the limit */
+    NB_END_DESCRIPTORS = 11,    /* there are descriptors that no message takes, or a message waits for one */
+    NB_END_OUT_OF_MEMORY = 12   /* malloc refused */
+};
+
+/* How a guard's connection ended: 16 bytes. */
+typedef struct {
+    uint32_t reason; /* one of the values above */
+    uint32_t side;   /* the side that broke a rule; else 0 */
+    uint32_t object; /* the number of the object whose message broke it; 0 if not even a header is there */
+    uint32_t opcode;
+} nb_end;
+
+/* Makes a policy in the place that allows no global, over this table. nb_policy_start, below, takes an nb_table.
+ *
+ * Each side may give numbers to so many objects: the client those below `objects`, and the server the first ones of its
+ * own. So many numbers of globals are remembered, also of those that were taken back. While more than `waiting` bytes
+ * wait for a side, nothing is taken from the other.
+ *
+ * Statuses: NB_IN_USE; NB_BAD_TABLE and NB_OUT_OF_MEMORY (as nb_server_new; `fault` is written). */
+nb_status nb_policy_new(nb_policy *place, const uint8_t *text, size_t text_length, const nb_interface_row *interfaces,
+                        size_t interface_count, const nb_message_row *messages, size_t message_count,
+                        const nb_argument_row *arguments, size_t argument_count, uint32_t objects, size_t globals,
+                        size_t waiting, nb_table_fault *fault);
+
+/* Ends the policy. */
+nb_status nb_policy_end(nb_policy *place);
+
+/* The client may be told of globals of this interface, and bind them, up to this version. A later call for the same
+ * interface takes the place of an earlier one. Statuses: NB_UNKNOWN_INTERFACE (the table has none of this name);
+ * NB_WRONG_INTERFACE (it is one of those that are in each table beforehand); NB_VERSION_TOO_HIGH (the version is 0, or
+ * above the table's). */
+nb_status nb_policy_allow(nb_policy *place, const uint8_t *interface, size_t interface_length, uint32_t version);
+
+/* The request of this name ends the connection. Statuses: NB_UNKNOWN_INTERFACE and NB_WRONG_INTERFACE (as
+ * nb_policy_allow); NB_UNKNOWN_OPCODE (the interface has no request of this name); NB_OUT_OF_MEMORY. */
+nb_status nb_policy_refuse(nb_policy *place, const uint8_t *interface, size_t interface_length, const uint8_t *request,
+                           size_t request_length);
+
+/* The request of this name is dropped, and its descriptors are given back. Statuses: those of nb_policy_refuse, and
+ * NB_WRONG_KIND (the request makes an object, or ends one). */
+nb_status nb_policy_ignore(nb_policy *place, const uint8_t *interface, size_t interface_length, const uint8_t *request,
+                           size_t request_length);
+
+/* Makes a guard in the place, of a connection on which nothing was said. Statuses: NB_IN_USE; NB_OUT_OF_MEMORY. */
+nb_status nb_guard_new(nb_guard *place);
+
+/* Ends the guard. It forgets the descriptors that it has: so before the end close those of nb_guard_to_send, of both
+ * sides, and those of nb_guard_next_released. Those that were not read are among the latter only once the connection
+ * has ended: nb_guard_hang_up, below, ends it. */
+nb_status nb_guard_end(nb_guard *place);
+
+/* Takes what was received from a side. The descriptors are the guard's if the status is NB_OK, and else stay yours.
+ * Statuses: NB_NO_SESSION (also if the place of the policy is empty); NB_INVALID_INPUT (there is no such side);
+ * NB_CLOSED (the connection has ended); NB_WOULD_BLOCK (more bytes wait for the other side than the limit);
+ * NB_OUT_OF_MEMORY. */
+nb_status nb_guard_received(nb_guard *place, nb_policy *policy, uint32_t side, const uint8_t *bytes, size_t byte_count,
+                            const int32_t *descriptors, size_t descriptor_count);
+
+/* Copies what is to be sent to a side next: as many bytes as fit, and all descriptors, which go with the first byte.
+ * Both counts are 0 if nothing waits. Room for NB_MOST_DESCRIPTORS is always enough. Statuses: NB_INVALID_INPUT (there
+ * is no such side); NB_TOO_SMALL (`counts` is written). */
+nb_status nb_guard_to_send(nb_guard *place, uint32_t side, uint8_t *bytes, size_t byte_room, int32_t *descriptors,
+                           size_t descriptor_room, nb_counts *counts);
+
+/* sendmsg took this many bytes, and with the first of them the descriptors: close these. A greater count counts as all
+ * that was told. No other call may come between nb_guard_to_send of this side and this one. Statuses: NB_INVALID_INPUT
+ * (there is no such side). */
+nb_status nb_guard_sent(nb_guard *place, uint32_t side, uint32_t count);
+
+/* The next descriptor that does not go on. Close it. Statuses: NB_WOULD_BLOCK (there is none now). */
+nb_status nb_guard_next_released(nb_guard *place, int32_t *descriptor);
+
+/* How the connection ended, if it has. */
+nb_status nb_guard_how_ended(nb_guard *place, nb_end *end);
+
 /* ======== Shorter to write */
 
 /* nb_server_new with a table. */
@@ -1432,6 +1558,31 @@ static inline nb_status nb_client_merge(nb_client *place, const nb_table *table,
     return nb_client_merge_interfaces(place, table->text, table->text_length, table->interfaces,
                                       table->interface_count, table->messages, table->message_count, table->arguments,
                                       table->argument_count, fault);
+}
+
+/* nb_policy_new with a table. */
+static inline nb_status nb_policy_start(nb_policy *place, const nb_table *table, uint32_t objects, size_t globals,
+                                        size_t waiting, nb_table_fault *fault)
+{
+    return nb_policy_new(place, table->text, table->text_length, table->interfaces, table->interface_count,
+                         table->messages, table->message_count, table->arguments, table->argument_count, objects,
+                         globals, waiting, fault);
+}
+
+/* Ends the connection of a guard, since a side hung up, so that nb_guard_next_released answers all descriptors that were
+ * not read. Make it once nothing waits for either side, and send nothing after it: the guard is given descriptors of -1
+ * until it has too many, and these may go with a message that awaited one. So take what it answers from then on for no
+ * descriptor if it is -1. Statuses: NB_OK; NB_NO_SESSION; NB_WOULD_BLOCK (something waits); NB_OUT_OF_MEMORY. */
+static inline nb_status nb_guard_hang_up(nb_guard *place, nb_policy *policy)
+{
+    int32_t none[NB_MOST_BYTES / 512];
+    nb_status status;
+    for (size_t i = 0; i < sizeof none / sizeof none[0]; i++)
+        none[i] = -1;
+    do
+        status = nb_guard_received(place, policy, NB_CLIENT_SIDE, NULL, 0, none, sizeof none / sizeof none[0]);
+    while (status == NB_OK);
+    return status == NB_CLOSED ? NB_OK : status;
 }
 
 /* nb_server_create_global without data, in group 1 and hidden from nobody: each client of nb_serve_client sees it. */

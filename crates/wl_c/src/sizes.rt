@@ -3,11 +3,13 @@
 //! C asserts the same numbers: `embed/check-header` compares each struct's size and each field's place.
 
 use crate::client::ClientPlace;
+use crate::guard::GuardPlace;
+use crate::policy::PolicyPlace;
 use crate::queues::QueuesPlace;
 use crate::server::ServerPlace;
 use std::mem::size_of;
 use wl_host::{
-    ArgumentRow, Counts, ExtensionFault, FlatAction, FlatArgument, FlatClientId, FlatError,
+    ArgumentRow, Counts, ExtensionFault, FlatAction, FlatArgument, FlatClientId, FlatEnd, FlatError,
     FlatEvent, FlatGlobalId, FlatGlobalInfo, FlatHeldObject, FlatNote, FlatObjectId,
     FlatObjectInfo, FlatQueuedEvent, FlatQueuedObject, FlatReaders, FlatRequest, FlatTold,
     FlatTurn, FlatViolation, Gone, InterfaceRow, MessageRow, TableFault, Waiting,
@@ -70,3 +72,9 @@ const _: () = prove!(size_of::<FlatReaders>() == 24);
 const _: () = prove!(size_of::<FlatTurn>() == 16);
 
 const _: () = prove!(size_of::<FlatViolation>() == 32);
+
+const _: () = prove!(size_of::<PolicyPlace>() == 16);
+
+const _: () = prove!(size_of::<GuardPlace>() == 16);
+
+const _: () = prove!(size_of::<FlatEnd>() == 16);

@@ -4,6 +4,8 @@
 //! thread, or by an atomic. The functions here are called by nobody. That they are proved is what this file is for.
 
 use crate::client::ClientPlace;
+use crate::guard::GuardPlace;
+use crate::policy::PolicyPlace;
 use crate::queues::QueuesPlace;
 use crate::server::ServerPlace;
 use std::marker::Send;
@@ -24,5 +26,15 @@ pub fn move_client(place: ClientPlace) -> ClientPlace {
 
 /// Queues of events go to another thread.
 pub fn move_queues(place: QueuesPlace) -> QueuesPlace {
+    to_another_thread(place)
+}
+
+/// A policy goes to another thread.
+pub fn move_policy(place: PolicyPlace) -> PolicyPlace {
+    to_another_thread(place)
+}
+
+/// A guard goes to another thread.
+pub fn move_guard(place: GuardPlace) -> GuardPlace {
     to_another_thread(place)
 }

@@ -1,5 +1,5 @@
 -- What is told of clients stands beside the session: what catches up with it leaves the core as it is.
-use Rattle.std.proofs.Common.{◌≡◌, ℕ, ℤ, Bool, true, List, Option, None, Some, Result, Ok, Err, ap, sym, ◌∙◌}
+use Rattle.std.proofs.Common.{◌≡◌, ℕ, ℤ, true, List, Option, None, Some, Result, Ok, Err, ap, sym, ◌∙◌}
 use Rattle.std.specs.Prelude.{MatchOption}
 use Rattle.wl_link.specs.Mailbox.{MailboxState}
 use Rattle.wl_server.specs.Ids.{ClientParts}

@@ -20,7 +20,7 @@ use Rattle.wl_host.specs.Hearing.{LedgerCatchesUp, LedgerTells, is_told}
 use Rattle.wl_host.specs.Seats.{SeatsState, kept_by_ledger, ledger_of}
 use Rattle.wl_host.specs.Sending.{Copied, came_out, copied, counts_of}
 use Rattle.wl_host.specs.Server.{Sent, SentBy, ServerState, is_done, kept_by_server, sent_by, sent_with, to_send, to_send_of}
-use Rattle.wl_host.specs.Tellings.{CatchesUpOf, CatchesUpWith, CopiesTold, NextTold, ReadsTold, SendsTold, TellsNextOf, TellsNothing, none_copied, sent_told, unread_of, with_seat}
+use Rattle.wl_host.specs.Tellings.{CatchesUpOf, CatchesUpWith, CopiesTold, NextTold, ReadsTold, SendsTold, TellsNextOf, TellsNothing, sent_told, unread_of, with_seat}
 use Rattle.wl_host.specs.Told.{CatchesUp, LentTold, TellsNextTo, waiting_in}
 use Rattle.wl_host.specs.declared.flat.Counts.{Counts}
 use Rattle.wl_host.specs.declared.flat.FlatArgument.{FlatArgument}

@@ -1,7 +1,6 @@
 -- What stays of a client's session whose table is extended.
 use Rattle.std.proofs.Common.{◌≡◌, ◌∙◌, ap, ℕ, List, [], ◌∷◌, inl, inr, Result, Ok, Err}
 use Rattle.std.specs.Prelude.{MatchResult}
-use Rattle.wl_wire.specs.declared.protocol.TableError.{TableError}
 use Rattle.wl_wire.specs.Table.{Extension, InterfaceRow}
 use Rattle.wl_host.specs.Client.{ClientCore}
 use Rattle.wl_host.specs.Extending.{Extends, Lengthens, Parts, Takes, parts_of, told_at, told_of_new}

@@ -1,16 +1,15 @@
 -- A table that takes whole rows keeps what it has.
-use Rattle.std.proofs.Common.{◌≡◌, ◌≢◌, ◌≤◌, ◌<◌, ℕ, zero, suc, ◌+◌, ◌∷◌, ◌++◌, [], List, length, take, Option, Some, None, true, false, refl, sym, ap, ◌∙◌, arith, eqb, eqb-true, subst, Result, Ok, Err, inl, inr}
+use Rattle.std.proofs.Common.{◌≡◌, ◌≢◌, ℕ, zero, suc, ◌∷◌, ◌++◌, [], List, length, take, Some, None, true, false, refl, sym, ap, ◌∙◌, arith, eqb, eqb-true, subst, Result, Ok, Err, inl, inr}
 use Rattle.std.specs.Prelude.{slice_get, MatchResult}
 use Rattle.std.proofs.Math.ListN.{set}
 use Rattle.std.proofs.Math.Seq.{take-append_seam}
 use Rattle.std.proofs.lemmas.Bool.{eqb-false}
 use Rattle.std.proofs.lemmas.Grind.{common_steps}
-use Rattle.std.proofs.lemmas.List.{length-append}
 use Rattle.std.specs.Option.{option_map_or}
 use Rattle.wl_wire.specs.declared.protocol.TableError.{TableError}
 use Rattle.wl_wire.specs.Table.{Extension, Growth, InterfaceRow, LongerRow, MessageRow, NewRows, extended_row, extended_table, table_after}
 use Rattle.wl_host.specs.declared.extending.ExtensionFault.{ExtensionFault}
-use Rattle.wl_host.specs.Extending.{Extends, GoesOn, KeepsInterfaces, Lengthens, fault_as_told, parts_of, told_at, told_of_new}
+use Rattle.wl_host.specs.Extending.{Extends, GoesOn, KeepsInterfaces, Lengthens, parts_of, told_at, told_of_new}
 use Rattle.wl_host.specs.Rows.{fault_of}
 
 goes_on-same : (row : InterfaceRow) → GoesOn row row

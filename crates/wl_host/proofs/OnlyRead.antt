@@ -1,11 +1,9 @@
 -- That of a client no more is told than its session had read.
-use Rattle.std.specs.Prelude.{◌≡◌, ℕ, ◌+◌, ◌-◌, ◌≤◌, Bool, true, false, List, [], ◌∷◌, ◌++◌, Option, None, Some, Result, Ok, Err, if◌then◌else◌, length, max}
-use Rattle.std.proofs.Common.{ap, arith, inl, inr, refl, subst, sym, ◌∙◌}
+use Rattle.std.specs.Prelude.{◌≡◌, ℕ, ◌+◌, ◌-◌, ◌≤◌, Bool, true, false, List, [], ◌∷◌, ◌++◌, None, Result, Ok, Err, if◌then◌else◌, length, max}
+use Rattle.std.proofs.Common.{ap, arith, inl, inr, subst, sym, ◌∙◌}
 use Rattle.std.proofs.lemmas.List.{length-append, length-drop, length-take}
 use Rattle.wl_wire.specs.declared.argument.ArgumentType.{ArgumentType}
-use Rattle.wl_wire.specs.declared.argument.Token.{Token}
 use Rattle.wl_wire.specs.declared.error.OutOfMemory.{OutOfMemory}
-use Rattle.wl_wire.specs.declared.message.Message.{Message}
 use Rattle.wl_wire.specs.Message.{WireMessage, content}
 use Rattle.wl_wire.specs.Parse.{IsWhole, length_of}
 use Rattle.wl_wire.specs.Table.{InterfaceRow}
@@ -21,9 +19,8 @@ use Rattle.wl_follow.specs.declared.follower.What.TheVariants as what
 use Rattle.wl_follow.specs.declared.side.Side.{Side}
 use Rattle.wl_follow.specs.declared.side.Side.TheVariants.{Client, Server}
 use Rattle.wl_host.proofs.ToldRuns.{hands_follower}
-use Rattle.wl_host.specs.Told.{CatchesUp, LentTold, as_tokens}
+use Rattle.wl_host.specs.Told.{CatchesUp, as_tokens}
 use Rattle.wl_host.specs.ToldRuns.{CaughtUp, Deed, Does, Found, FoundAgain, FoundNone, Heard, LackedMemory, Leads, SentOff, Watched, Wrote, all_read, all_told, heard_in, new_watched, read_behind, read_in, told_in}
-use Rattle.wl_host.specs.declared.status.Status.{Status}
 use Rattle.wl_host.specs.declared.telling.Telling.{Telling}
 
 -- So many bytes of a side were told, so many came, and so many were read. No more are ready than were released.

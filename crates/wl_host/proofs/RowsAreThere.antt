@@ -1,5 +1,5 @@
 -- A table that was extended by whole rows has what each of them says.
-use Rattle.std.proofs.Common.{◌≡◌, ◌≢◌, ◌⊎◌, ◌≤◌, ◌<◌, ℕ, zero, suc, ◌+◌, ◌-◌, ◌∷◌, ◌++◌, [], List, length, drop, Option, Some, None, true, false, Bool, true≢false, ◌||◌, refl, sym, ap, ◌∙◌, arith, cond, eqb, eqb-true, eq-eqb, subst, append_assoc, inl, inr, Result, Ok, Err, take}
+use Rattle.std.proofs.Common.{◌≡◌, ◌≢◌, ◌⊎◌, ◌≤◌, ℕ, zero, suc, ◌+◌, ◌∷◌, ◌++◌, [], List, length, drop, Option, Some, None, true, false, Bool, true≢false, ◌||◌, refl, sym, ap, ◌∙◌, arith, cond, eqb, eqb-true, eq-eqb, subst, append_assoc, inl, inr, Result, Ok, Err}
 use Rattle.std.specs.Prelude.{slice_get, if◌then◌else◌, option_map, MatchResult}
 use Rattle.std.specs.List.{AllByRecursion, list_any, position_from}
 use Rattle.std.proofs.Math.ListN.{set}
@@ -8,7 +8,7 @@ use Rattle.std.proofs.lemmas.List.{length-append, length-drop}
 use Rattle.std.proofs.lemmas.List.Folds.{list_any-append}
 use Rattle.std.proofs.lemmas.Bool.{eqb-false}
 use Rattle.std.proofs.Math.Seq.{take-append_seam}
-use Rattle.std.specs.Option.{option_and_then, option_map_or}
+use Rattle.std.specs.Option.{option_map_or}
 use Rattle.std.proofs.lemmas.Slice.Eq.{bytes_eq-Decides}
 use Rattle.std.specs.Str.{bytes_eq}
 use Rattle.wl_wire.specs.declared.argument.ArgumentType.{ArgumentType}
@@ -19,7 +19,7 @@ use Rattle.wl_wire.specs.declared.protocol.TableError.{TableError}
 use Rattle.wl_wire.specs.declared.protocol.TableError.TheVariants as error
 use Rattle.wl_host.specs.declared.extending.ExtensionFault.{ExtensionFault}
 use Rattle.wl_host.specs.Rows.{fault_of}
-use Rattle.wl_host.specs.Extending.{agree_on, at_event, at_request, children_agree, differ_from, difference, has_more, interfaces_agree, messages_agree, Agrees, Extends, HasRow, Lengthens, Takes, contradiction, contradiction_of, fault_as_told, fault_at, fault_of_row, interface_there, longer_part, new_part, part_of, parts_from, parts_of, place_of, rest, told_at, told_of_new, types_agree}
+use Rattle.wl_host.specs.Extending.{agree_on, at_event, at_request, children_agree, differ_from, difference, has_more, interfaces_agree, messages_agree, Extends, HasRow, Lengthens, contradiction, contradiction_of, fault_as_told, fault_at, fault_of_row, interface_there, longer_part, part_of, parts_from, parts_of, place_of, rest, told_at, told_of_new, types_agree}
 
 -- ---- the first of a list that passes a test
 

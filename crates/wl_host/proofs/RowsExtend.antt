@@ -1,5 +1,5 @@
 -- Whole rows, compared with a table and taken apart.
-use Rattle.std.proofs.Common.{◌≡◌, ◌≢◌, ◌≤◌, ◌<◌, ℕ, suc, ◌+◌, ◌∷◌, ◌++◌, [], List, length, map, drop, get_or, Option, Some, None, true, false, Bool, ◌&&◌, ◌||◌, cond, add-one, arith, refl, sym, ap, ◌∙◌, min, inl, inr, append_assoc, drop-cons, take}
+use Rattle.std.proofs.Common.{◌≡◌, ◌≢◌, ◌≤◌, ◌<◌, ℕ, suc, ◌+◌, ◌∷◌, [], List, length, map, drop, get_or, Some, None, true, false, ◌&&◌, ◌||◌, cond, add-one, arith, refl, sym, ap, ◌∙◌, min, inl, inr, append_assoc, drop-cons, take}
 use Rattle.std.specs.Prelude.{◌==◌, if◌then◌else◌}
 use Rattle.std.specs.List.{list_any, position_from}
 use Rattle.std.proofs.lemmas.Option.{slice_get-get_or, slice_get-map, slice_get_past}

@@ -1,5 +1,5 @@
 -- Rows that are written one after the other to the front of lent memory.
-use Rattle.std.proofs.Common.{◌≡◌, ◌≤◌, ◌+◌, ◌++◌, ◌==◌, ◌&&◌, not, Bool, false, true, Some, None, option_map, ℕ, suc, zero, List, [], ◌∷◌, length, take, drop, arith, refl, add-one}
+use Rattle.std.proofs.Common.{◌≡◌, ◌≤◌, ◌+◌, ◌==◌, ◌&&◌, not, Bool, false, Some, None, ℕ, suc, zero, List, [], ◌∷◌, length, take, drop, arith, refl}
 use Rattle.std.proofs.Math.ListN.{set}
 use Rattle.std.proofs.lemmas.Grind.{common_steps}
 use Rattle.std.proofs.lemmas.List.{take-append-drop}

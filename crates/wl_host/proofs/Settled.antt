@@ -20,7 +20,6 @@ use Rattle.wl_server.specs.Lending.{state_over}
 use Rattle.wl_server.specs.Lookups.{transport_of}
 use Rattle.wl_server.specs.Plain.{action_in, killed_in}
 use Rattle.wl_server.specs.Reading.{action_content}
-use Rattle.wl_wire.specs.declared.protocol.TableError.{TableError}
 use Rattle.wl_wire.specs.Table.{Extension, LongerRow, NewRows}
 use Rattle.wl_wire.specs.declared.error.OutOfMemory.{OutOfMemory}
 use Rattle.wl_host.proofs.Killing.{says_killed}

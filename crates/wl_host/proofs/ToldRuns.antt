@@ -1,5 +1,5 @@
 -- That all that is heard and said is told once, in its order.
-use Rattle.std.specs.Prelude.{◌≡◌, ◌⊎◌, ℕ, ℤ, ◌+◌, ◌-◌, ◌≤◌, ◌==◌, ◌++◌, Bool, true, false, List, [], ◌∷◌, Option, None, Some, Result, Ok, Err, drop, length, MatchBool, take, if◌then◌else◌}
+use Rattle.std.specs.Prelude.{◌≡◌, ◌⊎◌, ℕ, ◌+◌, ◌-◌, ◌≤◌, ◌==◌, ◌++◌, Bool, true, false, List, [], ◌∷◌, Option, None, Some, Result, Ok, Err, drop, length, take, if◌then◌else◌}
 use Rattle.std.proofs.Common.{ap, append_assoc, append-nil, arith, inl, inr, refl, subst, sym, ◌∙◌}
 use Rattle.std.proofs.Math.Seq.{take-length}
 use Rattle.std.proofs.lemmas.List.{length-append, length-drop, take-append-drop, take-append-le}
@@ -21,8 +21,7 @@ use Rattle.wl_follow.specs.declared.follower.Told.{Told}
 use Rattle.wl_follow.specs.declared.side.Side.{Side}
 use Rattle.wl_follow.specs.declared.side.Side.TheVariants.{Client, Server}
 use Rattle.wl_follow.proofs.Runs.{calls_keep, turns_come}
-use Rattle.wl_host.specs.Server.{is_done}
-use Rattle.wl_host.specs.Told.{CatchesUp, HandsTold, LentTold, args_in, as_tokens, caught_up, fits_told, heard_to, left_off, new_telling, said_part, unsaid, with_said}
+use Rattle.wl_host.specs.Told.{CatchesUp, HandsTold, LentTold, args_in, as_tokens, caught_up, fits_told, heard_to, left_off, said_part, unsaid}
 use Rattle.wl_host.specs.ToldRuns.{CaughtUp, Deed, Does, Found, FoundAgain, FoundNone, Heard, LackedMemory, Leads, NothingWaits, SentOff, Watched, Wrote, all_found, all_handed, all_heard, all_sent, all_told, found_in, handed_if, handed_in, heard_in, kept_in, list_of, new_watched, sent_in, told_in}
 use Rattle.wl_host.specs.declared.status.Status.{Status}
 use Rattle.wl_host.specs.declared.status.Status.TheVariants as status

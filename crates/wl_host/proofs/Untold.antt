@@ -1,5 +1,5 @@
 -- Of a client whose messages are not told each call does what it would do if none were.
-use Rattle.std.proofs.Common.{◌≡◌, ℕ, ℤ, Bool, false, is_some, List, Option, None, Some, Result, Ok, Err, ap, refl, subst, sym, ◌∙◌}
+use Rattle.std.proofs.Common.{◌≡◌, ℕ, ℤ, false, is_some, List, Option, None, Some, Result, Ok, Err, ap, refl, subst, sym, ◌∙◌}
 use Rattle.std.proofs.lemmas.Bool.{false≢true}
 use Rattle.std.specs.Prelude.{MatchOption, option_map}
 use Rattle.wl_wire.specs.declared.error.OutOfMemory.{OutOfMemory}

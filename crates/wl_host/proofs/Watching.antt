@@ -1,5 +1,5 @@
 -- What the calls of a session come to for a client whose messages are told.
-use Rattle.std.specs.Prelude.{◌≡◌, ◌⊎◌, ℕ, zero, suc, ℤ, ◌==◌, Bool, true, false, List, [], ◌∷◌, length, map, MatchOption, MatchResult, Option, None, Some, Result, Ok, Err, min, option_map, slice_get, slice_set, if◌then◌else◌}
+use Rattle.std.specs.Prelude.{◌≡◌, ◌⊎◌, ℕ, zero, suc, ℤ, ◌==◌, Bool, true, false, List, [], ◌∷◌, length, map, MatchOption, Option, None, Some, Result, Ok, Err, min, option_map, slice_get, slice_set, if◌then◌else◌}
 use Rattle.std.proofs.Common.{ap, inl, inr, refl, subst, sym, ◌∙◌}
 use Rattle.wl_wire.specs.declared.argument.Token.{Token}
 use Rattle.wl_wire.specs.declared.error.OutOfMemory.{OutOfMemory}
@@ -18,16 +18,16 @@ use Rattle.wl_follow.specs.declared.follower.Told.{Told}
 use Rattle.wl_follow.specs.declared.side.Side.TheVariants.{Client}
 use Rattle.wl_host.proofs.Ledgers.{ledger_at_slot, slot_of_client}
 use Rattle.wl_host.proofs.ToldRuns.{hands_by}
-use Rattle.wl_host.specs.Arrivals.{MayArrive, RefusesArrival, mailbox_with}
+use Rattle.wl_host.specs.Arrivals.{mailbox_with}
 use Rattle.wl_host.specs.Calls.{CoreState}
 use Rattle.wl_host.specs.Descriptors.{Descriptors, put_in}
-use Rattle.wl_host.specs.Hearing.{LedgerCatchesUp, LedgerTells, ledger_after, with_heard}
+use Rattle.wl_host.specs.Hearing.{LedgerTells, ledger_after, with_heard}
 use Rattle.wl_host.specs.Flat.{none_told}
 use Rattle.wl_host.specs.Seats.{SeatsState, if_serial, ledger_at, ledger_of, listed, with_ledger}
 use Rattle.wl_host.specs.Sending.{all_taken_out, descriptors_of, mailbox_after, queue_after, sent_of, shown}
-use Rattle.wl_host.specs.Server.{Received, ReceivedBy, Sent, SentBy, ServerState, after_sent, asked_again, is_done, with_arrivals}
+use Rattle.wl_host.specs.Server.{Received, ReceivedBy, Sent, SentBy, ServerState, asked_again}
 use Rattle.wl_host.specs.Tellings.{CatchesUpOf, CatchesUpWith, NextTold, SendsTold, TellsNextOf, TellsNothing, unread_by, unread_if, unread_of, with_seat}
-use Rattle.wl_host.specs.Told.{CatchesUp, FindsNext, HandsFound, HandsTold, LentTold, TellsNextTo, as_tokens, came_in, left_off, waiting_in}
+use Rattle.wl_host.specs.Told.{CatchesUp, HandsTold, LentTold, TellsNextTo, as_tokens, came_in, left_off, waiting_in}
 use Rattle.wl_host.specs.ToldRuns.{AreTold, CaughtUp, ComesTo, ComesToAll, Deed, Does, Found, FoundAgain, FoundNone, Heard, IsFound, LackedMemory, SentOff, Watched, Watches}
 use Rattle.wl_host.specs.declared.server.HostClient.{HostClient}
 use Rattle.wl_host.specs.declared.server.ledger.Ledger.{Ledger}

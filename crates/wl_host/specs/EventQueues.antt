@@ -7,7 +7,7 @@ use Rattle.wl_queues.specs.declared.objects.Fate.{Fate}
 use Rattle.wl_queues.specs.declared.objects.Fate.TheVariants.{Alive, Destroyed, Free}
 use Rattle.wl_queues.specs.declared.objects.Object.{Object}
 use Rattle.wl_queues.specs.Nexts.{LacksTicket, NeedsPlace}
-use Rattle.wl_queues.specs.Queues.{Add, Destroy, Does, DropQueue, Dropped, Finish, Handed, HasNoTicket, IsOpen, IsUnused, NewQueue, Next, NextUnused, Outcome, QueuesState, SetQueue, event_of, put_of}
+use Rattle.wl_queues.specs.Queues.{Add, Destroy, DropQueue, Dropped, Finish, Handed, HasNoTicket, IsOpen, IsUnused, NewQueue, Next, NextUnused, Outcome, QueuesState, SetQueue, event_of, put_of}
 use Rattle.wl_queues.specs.States.{Calls, IsLive, IsUnchanged, state_of}
 use Rattle.wl_host.specs.declared.event_queues.EventQueues.{EventQueues}
 use Rattle.wl_host.specs.declared.event_queues.FlatQueuedEvent.{FlatQueuedEvent}

@@ -1,5 +1,5 @@
 -- What is told of a client, as it stands in its ledger.
-use Rattle.std.specs.Prelude.{◌≡◌, ◌⊎◌, ℕ, ℤ, Bool, false, is_some, List, MatchOption, Option, None, Some, Result, Ok, Err}
+use Rattle.std.specs.Prelude.{◌≡◌, ◌⊎◌, ℕ, ℤ, Bool, false, is_some, List, MatchOption, Option, None, Some, Result, Ok}
 use Rattle.std.specs.Option.{option_map}
 use Rattle.wl_wire.specs.declared.error.OutOfMemory.{OutOfMemory}
 use Rattle.wl_wire.specs.Table.{InterfaceRow}

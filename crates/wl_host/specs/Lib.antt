@@ -15,6 +15,7 @@ pub mod Faults
 pub mod Flat
 pub mod Flushing
 pub mod Globals
+pub mod Guards
 pub mod Hearing
 pub mod Held
 pub mod Inside

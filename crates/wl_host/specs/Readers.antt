@@ -1,5 +1,5 @@
 -- Readers as a struct of the host's, and what each call answers and leaves.
-use Rattle.std.specs.Prelude.{ℕ, ◌==◌, nat_le, nat_lt, Bool, if◌then◌else◌, Result, Ok, Err}
+use Rattle.std.specs.Prelude.{ℕ, nat_le, nat_lt, Bool, if◌then◌else◌, Result, Ok, Err}
 use Rattle.wl_queues.specs.declared.readers.Turn.{Turn}
 use Rattle.wl_queues.specs.declared.readers.Turn.TheVariants.{Read, Wait}
 use Rattle.wl_queues.specs.declared.readers.NotPrepared.{NotPrepared}

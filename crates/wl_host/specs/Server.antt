@@ -1,5 +1,5 @@
 -- What contracts see of a server's session, and what its calls do.
-use Rattle.std.specs.Prelude.{◌≡◌, ◌⊎◌, ◌<◌, ◌≤◌, ℕ, ℤ, ◌+◌, ◌==◌, ◌||◌, List, [], ◌∷◌, length, map, nat_lt, not, Bool, true, false, Option, None, Some, Result, Ok, Err, IfOk, is_err, MatchOption, MatchResult, if◌then◌else◌}
+use Rattle.std.specs.Prelude.{◌≡◌, ◌⊎◌, ℕ, ℤ, ◌==◌, ◌||◌, List, [], ◌∷◌, length, map, nat_lt, not, Bool, true, false, Option, None, Some, Result, Ok, Err, IfOk, is_err, MatchOption, MatchResult, if◌then◌else◌}
 use Rattle.std.specs.Option.{option_map_or}
 use Rattle.wl_wire.specs.declared.error.IoFault.{IoFault}
 use Rattle.wl_wire.specs.declared.error.OutOfMemory.{OutOfMemory}

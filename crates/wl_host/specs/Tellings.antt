@@ -1,5 +1,5 @@
 -- The calls of a server's session that tell of its clients, or that what is told comes from.
-use Rattle.std.specs.Prelude.{◌≡◌, ℕ, ℤ, ◌+◌, List, [], length, min, MatchOption, MatchResult, Option, None, Some, Result, Ok, Err, if◌then◌else◌, slice_get}
+use Rattle.std.specs.Prelude.{◌≡◌, ℕ, ℤ, ◌+◌, List, [], length, min, MatchOption, MatchResult, Option, Some, Result, Ok, if◌then◌else◌, slice_get}
 use Rattle.std.specs.Option.{option_map_or}
 use Rattle.wl_wire.specs.declared.error.OutOfMemory.{OutOfMemory}
 use Rattle.wl_link.specs.Mailbox.{MailboxState}

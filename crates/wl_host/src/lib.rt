@@ -7,6 +7,8 @@
 //! [`Client`] is a client's session, `wl_client::Backend` over a mailbox, in the same way. Beside it a host with several queues of
 //! events, or several threads, has [`EventQueues`] and [`FlatReaders`] (`wl_queues`).
 //!
+//! [`Guard`] stands between a client and a compositor, and lets through what a [`Policy`] allows (`wl_guard`).
+//!
 //! | Subject | Code | Definitions, in `specs/` |
 //! |---|---|---|
 //! | a server's session | `server` and its modules | `Server`, `Calls` |
@@ -15,6 +17,7 @@
 //! | queues of events, and who reads | `event_queues`, `readers` | `EventQueues`, `Readers` |
 //! | what a call came to | `status` | `Status` |
 //! | the table of interfaces as rows | `rows` | `Rows`, `Tables` |
+//! | a policy, and guards | `guards` | `Guards` |
 //! | signatures as libwayland's tables have them | `signatures` | `Signatures` |
 //! | whole rows that extend those of the table | `extending` | `Extending`, `Tables` |
 //! | which client sees which global | `server`, `server::hidden` | `Visibility` |
@@ -33,6 +36,7 @@ mod descriptors;
 mod event_queues;
 mod extending;
 mod flat;
+mod guards;
 mod incoming;
 mod laws;
 mod nulls;
@@ -57,6 +61,7 @@ pub use flat::{
     FlatRequest, FlatTold, Gone, INSERTED, IO, KILLED, MESSAGE, NO_MESSAGE, PROTOCOL, REGISTRY,
     REQUEST, UNKNOWN_MESSAGE, Waiting, kind,
 };
+pub use guards::{CLIENT_SIDE, FlatEnd, Guard, Policy, SERVER_SIDE, reason};
 pub use laws::{a_forbidden_null_is_told, flat_arguments_come_back};
 pub use readers::{FlatReaders, FlatTurn};
 pub use rows::{ArgumentRow, InterfaceRow, MessageRow, Rows, TableFault, fault};
@@ -64,3 +69,4 @@ pub use server::violations::{FlatViolation, violation};
 pub use server::{HostClient, HostGlobal, Server};
 pub use signatures::read_signature;
 pub use status::Status;
+pub use wl_guard::Limits;
