@@ -1,0 +1,95 @@
+/* numbyroga-guard: what one file of this folder has for another. Each function is described here. */
+#ifndef GUARD_H
+#define GUARD_H
+
+#include <numbyroga.h>
+#include <stdbool.h>
+#include <stddef.h>
+#include <stdint.h>
+#include <stdio.h>
+
+/* Bytes that are not the program's, and end nowhere. */
+struct span {
+    const char *at;
+    size_t length;
+};
+
+bool span_is(struct span span, const char *word);
+
+/* Ends the program: there is no memory. */
+void *checked(void *memory);
+
+/* The whole of a file, with a zero behind it; NULL if it cannot be read, which it says. */
+char *read_file(const char *name);
+
+/* ======== table.c */
+
+/* A table that grows. */
+struct table {
+    nb_table rows;
+};
+
+/* Begins with the interfaces that are built in. */
+void table_begin(struct table *table);
+/* Adds those of a protocol file. One whose name is taken is left out, which is said. False if the file is refused,
+ * which is said, too. */
+bool table_read(struct table *table, const char *file);
+struct span table_name(const nb_table *table, size_t place);
+bool table_has(const nb_table *table, struct span name);
+void table_end(struct table *table);
+
+/* ======== policy.c */
+
+/* Makes the policy that a file says, over this table. A name without a slash is that of a policy which comes with this
+ * program. False if it is refused, which is said with its line. */
+bool policy_read(nb_policy *policy, const nb_table *table, const char *name);
+/* Makes the policy that allows each interface of the table. */
+bool policy_of_all(nb_policy *policy, const nb_table *table);
+
+/* Up to which version an interface of this name is allowed; 0 if it is not. */
+uint32_t policy_version(struct span name);
+/* Frees what policy_version looks at. */
+void policy_forget(void);
+
+/* ======== watch.c */
+
+/* What a connection is seen to say of globals. It decides nothing. */
+struct watch;
+
+/* Begins to see a connection. `table` lives longer. */
+struct watch *watch_new(unsigned number, const nb_table *table);
+/* These bytes came from a side, and go into the guard. */
+void watch_bytes(struct watch *watch, uint32_t side, const uint8_t *bytes, size_t length);
+/* The connection has ended so, with this text for the client, which may be empty. */
+void watch_end(struct watch *watch, const nb_end *end, struct span text);
+void watch_free(struct watch *watch);
+
+/* Opens the file for what is seen. False if it cannot be opened, which is said. */
+bool log_open(const char *name);
+/* Keeps in mind what is seen, for print_what. */
+void keep_what(void);
+/* Prints the policy that what was bound needs. */
+void print_what(const nb_table *table, FILE *to);
+/* Closes the file, and forgets what is in mind. */
+void watch_close(void);
+
+/* ======== connection.c */
+
+struct connection;
+
+/* Begins to guard a client that was accepted, by a connection to the server. Its sockets are watched by epoll: the data
+ * of an event are a struct end. NULL if that fails, which is said. The client's socket is closed then. */
+struct connection *connection_new(int epoll, int client, unsigned number, nb_policy *policy, const nb_table *table);
+/* Something can be done on a socket. True as long as the connection lives: false frees it. */
+struct end;
+bool connection_event(struct end *end, uint32_t events);
+/* Ends each that lives, with what waits. */
+void connection_end_all(void);
+
+/* ======== loop.c */
+
+/* Guards the clients of a listening socket until a signal comes, or, if there is a program (not -1), until it has ended
+ * and no client is left. Returns the status of the program, or 0 if there is none. */
+int loop_run(int listener, int program, nb_policy *policy, const nb_table *table);
+
+#endif

@@ -1,0 +1,187 @@
+/* numbyroga-guard: a guard between Wayland clients and their compositor. docs/GUARD.md says what it is for.
+ *
+ *   numbyroga-guard [-p POLICY] [-l LOG] [-x FILE.xml]... [-s SOCKET] [-- PROGRAM [ARGUMENT]...]
+ *   numbyroga-guard --what [-l LOG] [-x FILE.xml]... -- PROGRAM [ARGUMENT]...
+ *
+ *   -p POLICY    a file of rules (policy.c), or the name of one that comes with it; 'toolkit' without it
+ *   -l LOG       a file that is told which globals clients see and bind, and which of them are refused
+ *   -x FILE.xml  a protocol file whose interfaces the table lacks
+ *   -s SOCKET    a path, or a name in $XDG_RUNTIME_DIR, to listen at; without it, one of its own
+ *   --what       all of the table is allowed, and the policy that the program needed is printed
+ *
+ * With a program it starts that, behind it, and ends with its status, once no client is left. Without one it ends by a
+ * signal. The compositor is that of WAYLAND_DISPLAY. */
+#define _GNU_SOURCE
+#include "guard.h"
+#include "../socket.h"
+#include <getopt.h>
+#include <limits.h>
+#include <signal.h>
+#include <stdlib.h>
+#include <string.h>
+#include <sys/resource.h>
+#include <unistd.h>
+
+enum { NOT_STARTED = 2, NOT_FOUND = 127 };
+
+/* What was asked for. */
+struct options {
+    const char *policy, *socket;
+    bool says_what;
+    char **program; /* NULL without one */
+};
+
+/* The socket that the clients know, and the folder that was made for it. */
+struct door {
+    char folder[PATH_MAX], path[PATH_MAX];
+    int listener;
+    bool is_own;
+};
+
+static int usage(void)
+{
+    fprintf(stderr,
+            "usage: numbyroga-guard [-p POLICY] [-l LOG] [-x FILE.xml]... [-s SOCKET] [-- PROGRAM [ARGUMENT]...]\n"
+            "       numbyroga-guard --what [-l LOG] [-x FILE.xml]... -- PROGRAM [ARGUMENT]...\n");
+    return NOT_STARTED;
+}
+
+/* Reads the options. False if they are refused, which is said. */
+static bool read_options(int argc, char **argv, struct options *options, struct table *table)
+{
+    static const struct option words[] = { { "what", no_argument, NULL, 'w' }, { NULL, 0, NULL, 0 } };
+    int option;
+    while ((option = getopt_long(argc, argv, "+p:l:x:s:", words, NULL)) != -1)
+        switch (option) {
+        case 'p': options->policy = optarg; break;
+        case 's': options->socket = optarg; break;
+        case 'w': options->says_what = true; break;
+        case 'l':
+            if (!log_open(optarg))
+                return false;
+            break;
+        case 'x':
+            if (!table_read(table, optarg))
+                return false;
+            break;
+        default: usage(); return false;
+        }
+    options->program = optind < argc ? argv + optind : NULL;
+    if (options->program || (options->socket && !options->says_what))
+        return true;
+    usage();
+    return false;
+}
+
+/* Listens: at the path that was asked for, or in a folder that only this user may enter. */
+static bool open_door(struct door *door, const char *asked)
+{
+    const char *runtime = getenv("XDG_RUNTIME_DIR");
+    door->is_own = !asked;
+    if (asked) {
+        snprintf(door->path, sizeof door->path, "%s", asked);
+    } else {
+        snprintf(door->folder, sizeof door->folder, "%s/numbyroga-guard-XXXXXX", runtime ? runtime : "/tmp");
+        if (!mkdtemp(door->folder)) {
+            perror(door->folder);
+            return false;
+        }
+        if ((size_t)snprintf(door->path, sizeof door->path, "%s/wayland", door->folder) >= sizeof door->path)
+            return false;
+    }
+    door->listener = socket_listen(door->path);
+    return door->listener >= 0;
+}
+
+static void close_door(const struct door *door)
+{
+    struct sockaddr_un address;
+    char lock[PATH_MAX + sizeof ".lock"];
+    if (socket_address(door->path, &address) < 0)
+        return;
+    snprintf(lock, sizeof lock, "%s.lock", address.sun_path);
+    unlink(address.sun_path);
+    unlink(lock);
+    if (door->is_own)
+        rmdir(door->folder);
+}
+
+/* Starts the program behind the guard. Returns its number, or -1. */
+static pid_t start(char **program, const char *display, const sigset_t *signals, const struct rlimit *limit)
+{
+    const pid_t started = fork();
+    if (started != 0)
+        return started;
+    sigprocmask(SIG_SETMASK, signals, NULL);
+    setrlimit(RLIMIT_NOFILE, limit);
+    setenv("WAYLAND_DISPLAY", display, 1);
+    unsetenv("WAYLAND_SOCKET");
+    execvp(program[0], program);
+    perror(program[0]);
+    _exit(NOT_FOUND);
+}
+
+/* As many descriptors as this process may have: each client takes two. Returns the limit as it was. */
+static struct rlimit raise_limit(void)
+{
+    struct rlimit limit = { 0, 0 };
+    if (getrlimit(RLIMIT_NOFILE, &limit) == 0) {
+        const struct rlimit most = { limit.rlim_max, limit.rlim_max };
+        setrlimit(RLIMIT_NOFILE, &most);
+    }
+    return limit;
+}
+
+/* The signals that the loop takes are held back from here on. Returns the mask as it was. */
+static sigset_t hold_signals(void)
+{
+    sigset_t held, before;
+    sigemptyset(&held);
+    sigaddset(&held, SIGCHLD);
+    sigaddset(&held, SIGTERM);
+    sigaddset(&held, SIGINT);
+    sigaddset(&held, SIGHUP);
+    sigprocmask(SIG_BLOCK, &held, &before);
+    return before;
+}
+
+static int run(const struct options *options, nb_policy *policy, const nb_table *table)
+{
+    struct door door = { .listener = -1 };
+    const struct rlimit limit = raise_limit();
+    const sigset_t signals = hold_signals();
+    int status = NOT_STARTED;
+    pid_t program = -1;
+    if (open_door(&door, options->socket)) {
+        program = options->program ? start(options->program, door.path, &signals, &limit) : 0;
+        if (program < 0)
+            perror("numbyroga-guard: fork");
+        else
+            status = loop_run(door.listener, program > 0 ? program : -1, policy, table);
+        close(door.listener);
+    }
+    close_door(&door);
+    if (options->says_what && status != NOT_STARTED)
+        print_what(table, stdout);
+    return status;
+}
+
+int main(int argc, char **argv)
+{
+    struct options options = { .policy = "toolkit" };
+    struct table table;
+    nb_policy policy = NB_EMPTY;
+    int status = NOT_STARTED;
+    table_begin(&table);
+    if (read_options(argc, argv, &options, &table)) {
+        if (options.says_what)
+            keep_what();
+        if (options.says_what ? policy_of_all(&policy, &table.rows) : policy_read(&policy, &table.rows, options.policy))
+            status = run(&options, &policy, &table.rows);
+    }
+    watch_close();
+    policy_forget();
+    nb_policy_end(&policy);
+    table_end(&table);
+    return status;
+}

@@ -1,0 +1,227 @@
+/* What is seen of globals: for the log, and for --what. It decides nothing, and reads no more than it has to: the
+ * numbers of registries, announcements and binds. */
+#define _GNU_SOURCE
+#include "guard.h"
+#include <errno.h>
+#include <stdlib.h>
+#include <string.h>
+
+enum { MOST_REGISTRIES = 64, HEADER = 8 };
+
+/* A message that is not whole yet. */
+struct stream {
+    uint8_t *bytes;
+    size_t length;
+    bool is_broken;
+};
+
+struct watch {
+    unsigned number;
+    const nb_table *table;
+    struct stream streams[2];
+    uint32_t registries[MOST_REGISTRIES];
+    size_t registry_count;
+};
+
+/* An interface that was announced, and up to which version it was bound. */
+struct seen {
+    char *name;
+    uint32_t announced, bound;
+};
+
+static FILE *log_file;
+static bool keeps;
+static struct seen *all_seen;
+static size_t seen_count;
+
+bool log_open(const char *name)
+{
+    log_file = fopen(name, "ae");
+    if (!log_file) {
+        fprintf(stderr, "%s: %s\n", name, strerror(errno));
+        return false;
+    }
+    setvbuf(log_file, NULL, _IOLBF, 0);
+    return true;
+}
+
+void keep_what(void)
+{
+    keeps = true;
+}
+
+struct watch *watch_new(unsigned number, const nb_table *table)
+{
+    if (!log_file && !keeps)
+        return NULL;
+    struct watch *watch = checked(calloc(1, sizeof *watch));
+    watch->number = number;
+    watch->table = table;
+    return watch;
+}
+
+void watch_free(struct watch *watch)
+{
+    if (!watch)
+        return;
+    free(watch->streams[0].bytes);
+    free(watch->streams[1].bytes);
+    free(watch);
+}
+
+/* ======== Messages */
+
+static uint32_t word_at(const uint8_t *bytes)
+{
+    uint32_t word;
+    memcpy(&word, bytes, sizeof word);
+    return word;
+}
+
+/* Reads the name and version of an announcement or a bind. False if they are not there. */
+static bool read_global(const uint8_t *message, size_t length, struct span *name, uint32_t *version)
+{
+    if (length < HEADER + 8)
+        return false;
+    const size_t size = word_at(message + HEADER + 4), padded = (size + 3) & ~(size_t)3;
+    if (size == 0 || size > length || HEADER + 8 + padded + 4 > length)
+        return false;
+    *name = (struct span){ (const char *)message + HEADER + 8, size - 1 };
+    *version = word_at(message + HEADER + 8 + padded);
+    return true;
+}
+
+static struct seen *seen_of(struct span name)
+{
+    for (size_t i = 0; i < seen_count; i++)
+        if (span_is(name, all_seen[i].name))
+            return &all_seen[i];
+    all_seen = checked(realloc(all_seen, (seen_count + 1) * sizeof *all_seen));
+    all_seen[seen_count] = (struct seen){ checked(strndup(name.at, name.length)), 0, 0 };
+    return &all_seen[seen_count++];
+}
+
+static void see_global(const struct watch *watch, bool is_bind, struct span name, uint32_t version)
+{
+    if (keeps) {
+        struct seen *seen = seen_of(name);
+        uint32_t *least = is_bind ? &seen->bound : &seen->announced;
+        if (version > *least)
+            *least = version;
+    }
+    if (!log_file)
+        return;
+    fprintf(log_file, "%u: ", watch->number);
+    if (is_bind)
+        fprintf(log_file, "binds %.*s %u\n", (int)name.length, name.at, version);
+    else if (!table_has(watch->table, name))
+        fprintf(log_file, "[hidden: not in the table] %.*s %u\n", (int)name.length, name.at, version);
+    else if (policy_version(name) == 0)
+        fprintf(log_file, "[hidden] %.*s %u\n", (int)name.length, name.at, version);
+    else
+        fprintf(log_file, "is told of %.*s %u\n", (int)name.length, name.at,
+                version < policy_version(name) ? version : policy_version(name));
+}
+
+static bool is_registry(const struct watch *watch, uint32_t number)
+{
+    for (size_t i = 0; i < watch->registry_count; i++)
+        if (watch->registries[i] == number)
+            return true;
+    return false;
+}
+
+static void see_message(struct watch *watch, uint32_t side, const uint8_t *message, size_t length)
+{
+    const uint32_t sender = word_at(message), opcode = word_at(message + 4) & 0xFFFF;
+    struct span name;
+    uint32_t version;
+    if (side == NB_CLIENT_SIDE && sender == 1 && opcode == 1 && length >= HEADER + 4 &&
+        watch->registry_count < MOST_REGISTRIES && !is_registry(watch, word_at(message + HEADER)))
+        watch->registries[watch->registry_count++] = word_at(message + HEADER);
+    else if (is_registry(watch, sender) && opcode == 0 && read_global(message, length, &name, &version))
+        see_global(watch, side == NB_CLIENT_SIDE, name, version);
+}
+
+void watch_bytes(struct watch *watch, uint32_t side, const uint8_t *bytes, size_t length)
+{
+    if (!watch || watch->streams[side].is_broken)
+        return;
+    struct stream *stream = &watch->streams[side];
+    size_t at = 0;
+    stream->bytes = checked(realloc(stream->bytes, stream->length + length));
+    memcpy(stream->bytes + stream->length, bytes, length);
+    stream->length += length;
+    while (stream->length - at >= HEADER) {
+        const size_t size = word_at(stream->bytes + at + 4) >> 16;
+        stream->is_broken = size < HEADER;
+        if (stream->is_broken || stream->length - at < size)
+            break;
+        see_message(watch, side, stream->bytes + at, size);
+        at += size;
+    }
+    stream->length -= at;
+    memmove(stream->bytes, stream->bytes + at, stream->length);
+}
+
+/* ======== What is told */
+
+static const char *const reasons[] = { "nothing",
+                                       "the format",
+                                       "the table",
+                                       "its destructor",
+                                       "its length",
+                                       "its version",
+                                       "policy",
+                                       "what was announced",
+                                       "its new number",
+                                       "the limit of objects",
+                                       "the limit of globals",
+                                       "its descriptors",
+                                       "out of memory" };
+
+void watch_end(struct watch *watch, const nb_end *end, struct span text)
+{
+    if (!watch || !log_file)
+        return;
+    const char *reason = end->reason < sizeof reasons / sizeof reasons[0] ? reasons[end->reason] : "?";
+    fprintf(log_file, "%u: [refused: %s] ", watch->number, reason);
+    if (text.length > 0)
+        fprintf(log_file, "%.*s\n", (int)text.length, text.at);
+    else
+        fprintf(log_file, "%s, object %u, opcode %u\n", end->side == NB_CLIENT_SIDE ? "the client" : "the server",
+                end->object, end->opcode);
+}
+
+static int by_name(const void *one, const void *other)
+{
+    return strcmp(((const struct seen *)one)->name, ((const struct seen *)other)->name);
+}
+
+void print_what(const nb_table *table, FILE *to)
+{
+    qsort(all_seen, seen_count, sizeof *all_seen, by_name);
+    fprintf(to, "# What the program bound.\n");
+    for (size_t i = 0; i < seen_count; i++)
+        if (all_seen[i].bound > 0)
+            fprintf(to, "allow %s %u\n", all_seen[i].name, all_seen[i].bound);
+    fprintf(to, "\n# What it was told of, and did not bind.\n");
+    for (size_t i = 0; i < seen_count; i++)
+        if (all_seen[i].bound == 0 && table_has(table, (struct span){ all_seen[i].name, strlen(all_seen[i].name) }))
+            fprintf(to, "# %s %u\n", all_seen[i].name, all_seen[i].announced);
+    fprintf(to, "\n# What the server offers, and the table lacks.\n");
+    for (size_t i = 0; i < seen_count; i++)
+        if (!table_has(table, (struct span){ all_seen[i].name, strlen(all_seen[i].name) }))
+            fprintf(to, "# %s %u\n", all_seen[i].name, all_seen[i].announced);
+}
+
+void watch_close(void)
+{
+    if (log_file)
+        fclose(log_file);
+    log_file = NULL;
+    while (seen_count > 0)
+        free(all_seen[--seen_count].name);
+    free(all_seen);
+    all_seen = NULL;
+}
