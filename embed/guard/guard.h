@@ -86,6 +86,13 @@ bool connection_event(struct end *end, uint32_t events);
 /* Ends each that lives, with what waits. */
 void connection_end_all(void);
 
+/* ======== context.c */
+
+/* Asks the compositor for a socket at which it knows that who connects is sandboxed: as this application, of this
+ * engine. WAYLAND_DISPLAY names that socket from then on. If there is none, it says so. */
+void context_make(const nb_table *table, const char *application, const char *engine);
+void context_end(void);
+
 /* ======== loop.c */
 
 /* Guards the clients of a listening socket until a signal comes, or, if there is a program (not -1), until it has ended

@@ -1,12 +1,14 @@
 /* numbyroga-guard: a guard between Wayland clients and their compositor. docs/GUARD.md says what it is for.
  *
- *   numbyroga-guard [-p POLICY] [-l LOG] [-x FILE.xml]... [-s SOCKET] [-- PROGRAM [ARGUMENT]...]
- *   numbyroga-guard --what [-l LOG] [-x FILE.xml]... -- PROGRAM [ARGUMENT]...
+ *   numbyroga-guard [-p POLICY] [-l LOG] [-x FILE.xml]... [-a APP_ID [-e ENGINE]] [-s SOCKET] [-- PROGRAM
+ * [ARGUMENT]...] numbyroga-guard --what [-l LOG] [-x FILE.xml]... -- PROGRAM [ARGUMENT]...
  *
  *   -p POLICY    a file of rules (policy.c), or the name of one that comes with it; 'toolkit' without it
  *   -l LOG       a file that is told which globals clients see and bind, and which of them are refused
  *   -x FILE.xml  a protocol file whose interfaces the table lacks
  *   -s SOCKET    a path, or a name in $XDG_RUNTIME_DIR, to listen at; without it, one of its own
+ *   -a APP_ID    the compositor is told, if it takes that, that its clients are this sandboxed application
+ *   -e ENGINE    and of this sandbox engine; 'numbyroga-guard' without it
  *   --what       all of the table is allowed, and the policy that the program needed is printed
  *
  * With a program it starts that, behind it, and ends with its status, once no client is left. Without one it ends by a
@@ -26,7 +28,7 @@ enum { NOT_STARTED = 2, NOT_FOUND = 127 };
 
 /* What was asked for. */
 struct options {
-    const char *policy, *socket;
+    const char *policy, *socket, *application, *engine;
     bool says_what;
     char **program; /* NULL without one */
 };
@@ -40,9 +42,9 @@ struct door {
 
 static int usage(void)
 {
-    fprintf(stderr,
-            "usage: numbyroga-guard [-p POLICY] [-l LOG] [-x FILE.xml]... [-s SOCKET] [-- PROGRAM [ARGUMENT]...]\n"
-            "       numbyroga-guard --what [-l LOG] [-x FILE.xml]... -- PROGRAM [ARGUMENT]...\n");
+    fprintf(stderr, "usage: numbyroga-guard [-p POLICY] [-l LOG] [-x FILE.xml]... [-a APP_ID [-e ENGINE]] [-s SOCKET]\n"
+                    "                       [-- PROGRAM [ARGUMENT]...]\n"
+                    "       numbyroga-guard --what [-l LOG] [-x FILE.xml]... -- PROGRAM [ARGUMENT]...\n");
     return NOT_STARTED;
 }
 
@@ -51,10 +53,12 @@ static bool read_options(int argc, char **argv, struct options *options, struct 
 {
     static const struct option words[] = { { "what", no_argument, NULL, 'w' }, { NULL, 0, NULL, 0 } };
     int option;
-    while ((option = getopt_long(argc, argv, "+p:l:x:s:", words, NULL)) != -1)
+    while ((option = getopt_long(argc, argv, "+p:l:x:s:a:e:", words, NULL)) != -1)
         switch (option) {
         case 'p': options->policy = optarg; break;
         case 's': options->socket = optarg; break;
+        case 'a': options->application = optarg; break;
+        case 'e': options->engine = optarg; break;
         case 'w': options->says_what = true; break;
         case 'l':
             if (!log_open(optarg))
@@ -152,6 +156,9 @@ static int run(const struct options *options, nb_policy *policy, const nb_table 
     const sigset_t signals = hold_signals();
     int status = NOT_STARTED;
     pid_t program = -1;
+    unsetenv("WAYLAND_SOCKET");
+    if (options->application)
+        context_make(table, options->application, options->engine);
     if (open_door(&door, options->socket)) {
         program = options->program ? start(options->program, door.path, &signals, &limit) : 0;
         if (program < 0)
@@ -161,6 +168,7 @@ static int run(const struct options *options, nb_policy *policy, const nb_table 
         close(door.listener);
     }
     close_door(&door);
+    context_end();
     if (options->says_what && status != NOT_STARTED)
         print_what(table, stdout);
     return status;
@@ -168,7 +176,7 @@ static int run(const struct options *options, nb_policy *policy, const nb_table 
 
 int main(int argc, char **argv)
 {
-    struct options options = { .policy = "toolkit" };
+    struct options options = { .policy = "toolkit", .engine = "numbyroga-guard" };
     struct table table;
     nb_policy policy = NB_EMPTY;
     int status = NOT_STARTED;
