@@ -158,12 +158,40 @@ static void queue_calls(void)
     }
 }
 
+static void guard_calls(void)
+{
+    nb_policy policy = NB_EMPTY;
+    nb_guard guard = NB_EMPTY;
+    nb_end end = { 7, 7, 7, 7 };
+    int32_t descriptor = 7;
+    for (int round = 0; round < 2; round++) {
+        NONE(nb_policy_end(&policy));
+        NONE(nb_policy_allow(&policy, bytes, 4, 1));
+        NONE(nb_policy_refuse(&policy, bytes, 4, bytes, 4));
+        NONE(nb_policy_ignore(&policy, bytes, 4, bytes, 4));
+        NONE(nb_guard_end(&guard));
+        NONE(nb_guard_received(&guard, &policy, NB_CLIENT_SIDE, bytes, 8, descriptors, 1));
+        NONE(nb_guard_to_send(&guard, NB_CLIENT_SIDE, bytes, 8, descriptors, 1, &counts));
+        NONE(nb_guard_sent(&guard, NB_CLIENT_SIDE, 1));
+        NONE(nb_guard_next_released(&guard, &descriptor));
+        NONE(nb_guard_how_ended(&guard, &end));
+        HOLDS(descriptor == 7 && end.reason == 7 && end.opcode == 7 && policy.state == 0 && guard.state == 0);
+        OK(nb_policy_start(&policy, &quad, 10, 10, 10, &fault));
+        NONE(nb_guard_received(&guard, &policy, NB_CLIENT_SIDE, bytes, 8, descriptors, 1));
+        OK(nb_policy_end(&policy));
+        OK(nb_guard_new(&guard));
+        NONE(nb_guard_received(&guard, &policy, NB_CLIENT_SIDE, bytes, 8, descriptors, 1));
+        OK(nb_guard_end(&guard));
+    }
+}
+
 int main(void)
 {
     const nb_interface_row wrong = { 0, 99, 1, 0, 0 };
     server_calls();
     client_calls();
     queue_calls();
+    guard_calls();
     IS(nb_server_new(&server, bytes, 4, &wrong, 1, NULL, 0, NULL, 0, &fault), NB_BAD_TABLE);
     IS(nb_client_connect(&session, bytes, 4, &wrong, 1, NULL, 0, NULL, 0, &fault), NB_BAD_TABLE);
     server_calls();
