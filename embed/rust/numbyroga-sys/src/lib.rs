@@ -1,5 +1,5 @@
-//! The declarations of `numbyroga.h`: a server's and a client's session of the Wayland protocol, and queues of events beside it, proved,
-//! as plain calls.
+//! The declarations of `numbyroga.h`: a server's and a client's session of the Wayland protocol, queues of events beside it, and a guard
+//! between the two, proved, as plain calls.
 //!
 //! Names are those of the header, which says what each call does. A call whose pointers all name one value takes
 //! references, and is safe to call: a reference keeps the header's rules about memory, and `&mut` to a place keeps two
@@ -97,6 +97,16 @@ place! {
 place! {
     /// The place of queues of events.
     nb_queues: queues
+}
+
+place! {
+    /// The place of a policy.
+    nb_policy: policy
+}
+
+place! {
+    /// The place of a guard.
+    nb_guard: guard
 }
 
 /// What a call answers: one of the values below.
@@ -712,6 +722,52 @@ plain! {
         queue: usize = 0,
         /// [`NB_SLOT_FREE`], [`NB_SLOT_ALIVE`] or [`NB_SLOT_DESTROYED`].
         fate: u32 = 8,
+    }
+}
+
+/// The side of the client.
+pub const NB_CLIENT_SIDE: u32 = 0;
+/// The side of the compositor.
+pub const NB_SERVER_SIDE: u32 = 1;
+
+/// It has not ended.
+pub const NB_NOT_ENDED: u32 = 0;
+/// What a side sent is no message.
+pub const NB_END_MALFORMED: u32 = 1;
+/// There is no such object, or its interface has no such message.
+pub const NB_END_UNKNOWN: u32 = 2;
+/// The client has ended the object.
+pub const NB_END_DESTROYED: u32 = 3;
+/// The message is not as long as its arguments.
+pub const NB_END_LENGTH: u32 = 4;
+/// The version of the object does not have the request.
+pub const NB_END_VERSION: u32 = 5;
+/// The policy refuses the request.
+pub const NB_END_POLICY: u32 = 6;
+/// The client was not told last of such a global, or not in this version.
+pub const NB_END_GLOBAL: u32 = 7;
+/// A new object may not have this number.
+pub const NB_END_NEW_ID: u32 = 8;
+/// A new object has a number beyond the limit.
+pub const NB_END_OBJECTS: u32 = 9;
+/// More numbers of globals were announced than the limit.
+pub const NB_END_GLOBALS: u32 = 10;
+/// There are descriptors that no message takes, or a message waits for one.
+pub const NB_END_DESCRIPTORS: u32 = 11;
+/// malloc refused.
+pub const NB_END_OUT_OF_MEMORY: u32 = 12;
+
+plain! {
+    /// How a guard's connection ended.
+    nb_end: 16, 4 {
+        /// [`NB_NOT_ENDED`], or why.
+        reason: u32 = 0,
+        /// The side that broke a rule; else 0.
+        side: u32 = 4,
+        /// The number of the object whose message broke it.
+        object: u32 = 8,
+        /// The opcode of that message.
+        opcode: u32 = 12,
     }
 }
 
@@ -1336,4 +1392,77 @@ unsafe extern "C" {
         ticket: u64,
         content: &mut u64,
     ) -> nb_status;
+
+    /// Makes a policy that allows nothing.
+    pub fn nb_policy_new(
+        place: &mut nb_policy,
+        text: *const u8,
+        text_length: usize,
+        interfaces: *const nb_interface_row,
+        interface_count: usize,
+        messages: *const nb_message_row,
+        message_count: usize,
+        arguments: *const nb_argument_row,
+        argument_count: usize,
+        objects: u32,
+        globals: usize,
+        waiting: usize,
+        fault: &mut nb_table_fault,
+    ) -> nb_status;
+    /// Ends the policy.
+    pub safe fn nb_policy_end(place: &mut nb_policy) -> nb_status;
+    /// Allows globals of an interface, up to a version.
+    pub fn nb_policy_allow(
+        place: &mut nb_policy,
+        interface: *const u8,
+        interface_length: usize,
+        version: u32,
+    ) -> nb_status;
+    /// Says that a request ends the connection.
+    pub fn nb_policy_refuse(
+        place: &mut nb_policy,
+        interface: *const u8,
+        interface_length: usize,
+        request: *const u8,
+        request_length: usize,
+    ) -> nb_status;
+    /// Says that a request is dropped.
+    pub fn nb_policy_ignore(
+        place: &mut nb_policy,
+        interface: *const u8,
+        interface_length: usize,
+        request: *const u8,
+        request_length: usize,
+    ) -> nb_status;
+
+    /// Makes a guard.
+    pub safe fn nb_guard_new(place: &mut nb_guard) -> nb_status;
+    /// Ends the guard.
+    pub safe fn nb_guard_end(place: &mut nb_guard) -> nb_status;
+    /// Takes what was received from a side.
+    pub fn nb_guard_received(
+        place: &mut nb_guard,
+        policy: &mut nb_policy,
+        side: u32,
+        bytes: *const u8,
+        byte_count: usize,
+        descriptors: *const i32,
+        descriptor_count: usize,
+    ) -> nb_status;
+    /// Copies what is to be sent to a side next.
+    pub fn nb_guard_to_send(
+        place: &mut nb_guard,
+        side: u32,
+        bytes: *mut u8,
+        byte_room: usize,
+        descriptors: *mut i32,
+        descriptor_room: usize,
+        counts: &mut nb_counts,
+    ) -> nb_status;
+    /// sendmsg took this many bytes for a side.
+    pub safe fn nb_guard_sent(place: &mut nb_guard, side: u32, count: u32) -> nb_status;
+    /// The next descriptor that does not go on.
+    pub safe fn nb_guard_next_released(place: &mut nb_guard, descriptor: &mut i32) -> nb_status;
+    /// How the connection ended.
+    pub safe fn nb_guard_how_ended(place: &mut nb_guard, end: &mut nb_end) -> nb_status;
 }
