@@ -9,8 +9,8 @@ use crate::queues::QueuesPlace;
 use crate::server::ServerPlace;
 use std::mem::size_of;
 use wl_host::{
-    ArgumentRow, Counts, ExtensionFault, FlatAction, FlatArgument, FlatClientId, FlatEnd, FlatError,
-    FlatEvent, FlatGlobalId, FlatGlobalInfo, FlatHeldObject, FlatNote, FlatObjectId,
+    ArgumentRow, Counts, ExtensionFault, FlatAction, FlatArgument, FlatClientId, FlatEnd,
+    FlatError, FlatEvent, FlatGlobalId, FlatGlobalInfo, FlatHeldObject, FlatNote, FlatObjectId,
     FlatObjectInfo, FlatQueuedEvent, FlatQueuedObject, FlatReaders, FlatRequest, FlatTold,
     FlatTurn, FlatViolation, Gone, InterfaceRow, MessageRow, TableFault, Waiting,
 };

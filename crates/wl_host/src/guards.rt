@@ -10,9 +10,7 @@ use crate::outgoing::copy_bytes;
 use crate::rows::{Rows, TableFault, interfaces_of};
 use crate::status::Status;
 use std::alloc::{AllocError, Global};
-use wl_guard::{
-    ArriveError, End, Guard as Core, Limits, Policy as Rules, PolicyError, Rule, Side,
-};
+use wl_guard::{ArriveError, End, Guard as Core, Limits, Policy as Rules, PolicyError, Rule, Side};
 use wl_wire::{OutOfMemory, Protocol, TableError, Token};
 
 /// The side of the client.

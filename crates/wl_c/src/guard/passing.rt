@@ -83,12 +83,7 @@ pub extern "C" fn nb_guard_to_send(
 
 /// Says that so many bytes were sent to a side, and with the first of them the descriptors.
 #[unsafe(no_mangle)]
-pub extern "C" fn nb_guard_sent(
-    alloc: Global,
-    place: &mut GuardPlace,
-    side: u32,
-    count: u32,
-) -> u32
+pub extern "C" fn nb_guard_sent(alloc: Global, place: &mut GuardPlace, side: u32, count: u32) -> u32
     ensures none { place.old.kept.held ≡ None → (result ≡ 1) × (place.new.kept.held ≡ None) }
     ensures stays { IsSome place.old.kept.held → IsSome place.new.kept.held }
     ensures call { Did place.old.kept.held result place.new.kept.held (λ g status h. Sends side count g status h) }
