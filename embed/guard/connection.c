@@ -97,7 +97,8 @@ static void look_for_end(struct connection *connection)
     if (end.reason == NB_NOT_ENDED || connection->has_ended)
         return;
     connection->has_ended = true;
-    watch_end(connection->seen, &end, text_of_breach(connection));
+    const bool is_told = end.side == NB_CLIENT_SIDE && end.reason != NB_END_OUT_OF_MEMORY;
+    watch_end(connection->seen, &end, is_told ? text_of_breach(connection) : (struct span){ "", 0 });
 }
 
 /* Hands what a side sent to the guard. */

@@ -101,6 +101,13 @@ static struct seen *seen_of(struct span name)
     return &all_seen[seen_count++];
 }
 
+/* Writes a name, which may be anything: a peer sent it. */
+static void put_name(struct span name)
+{
+    for (size_t i = 0; i < name.length; i++)
+        fputc(name.at[i] > ' ' && name.at[i] < 0x7f ? name.at[i] : '?', log_file);
+}
+
 static void see_global(const struct watch *watch, bool is_bind, struct span name, uint32_t version)
 {
     if (keeps) {
@@ -111,16 +118,14 @@ static void see_global(const struct watch *watch, bool is_bind, struct span name
     }
     if (!log_file)
         return;
-    fprintf(log_file, "%u: ", watch->number);
-    if (is_bind)
-        fprintf(log_file, "binds %.*s %u\n", (int)name.length, name.at, version);
-    else if (!table_has(watch->table, name))
-        fprintf(log_file, "[hidden: not in the table] %.*s %u\n", (int)name.length, name.at, version);
-    else if (policy_version(name) == 0)
-        fprintf(log_file, "[hidden] %.*s %u\n", (int)name.length, name.at, version);
-    else
-        fprintf(log_file, "is told of %.*s %u\n", (int)name.length, name.at,
-                version < policy_version(name) ? version : policy_version(name));
+    const uint32_t allowed = policy_version(name);
+    fprintf(log_file, "%u: %s ", watch->number,
+            is_bind                          ? "binds"
+            : !table_has(watch->table, name) ? "[hidden: not in the table]"
+            : allowed == 0                   ? "[hidden]"
+                                             : "is told of");
+    put_name(name);
+    fprintf(log_file, " %u\n", is_bind || allowed == 0 || version < allowed ? version : allowed);
 }
 
 static bool is_registry(const struct watch *watch, uint32_t number)

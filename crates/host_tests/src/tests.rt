@@ -7,6 +7,7 @@ mod chosen;
 mod client;
 mod client_acts;
 mod drills;
+mod guards;
 mod messages;
 mod queues;
 mod registries;
