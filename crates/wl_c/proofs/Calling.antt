@@ -16,6 +16,10 @@ moved P {x = x} {y = y} {s = s} {t = t} took lent put is_s is_t holds =
     let at_s : x ≡ s = cc in let at_t : y ≡ t = cc in
     subst (λ (v : _). P s v) at_t (subst (λ (u : _). P u y) at_s holds)
 
+-- what was lent to a call is what another place holds
+pub lent : {S : Type 0} (P : S → Type 0) {before : Option S} {w x s : S} → before ≡ Some w → x ≡ w → before ≡ Some s → P x → P s
+lent P {x = x} {s = s} took lends is_s holds = let at_s : x ≡ s = cc in subst (λ (v : _). P v) at_s holds
+
 pub did : {S : Type 0} (R : S → Status → S → Type 0) {before after : Option S} {w x y : S} {code : ℕ} {status : Status} →
     before ≡ Some w → x ≡ w → after ≡ Some y → code ≡ code_of status → R x status y → Did before code after R
 did R {status = status} took lent put told call =

@@ -25,7 +25,7 @@ pub extern "C" fn nb_guard_received(
     ensures no_policy { policy.old.kept.held ≡ None → (result ≡ 1) × (place.new.kept.held ≡ place.old.kept.held) }
     ensures stays { IsSome place.old.kept.held → IsSome place.new.kept.held }
     ensures policy { policy.new.kept.held ≡ policy.old.kept.held }
-    ensures call { (p : Policy) → policy.old.kept.held ≡ Some p → Did place.old.kept.held result place.new.kept.held (λ g status h. Receives p side bytes.entry descriptors.entry g status h) }
+    ensures call { (p : Policy) → policy.old.kept.held ≡ Some p → Did place.old.kept.held result place.new.kept.held (λ g status h. Receives p side bytes.now descriptors.now g status h) }
 {
     let Some(rules) = policy.take(alloc) else {
         return Status::NoSession.code();

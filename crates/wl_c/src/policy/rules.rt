@@ -19,7 +19,7 @@ pub extern "C" fn nb_policy_allow(
 ) -> u32
     ensures none { place.old.kept.held ≡ None → (result ≡ 1) × (place.new.kept.held ≡ None) }
     ensures stays { IsSome place.old.kept.held → IsSome place.new.kept.held }
-    ensures call { Answered place.old.kept.held result place.new.kept.held (λ p answer r. Allows interface.entry version p answer r) }
+    ensures call { Answered place.old.kept.held result place.new.kept.held (λ p answer r. Allows interface.now version p answer r) }
 {
     let Some(mut policy) = place.take(alloc) else {
         return Status::NoSession.code();
@@ -39,7 +39,7 @@ pub extern "C" fn nb_policy_refuse(
 ) -> u32
     ensures none { place.old.kept.held ≡ None → (result ≡ 1) × (place.new.kept.held ≡ None) }
     ensures stays { IsSome place.old.kept.held → IsSome place.new.kept.held }
-    ensures call { Answered place.old.kept.held result place.new.kept.held (λ p answer r. Refuses interface.entry request.entry p answer r) }
+    ensures call { Answered place.old.kept.held result place.new.kept.held (λ p answer r. Refuses interface.now request.now p answer r) }
 {
     let Some(mut policy) = place.take(alloc) else {
         return Status::NoSession.code();
@@ -59,7 +59,7 @@ pub extern "C" fn nb_policy_ignore(
 ) -> u32
     ensures none { place.old.kept.held ≡ None → (result ≡ 1) × (place.new.kept.held ≡ None) }
     ensures stays { IsSome place.old.kept.held → IsSome place.new.kept.held }
-    ensures call { Answered place.old.kept.held result place.new.kept.held (λ p answer r. Ignores interface.entry request.entry p answer r) }
+    ensures call { Answered place.old.kept.held result place.new.kept.held (λ p answer r. Ignores interface.now request.now p answer r) }
 {
     let Some(mut policy) = place.take(alloc) else {
         return Status::NoSession.code();
