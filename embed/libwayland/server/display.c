@@ -35,12 +35,13 @@ EXPORT struct wl_display *wl_display_create(void)
     wl_signal_init(&display->client_created_signal);
     table_begin(&display->table, merge, &display->core);
     display->is_printing = print_is_asked("server");
+    display->buffer = malloc(NB_MOST_WAITING);
     display->loop = wl_event_loop_create();
     display->wakeup = eventfd(0, EFD_CLOEXEC | EFD_NONBLOCK);
     if (display->loop && display->wakeup >= 0)
         display->wakeup_source =
             wl_event_loop_add_fd(display->loop, display->wakeup, WL_EVENT_READABLE, wakes_up, NULL);
-    if (display->wakeup_source && nb_server_start(&display->core, &nothing, &fault) == NB_OK &&
+    if (display->buffer && display->wakeup_source && nb_server_start(&display->core, &nothing, &fault) == NB_OK &&
         nb_server_keep_global_names(&display->core, 1) == NB_OK &&
         nb_server_keep_notes(&display->core, 0) == NB_OK && /* the program ends resources, not notes */
         nb_server_hand_out_registries(&display->core, 1) == NB_OK)
@@ -78,6 +79,7 @@ EXPORT void wl_display_destroy(struct wl_display *display)
     nb_server_end(&display->core);
     table_end(&display->table);
     free(display->shm_formats.data);
+    free(display->buffer);
     free(display);
 }
 

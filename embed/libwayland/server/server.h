@@ -96,7 +96,7 @@ struct wl_global {
 struct wl_display {
     nb_server core;
     struct table table;
-    _Alignas(8) uint8_t buffer[NB_MOST_WAITING]; /* for one call of the session */
+    uint8_t *buffer; /* NB_MOST_WAITING bytes for one call of the session */
     struct wl_event_loop *loop;
     bool is_running;
     int wakeup; /* an eventfd, by which wl_display_terminate ends a wait */
