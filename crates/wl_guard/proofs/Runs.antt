@@ -336,14 +336,69 @@ module _ (p : PolicyState) where
                 ∙ sym (joined_nothing (unread side before)) ∙ ap (λ (q : Queue). joined (unread side before) q) (sym rest.nothing_came),
           )
 
+  -- what is to be read stays if a token is given back, as long as there is no end
+  still_read : (side : Side) (calls : List Call) (before mid after : GuardState) (t : Token) → after.end ≡ None → GivesBack before (Some t) mid → Leads p mid calls after
+      → unread side mid ≡ unread side before
+  still_read side calls before mid after t begun back more = go (back_reads side before mid t back)
+    where
+      go : (IsSome before.end) ⊎ (unread side mid ≡ unread side before) → unread side mid ≡ unread side before
+      go (inr same) = same
+      go (inl some) =
+          let keeps = back_keeps before mid t back in
+          let rest = all_stays side calls mid after (subst (λ (e : Option End). IsSome e) (sym keeps.end) some) more in
+          absurd (not_some before.end (sym keeps.end ∙ sym rest.end ∙ begun) some)
+
+  -- as long as there is no end, what follows them waits to be read
+  all_read : (side : Side) (calls : List Call) (before after : GuardState) → after.end ≡ None → Leads p before calls after
+      → joined (all_pieces (all_passed side calls)) (unread side after) ≡ joined (unread side before) (all_came side calls)
+  all_read side [] before after begun is = ap (λ (g : GuardState). unread side g) is ∙ sym (joined_nothing (unread side before))
+  all_read Client (Came Client came passages ∷ calls) before after begun (mid, (arrives, is), more) =
+      came_more Client passages (all_passed Client calls) before.from_client mid.from_client came (all_came Client calls) after.from_client
+      (subst (λ (xs : List Passage). joined (all_pieces xs) mid.from_client ≡ joined before.from_client came) is (came_call Client came before mid arrives))
+      (all_read Client calls mid after begun more)
+  all_read Server (Came Server came passages ∷ calls) before after begun (mid, (arrives, is), more) =
+      came_more Server passages (all_passed Server calls) before.from_server mid.from_server came (all_came Server calls) after.from_server
+      (subst (λ (xs : List Passage). joined (all_pieces xs) mid.from_server ≡ joined before.from_server came) is (came_call Server came before mid arrives))
+      (all_read Server calls mid after begun more)
+  all_read Client (Came Server came passages ∷ calls) before after begun (mid, (arrives, is), more) =
+      all_read Client calls mid after begun more ∙ ap (λ (q : Queue). joined q (all_came Client calls)) arrives.other
+  all_read Server (Came Client came passages ∷ calls) before after begun (mid, (arrives, is), more) =
+      all_read Server calls mid after begun more ∙ ap (λ (q : Queue). joined q (all_came Server calls)) arrives.other
+  all_read Client (WasSent by out ∷ calls) before after begun (mid, (count, is, out_is), more) =
+      all_read Client calls mid after begun more ∙ ap (λ (q : Queue). joined q (all_came Client calls)) (sent_reads by Client count before mid is)
+  all_read Server (WasSent by out ∷ calls) before after begun (mid, (count, is, out_is), more) =
+      all_read Server calls mid after begun more ∙ ap (λ (q : Queue). joined q (all_came Server calls)) (sent_reads by Server count before mid is)
+  all_read Client (GaveBack t ∷ calls) before after begun (mid, back, more) =
+      all_read Client calls mid after begun more ∙ ap (λ (q : Queue). joined q (all_came Client calls)) (still_read Client calls before mid after t begun back more)
+  all_read Server (GaveBack t ∷ calls) before after begun (mid, back, more) =
+      all_read Server calls mid after begun more ∙ ap (λ (q : Queue). joined q (all_came Server calls)) (still_read Server calls before mid after t begun back more)
+
+  nothing_read : (side : Side) → unread side new_guard ≡ nothing
+  nothing_read Client = refl
+  nothing_read Server = refl
+
+  first_came : (side : Side) (calls : List Call) (after : GuardState) → Leads p new_guard calls after
+      → (rest : Queue) × (joined (all_pieces (all_passed side calls)) rest ≡ all_came side calls) × (after.end ≡ None → rest ≡ unread side after)
+  first_came side calls after leads = go after.end refl
+    where
+      none : joined (unread side new_guard) (all_came side calls) ≡ all_came side calls
+      none = ap (λ (q : Queue). joined q (all_came side calls)) (nothing_read side)
+
+      go : (e : Option End) → after.end ≡ e
+          → (rest : Queue) × (joined (all_pieces (all_passed side calls)) rest ≡ all_came side calls) × (after.end ≡ None → rest ≡ unread side after)
+      go None is = (unread side after, all_read side calls new_guard after is leads ∙ none, λ begun. refl)
+      go (Some e) is =
+          let some = are_first side calls new_guard after leads in
+          (some.0, some.1 ∙ none, λ begun. let wrong : Some e ≡ None = sym is ∙ begun in absurd cc)
+
   -- ---- the laws
 
   pub goes_through : (calls : List Call) (after : GuardState) → Leads p new_guard calls after
       → (joined (all_out Server calls) (to_send Server after) ≡ all_sent (all_passed Client calls))
-      × ((rest : Queue) × (joined (all_pieces (all_passed Client calls)) rest ≡ all_came Client calls))
-  goes_through calls after leads = (server_all calls new_guard after leads, are_first Client calls new_guard after leads)
+      × ((rest : Queue) × (joined (all_pieces (all_passed Client calls)) rest ≡ all_came Client calls) × (after.end ≡ None → rest ≡ unread Client after))
+  goes_through calls after leads = (server_all calls new_guard after leads, first_came Client calls after leads)
 
   pub is_told : (calls : List Call) (after : GuardState) → Leads p new_guard calls after
       → (joined (all_out Client calls) (to_send Client after) ≡ told_end p after.known after.end (all_sent (all_passed Server calls)))
-      × ((rest : Queue) × (joined (all_pieces (all_passed Server calls)) rest ≡ all_came Server calls))
-  is_told calls after leads = (client_all calls new_guard after refl leads, are_first Server calls new_guard after leads)
+      × ((rest : Queue) × (joined (all_pieces (all_passed Server calls)) rest ≡ all_came Server calls) × (after.end ≡ None → rest ≡ unread Server after))
+  is_told calls after leads = (client_all calls new_guard after refl leads, first_came Server calls after leads)

@@ -37,20 +37,21 @@ pub fn binds_are_of_the_table()
 {}
 
 /// Of a new guard: what the compositor was sent, and then what is to be sent to it, is what goes on for the messages that were passed of
-/// the client. And these are the first of what the client sent, one after another: none is left out.
+/// the client. And these are the first of what the client sent, one after another: none is left out. What follows them waits to be read, as
+/// long as the connection has not ended.
 pub fn all_goes_through_the_guard()
     ensures { (p : PolicyState) (calls : List Call) (after : GuardState) → Leads p new_guard calls after
         → (joined (all_out Server calls) (to_send Server after) ≡ all_sent (all_passed Client calls))
-        × ((rest : Queue) × (joined (all_pieces (all_passed Client calls)) rest ≡ all_came Client calls)) }
+        × ((rest : Queue) × (joined (all_pieces (all_passed Client calls)) rest ≡ all_came Client calls) × (after.end ≡ None → rest ≡ unread Client after)) }
 {}
 
 /// Of a new guard: what the client was sent, and then what is to be sent to it, is what goes on for the messages that were passed of the
 /// compositor, and then, if the connection has ended by a breach of the client, the error. And these are the first of what the compositor
-/// sent: none is left out.
+/// sent: none is left out. What follows them waits to be read, as long as the connection has not ended.
 pub fn only_what_is_hidden_is_hidden()
     ensures { (p : PolicyState) (calls : List Call) (after : GuardState) → Leads p new_guard calls after
         → (joined (all_out Client calls) (to_send Client after) ≡ told_end p after.known after.end (all_sent (all_passed Server calls)))
-        × ((rest : Queue) × (joined (all_pieces (all_passed Server calls)) rest ≡ all_came Server calls)) }
+        × ((rest : Queue) × (joined (all_pieces (all_passed Server calls)) rest ≡ all_came Server calls) × (after.end ≡ None → rest ≡ unread Server after)) }
 {}
 
 /// Each request that was passed is exactly as long as its arguments, is one of the version of its object, and is not refused. It goes on
