@@ -5,6 +5,7 @@
 #include <errno.h>
 #include <fcntl.h>
 #include <numbyroga.h>
+#include <stdbool.h>
 #include <stdio.h>
 #include <stdlib.h>
 #include <string.h>
@@ -51,17 +52,19 @@ static inline int socket_address(const char *name, struct sockaddr_un *address)
 
 /* Listens at a name or path; an accept on the socket never waits. As libwayland does, it locks a file beside the socket
  * for as long as the process lives: so a server that runs keeps its name, and what one that ended has left is taken
- * away. -1 if something is wrong, which it prints. */
+ * away. The user alone may connect. -1 if something is wrong, which it prints. */
 static inline int socket_listen(const char *name)
 {
     struct sockaddr_un address;
     char lock[sizeof address.sun_path + sizeof ".lock"];
     struct stat left;
     int locked, listener;
+    mode_t mask;
+    bool is_bound;
     if (socket_address(name, &address) < 0)
         return -1;
     snprintf(lock, sizeof lock, "%s.lock", address.sun_path);
-    locked = open(lock, O_CREAT | O_RDWR | O_CLOEXEC, 0600);
+    locked = open(lock, O_CREAT | O_RDWR | O_CLOEXEC | O_NOFOLLOW, 0600);
     if (locked < 0 || flock(locked, LOCK_EX | LOCK_NB) < 0) {
         fprintf(stderr, "%s: %s\n", lock, errno == EWOULDBLOCK ? "a server runs there" : strerror(errno));
         if (locked >= 0)
@@ -71,7 +74,10 @@ static inline int socket_listen(const char *name)
     if (lstat(address.sun_path, &left) == 0 && S_ISSOCK(left.st_mode))
         unlink(address.sun_path);
     listener = socket(AF_UNIX, SOCK_STREAM | SOCK_NONBLOCK | SOCK_CLOEXEC, 0);
-    if (listener < 0 || bind(listener, (struct sockaddr *)&address, sizeof address) < 0 || listen(listener, 64) < 0) {
+    mask = umask(0177);
+    is_bound = listener >= 0 && bind(listener, (struct sockaddr *)&address, sizeof address) == 0;
+    umask(mask);
+    if (!is_bound || listen(listener, 64) < 0) {
         perror(address.sun_path);
         if (listener >= 0)
             close(listener);

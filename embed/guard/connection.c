@@ -71,7 +71,10 @@ static void flush(struct end *end)
         if (taken == -EAGAIN)
             return;
         if (taken < 0) {
+            /* Of a side that has hung up, what it said before may still be read, and then its end. Another error leaves
+             * a hole in the stream, so it ends the connection. */
             end->is_gone = true;
+            end->is_over = end->is_over || (taken != -EPIPE && taken != -ECONNRESET);
             taken = counts.bytes;
         }
         nb_guard_sent(&end->connection->guard, end->side, (uint32_t)taken);
@@ -143,19 +146,20 @@ static bool may_read(struct end *end)
 }
 
 /* Tells epoll what a socket is waited for. One that is waited for nothing is not watched: else epoll would tell again
- * and again that it was hung up. */
-static void watch(struct end *end)
+ * and again that it was hung up. False if that fails, which is said: of the socket nothing would be heard any more. */
+static bool watch(struct end *end)
 {
     struct epoll_event event = { .events = (may_read(end) ? EPOLLIN : 0) | (end->waits ? EPOLLOUT : 0),
                                  .data.ptr = end };
     const int operation = event.events == 0 ? EPOLL_CTL_DEL : end->watched == 0 ? EPOLL_CTL_ADD : EPOLL_CTL_MOD;
     if (event.events == end->watched)
-        return;
+        return true;
     if (epoll_ctl(end->connection->epoll, operation, end->socket, &event) < 0) {
         perror("numbyroga-guard: epoll_ctl");
-        end->is_over = end->is_gone = true;
+        return false;
     }
     end->watched = event.events;
+    return true;
 }
 
 /* Closes a socket for which nothing is left to be done. */
@@ -202,44 +206,44 @@ bool connection_event(struct end *end, uint32_t events)
         receive(end);
     for (size_t side = 0; side < 2; side++)
         flush(&connection->ends[side]);
-    bool lives = false;
+    bool lives = false, is_watched = true;
     for (size_t side = 0; side < 2; side++) {
         struct end *each = &connection->ends[side];
         if (is_over(connection) && !each->waits)
             close_end(each);
         if (each->socket >= 0)
-            watch(each);
+            is_watched = watch(each) && is_watched;
         lives = lives || each->socket >= 0;
     }
+    lives = lives && is_watched;
     if (!lives)
         end_of(connection);
     return lives;
 }
 
-/* Connects to the server, and never waits for that: a server that rests is to stop no other client. */
-static int connect_to_server(void)
+int connection_to_server(void)
 {
     const char *name = getenv("WAYLAND_DISPLAY");
     struct sockaddr_un address;
     if (socket_address(name ? name : "wayland-0", &address) < 0)
-        return -1;
+        return -EINVAL;
     const int server = socket(AF_UNIX, SOCK_STREAM | SOCK_NONBLOCK | SOCK_CLOEXEC, 0);
-    if (server >= 0 && connect(server, (struct sockaddr *)&address, sizeof address) == 0)
+    if (server < 0)
+        return -errno;
+    if (connect(server, (struct sockaddr *)&address, sizeof address) == 0)
         return server;
-    perror(address.sun_path);
-    if (server >= 0)
-        close(server);
-    return -1;
+    const int error = errno;
+    close(server);
+    return -error;
 }
 
-struct connection *connection_new(int epoll, int client, unsigned number, nb_policy *policy, const nb_table *table)
+struct connection *connection_new(int epoll, int client, int server, unsigned number, nb_policy *policy,
+                                  const nb_table *table)
 {
     struct connection *connection = calloc(1, sizeof *connection);
-    const int server = connection ? connect_to_server() : -1;
-    if (server < 0 || nb_guard_new(&connection->guard) != NB_OK) {
+    if (!connection || nb_guard_new(&connection->guard) != NB_OK) {
         close(client);
-        if (server >= 0)
-            close(server);
+        close(server);
         free(connection);
         return NULL;
     }
@@ -251,12 +255,13 @@ struct connection *connection_new(int epoll, int client, unsigned number, nb_pol
     connection->policy = policy;
     connection->epoll = epoll;
     connection->seen = watch_new(number, table);
-    for (uint32_t side = 0; side < 2; side++) {
+    for (uint32_t side = 0; side < 2; side++)
         connection->ends[side] =
             (struct end){ .connection = connection, .side = side, .socket = side == NB_CLIENT_SIDE ? client : server };
-        watch(&connection->ends[side]);
-    }
-    return connection;
+    if (watch(&connection->ends[0]) && watch(&connection->ends[1]))
+        return connection;
+    end_of(connection);
+    return NULL;
 }
 
 void connection_end_all(void)

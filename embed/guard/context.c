@@ -6,7 +6,9 @@
 #include "../socket.h"
 #include <limits.h>
 #include <poll.h>
+#include <signal.h>
 #include <stdlib.h>
+#include <sys/signalfd.h>
 
 enum { MOST_ARGUMENTS = 24 };
 
@@ -22,6 +24,8 @@ struct maker {
 /* Where the compositor listens, and a pipe that tells it when to stop: by the end of this program. */
 static char folder[PATH_MAX], path[PATH_MAX];
 static int until_end[2] = { -1, -1 };
+
+static bool was_stopped;
 
 static uint8_t bytes[NB_MOST_BYTES];
 static int32_t descriptors[NB_MOST_DESCRIPTORS];
@@ -59,6 +63,24 @@ static void take_event(struct maker *maker, const nb_event *event, const nb_argu
         maker->name = nb_uint_of(&arguments[0]);
 }
 
+/* Waits until something came from the compositor. False if a signal that ends this program came before. It stays
+ * pending. */
+static bool wait_for_bytes(int socket)
+{
+    sigset_t ends;
+    sigemptyset(&ends);
+    sigaddset(&ends, SIGTERM);
+    sigaddset(&ends, SIGINT);
+    sigaddset(&ends, SIGHUP);
+    const int signals = signalfd(-1, &ends, SFD_CLOEXEC | SFD_NONBLOCK);
+    struct pollfd both[] = { { .fd = socket, .events = POLLIN }, { .fd = signals, .events = POLLIN } };
+    poll(both, 2, -1);
+    was_stopped = both[1].revents != 0;
+    if (signals >= 0)
+        close(signals);
+    return !was_stopped;
+}
+
 /* Reads until the compositor has answered the last sync. */
 static bool wait_for_answer(struct maker *maker)
 {
@@ -67,7 +89,8 @@ static bool wait_for_answer(struct maker *maker)
     maker->is_done = false;
     while (!maker->is_done) {
         size_t count;
-        poll(&(struct pollfd){ .fd = maker->socket, .events = POLLIN }, 1, -1);
+        if (!wait_for_bytes(maker->socket))
+            return false;
         const ssize_t came = socket_receive(maker->socket, bytes, sizeof bytes, descriptors, &count);
         if (came == -EAGAIN)
             continue;
@@ -165,7 +188,7 @@ static bool make(struct maker *maker, const char *application, const char *engin
            say("the compositor refuses it");
 }
 
-void context_make(const nb_table *table, const char *application, const char *engine)
+bool context_make(const nb_table *table, const char *application, const char *engine)
 {
     struct maker maker = { .session = NB_EMPTY, .socket = socket_connect() };
     nb_table_fault fault;
@@ -177,6 +200,7 @@ void context_make(const nb_table *table, const char *application, const char *en
     nb_client_end(&maker.session);
     if (maker.socket >= 0)
         close(maker.socket);
+    return !was_stopped;
 }
 
 void context_end(void)

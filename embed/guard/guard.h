@@ -77,9 +77,13 @@ void watch_close(void);
 
 struct connection;
 
+/* Connects to the server, and never waits for that: a server that rests is to stop no other client. Returns the socket,
+ * or the negative of `errno`, which it does not print. */
+int connection_to_server(void);
 /* Begins to guard a client that was accepted, by a connection to the server. Its sockets are watched by epoll: the data
- * of an event are a struct end. NULL if that fails, which is said. The client's socket is closed then. */
-struct connection *connection_new(int epoll, int client, unsigned number, nb_policy *policy, const nb_table *table);
+ * of an event are a struct end. NULL if that fails. Both sockets are closed then. */
+struct connection *connection_new(int epoll, int client, int server, unsigned number, nb_policy *policy,
+                                  const nb_table *table);
 /* Something can be done on a socket. True as long as the connection lives: false frees it. */
 struct end;
 bool connection_event(struct end *end, uint32_t events);
@@ -89,8 +93,9 @@ void connection_end_all(void);
 /* ======== context.c */
 
 /* Asks the compositor for a socket at which it knows that who connects is sandboxed: as this application, of this
- * engine. WAYLAND_DISPLAY names that socket from then on. If there is none, it says so. */
-void context_make(const nb_table *table, const char *application, const char *engine);
+ * engine. WAYLAND_DISPLAY names that socket from then on. If there is none, it says so. False if a signal came that
+ * ends this program. */
+bool context_make(const nb_table *table, const char *application, const char *engine);
 void context_end(void);
 
 /* ======== loop.c */

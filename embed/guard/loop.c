@@ -11,10 +11,12 @@
 #include <sys/wait.h>
 #include <unistd.h>
 
+enum { REST = 100 }; /* milliseconds */
+
 struct loop {
     int epoll, listener, signals, program, status;
     unsigned clients, next_number;
-    bool is_full;     /* no descriptor was left for the last client: the socket rests until one ends */
+    bool is_full;     /* there was no room for the next client: it waits, and the socket rests for a while */
     bool is_stopping; /* a signal came */
     nb_policy *policy;
     const nb_table *table;
@@ -29,25 +31,51 @@ static bool add(const struct loop *loop, int descriptor, void *data)
     return false;
 }
 
+/* Whether it may be otherwise in a while: descriptors or memory are used up, or too many wait for the server. */
+static bool is_want(int error)
+{
+    return error == EMFILE || error == ENFILE || error == ENOMEM || error == ENOBUFS || error == EAGAIN;
+}
+
+static void rest(struct loop *loop)
+{
+    epoll_ctl(loop->epoll, EPOLL_CTL_DEL, loop->listener, NULL);
+    loop->is_full = true;
+}
+
+/* Looks for clients again. */
+static void go_on(struct loop *loop)
+{
+    if (loop->is_full)
+        loop->is_full = !add(loop, loop->listener, &loop->listener);
+}
+
+/* Takes the next client, once there is a connection to the server for it: until then it waits before the door. */
 static void accept_client(struct loop *loop)
 {
-    const int client = accept4(loop->listener, NULL, NULL, SOCK_NONBLOCK | SOCK_CLOEXEC);
-    if (client < 0) {
-        if (errno == EMFILE || errno == ENFILE) {
-            epoll_ctl(loop->epoll, EPOLL_CTL_DEL, loop->listener, NULL);
-            loop->is_full = true;
-        }
+    const int server = connection_to_server();
+    if (server < 0 && is_want(-server)) {
+        rest(loop);
         return;
     }
-    if (connection_new(loop->epoll, client, ++loop->next_number, loop->policy, loop->table))
+    const int client = accept4(loop->listener, NULL, NULL, SOCK_NONBLOCK | SOCK_CLOEXEC);
+    if (client < 0) {
+        if (errno != EAGAIN && is_want(errno))
+            rest(loop);
+        if (server >= 0)
+            close(server);
+    } else if (server < 0) {
+        fprintf(stderr, "numbyroga-guard: a client is sent away: the server: %s\n", strerror(-server));
+        close(client);
+    } else if (connection_new(loop->epoll, client, server, ++loop->next_number, loop->policy, loop->table)) {
         loop->clients++;
+    }
 }
 
 static void forget_client(struct loop *loop)
 {
     loop->clients--;
-    if (loop->is_full)
-        loop->is_full = !add(loop, loop->listener, &loop->listener);
+    go_on(loop);
 }
 
 /* The status of a program that has ended, as a shell has it. */
@@ -104,7 +132,10 @@ int loop_run(int listener, int program, nb_policy *policy, const nb_table *table
     }
     while (goes_on(&loop)) {
         struct epoll_event event; /* one at a time: the next one may be of a connection that this one ends */
-        if (epoll_wait(loop.epoll, &event, 1, -1) != 1)
+        const int count = epoll_wait(loop.epoll, &event, 1, loop.is_full ? REST : -1);
+        if (count == 0)
+            go_on(&loop);
+        if (count != 1)
             continue;
         if (event.data.ptr == &loop.listener)
             accept_client(&loop);

@@ -12,7 +12,7 @@
  *   --what       all of the table is allowed, and the policy that the program needed is printed
  *
  * With a program it starts that, behind it, and ends with its status, once no client is left. Without one it ends by a
- * signal. The compositor is that of WAYLAND_DISPLAY. */
+ * signal. The compositor is that of WAYLAND_DISPLAY: the connection of WAYLAND_SOCKET, if there is one, is closed. */
 #define _GNU_SOURCE
 #include "guard.h"
 #include "../socket.h"
@@ -38,6 +38,12 @@ struct door {
     char folder[PATH_MAX], path[PATH_MAX];
     int listener;
     bool is_own;
+};
+
+/* How this program was started to take signals. */
+struct signals {
+    sigset_t mask;
+    struct sigaction of_children;
 };
 
 static int usage(void)
@@ -81,15 +87,18 @@ static bool read_options(int argc, char **argv, struct options *options, struct 
 static bool open_door(struct door *door, const char *asked)
 {
     const char *runtime = getenv("XDG_RUNTIME_DIR");
-    door->is_own = !asked;
     if (asked) {
-        snprintf(door->path, sizeof door->path, "%s", asked);
+        if ((size_t)snprintf(door->path, sizeof door->path, "%s", asked) >= sizeof door->path) {
+            fprintf(stderr, "numbyroga-guard: the path of the socket is too long\n");
+            return false;
+        }
     } else {
         snprintf(door->folder, sizeof door->folder, "%s/numbyroga-guard-XXXXXX", runtime ? runtime : "/tmp");
         if (!mkdtemp(door->folder)) {
             perror(door->folder);
             return false;
         }
+        door->is_own = true;
         if ((size_t)snprintf(door->path, sizeof door->path, "%s/wayland", door->folder) >= sizeof door->path)
             return false;
     }
@@ -97,29 +106,52 @@ static bool open_door(struct door *door, const char *asked)
     return door->listener >= 0;
 }
 
+/* Removes what open_door made, and nothing else: a socket at which this program does not listen is another's. */
 static void close_door(const struct door *door)
 {
     struct sockaddr_un address;
     char lock[PATH_MAX + sizeof ".lock"];
-    if (socket_address(door->path, &address) < 0)
-        return;
-    snprintf(lock, sizeof lock, "%s.lock", address.sun_path);
-    unlink(address.sun_path);
-    unlink(lock);
-    if (door->is_own)
+    if (door->listener >= 0 && socket_address(door->path, &address) == 0) {
+        close(door->listener);
+        snprintf(lock, sizeof lock, "%s.lock", address.sun_path);
+        unlink(address.sun_path);
+        unlink(lock);
+    }
+    if (door->is_own) {
+        /* A lock may be left there without a socket, if listening failed. */
+        if (door->listener < 0 && (size_t)snprintf(lock, sizeof lock, "%s.lock", door->path) < sizeof lock)
+            unlink(lock);
         rmdir(door->folder);
+    }
+}
+
+/* Closes the connection that WAYLAND_SOCKET names: it is for one client that its giver knows, so the program gets it
+ * neither by this guard nor around it. It comes before anything is opened, which could have its number. */
+static void close_given(void)
+{
+    const char *given = getenv("WAYLAND_SOCKET");
+    char *end;
+    if (!given)
+        return;
+    const long number = strtol(given, &end, 10);
+    if (end != given && *end == 0 && number >= 0 && number <= INT_MAX) {
+        close((int)number);
+        if (number <= STDERR_FILENO && open("/dev/null", O_RDWR) < 0)
+            perror("/dev/null");
+    }
+    unsetenv("WAYLAND_SOCKET");
 }
 
 /* Starts the program behind the guard. Returns its number, or -1. */
-static pid_t start(char **program, const char *display, const sigset_t *signals, const struct rlimit *limit)
+static pid_t start(char **program, const char *display, const struct signals *before, const struct rlimit *limit)
 {
     const pid_t started = fork();
     if (started != 0)
         return started;
-    sigprocmask(SIG_SETMASK, signals, NULL);
+    sigaction(SIGCHLD, &before->of_children, NULL);
+    sigprocmask(SIG_SETMASK, &before->mask, NULL);
     setrlimit(RLIMIT_NOFILE, limit);
     setenv("WAYLAND_DISPLAY", display, 1);
-    unsetenv("WAYLAND_SOCKET");
     execvp(program[0], program);
     perror(program[0]);
     _exit(NOT_FOUND);
@@ -136,16 +168,20 @@ static struct rlimit raise_limit(void)
     return limit;
 }
 
-/* The signals that the loop takes are held back from here on. Returns the mask as it was. */
-static sigset_t hold_signals(void)
+/* The signals that the loop takes are held back from here on. Whoever started this program may have ignored the ends of
+ * children: then there would be no status of the program to wait for. Returns what was before. */
+static struct signals hold_signals(void)
 {
-    sigset_t held, before;
+    const struct sigaction usual = { .sa_handler = SIG_DFL };
+    struct signals before;
+    sigset_t held;
     sigemptyset(&held);
     sigaddset(&held, SIGCHLD);
     sigaddset(&held, SIGTERM);
     sigaddset(&held, SIGINT);
     sigaddset(&held, SIGHUP);
-    sigprocmask(SIG_BLOCK, &held, &before);
+    sigprocmask(SIG_BLOCK, &held, &before.mask);
+    sigaction(SIGCHLD, &usual, &before.of_children);
     return before;
 }
 
@@ -153,19 +189,16 @@ static int run(const struct options *options, nb_policy *policy, const nb_table 
 {
     struct door door = { .listener = -1 };
     const struct rlimit limit = raise_limit();
-    const sigset_t signals = hold_signals();
+    const struct signals signals = hold_signals();
     int status = NOT_STARTED;
     pid_t program = -1;
-    unsetenv("WAYLAND_SOCKET");
-    if (options->application)
-        context_make(table, options->application, options->engine);
-    if (open_door(&door, options->socket)) {
+    const bool is_wanted = !options->application || context_make(table, options->application, options->engine);
+    if (is_wanted && open_door(&door, options->socket)) {
         program = options->program ? start(options->program, door.path, &signals, &limit) : 0;
         if (program < 0)
             perror("numbyroga-guard: fork");
         else
             status = loop_run(door.listener, program > 0 ? program : -1, policy, table);
-        close(door.listener);
     }
     close_door(&door);
     context_end();
@@ -180,6 +213,7 @@ int main(int argc, char **argv)
     struct table table;
     nb_policy policy = NB_EMPTY;
     int status = NOT_STARTED;
+    close_given();
     table_begin(&table);
     if (read_options(argc, argv, &options, &table)) {
         if (options.says_what)

@@ -6,7 +6,8 @@
 #include <stdlib.h>
 #include <string.h>
 
-enum { MOST_REGISTRIES = 64, HEADER = 8 };
+/* MOST_SEEN: more interfaces than any server has. */
+enum { HEADER = 8, MOST_SEEN = 4096 };
 
 /* A message that is not whole yet. */
 struct stream {
@@ -19,8 +20,8 @@ struct watch {
     unsigned number;
     const nb_table *table;
     struct stream streams[2];
-    uint32_t registries[MOST_REGISTRIES];
-    size_t registry_count;
+    uint32_t *registries; /* the guard's limit of objects bounds them: none of them ever ends */
+    size_t registry_count, registry_room;
 };
 
 /* An interface that was announced, and up to which version it was bound. */
@@ -66,6 +67,7 @@ void watch_free(struct watch *watch)
         return;
     free(watch->streams[0].bytes);
     free(watch->streams[1].bytes);
+    free(watch->registries);
     free(watch);
 }
 
@@ -91,31 +93,43 @@ static bool read_global(const uint8_t *message, size_t length, struct span *name
     return true;
 }
 
-static struct seen *seen_of(struct span name)
+/* NULL if it was not seen, and is not to be added, or if too many were. */
+static struct seen *seen_of(struct span name, bool adds)
 {
     for (size_t i = 0; i < seen_count; i++)
         if (span_is(name, all_seen[i].name))
             return &all_seen[i];
+    if (!adds || seen_count == MOST_SEEN)
+        return NULL;
     all_seen = checked(realloc(all_seen, (seen_count + 1) * sizeof *all_seen));
     all_seen[seen_count] = (struct seen){ checked(strndup(name.at, name.length)), 0, 0 };
     return &all_seen[seen_count++];
 }
 
 /* Writes a name, which may be anything: a peer sent it. */
-static void put_name(struct span name)
+static void put_name(struct span name, FILE *to)
 {
     for (size_t i = 0; i < name.length; i++)
-        fputc(name.at[i] > ' ' && name.at[i] < 0x7f ? name.at[i] : '?', log_file);
+        fputc(name.at[i] > ' ' && name.at[i] < 0x7f ? name.at[i] : '?', to);
+}
+
+/* Keeps what the server announced, and what was bound of that. A client may try to bind what was not announced, or what
+ * the table lacks: that is refused, and nothing that a policy is to allow. */
+static void keep(const struct watch *watch, bool is_bind, struct span name, uint32_t version)
+{
+    struct seen *seen = seen_of(name, !is_bind);
+    if (!seen)
+        return;
+    if (!is_bind && version > seen->announced)
+        seen->announced = version;
+    if (is_bind && version > seen->bound && version <= seen->announced && table_has(watch->table, name))
+        seen->bound = version;
 }
 
 static void see_global(const struct watch *watch, bool is_bind, struct span name, uint32_t version)
 {
-    if (keeps) {
-        struct seen *seen = seen_of(name);
-        uint32_t *least = is_bind ? &seen->bound : &seen->announced;
-        if (version > *least)
-            *least = version;
-    }
+    if (keeps)
+        keep(watch, is_bind, name, version);
     if (!log_file)
         return;
     const uint32_t allowed = policy_version(name);
@@ -124,8 +138,17 @@ static void see_global(const struct watch *watch, bool is_bind, struct span name
             : !table_has(watch->table, name) ? "[hidden: not in the table]"
             : allowed == 0                   ? "[hidden]"
                                              : "is told of");
-    put_name(name);
+    put_name(name, log_file);
     fprintf(log_file, " %u\n", is_bind || allowed == 0 || version < allowed ? version : allowed);
+}
+
+static void add_registry(struct watch *watch, uint32_t number)
+{
+    if (watch->registry_count == watch->registry_room) {
+        watch->registry_room = 2 * watch->registry_room + 4;
+        watch->registries = checked(realloc(watch->registries, watch->registry_room * sizeof *watch->registries));
+    }
+    watch->registries[watch->registry_count++] = number;
 }
 
 static bool is_registry(const struct watch *watch, uint32_t number)
@@ -142,8 +165,8 @@ static void see_message(struct watch *watch, uint32_t side, const uint8_t *messa
     struct span name;
     uint32_t version;
     if (side == NB_CLIENT_SIDE && sender == 1 && opcode == 1 && length >= HEADER + 4 &&
-        watch->registry_count < MOST_REGISTRIES && !is_registry(watch, word_at(message + HEADER)))
-        watch->registries[watch->registry_count++] = word_at(message + HEADER);
+        !is_registry(watch, word_at(message + HEADER)))
+        add_registry(watch, word_at(message + HEADER));
     else if (is_registry(watch, sender) && opcode == 0 && read_global(message, length, &name, &version))
         see_global(watch, side == NB_CLIENT_SIDE, name, version);
 }
@@ -203,21 +226,33 @@ static int by_name(const void *one, const void *other)
     return strcmp(((const struct seen *)one)->name, ((const struct seen *)other)->name);
 }
 
+static struct span name_of(const struct seen *seen)
+{
+    return (struct span){ seen->name, strlen(seen->name) };
+}
+
+static void print_line(const char *begin, struct span name, uint32_t version, FILE *to)
+{
+    fputs(begin, to);
+    put_name(name, to);
+    fprintf(to, " %u\n", version);
+}
+
 void print_what(const nb_table *table, FILE *to)
 {
     qsort(all_seen, seen_count, sizeof *all_seen, by_name);
     fprintf(to, "# What the program bound.\n");
     for (size_t i = 0; i < seen_count; i++)
         if (all_seen[i].bound > 0)
-            fprintf(to, "allow %s %u\n", all_seen[i].name, all_seen[i].bound);
+            print_line("allow ", name_of(&all_seen[i]), all_seen[i].bound, to);
     fprintf(to, "\n# What it was told of, and did not bind.\n");
     for (size_t i = 0; i < seen_count; i++)
-        if (all_seen[i].bound == 0 && table_has(table, (struct span){ all_seen[i].name, strlen(all_seen[i].name) }))
-            fprintf(to, "# %s %u\n", all_seen[i].name, all_seen[i].announced);
+        if (all_seen[i].bound == 0 && table_has(table, name_of(&all_seen[i])))
+            print_line("# ", name_of(&all_seen[i]), all_seen[i].announced, to);
     fprintf(to, "\n# What the server offers, and the table lacks.\n");
     for (size_t i = 0; i < seen_count; i++)
-        if (!table_has(table, (struct span){ all_seen[i].name, strlen(all_seen[i].name) }))
-            fprintf(to, "# %s %u\n", all_seen[i].name, all_seen[i].announced);
+        if (!table_has(table, name_of(&all_seen[i])))
+            print_line("# ", name_of(&all_seen[i]), all_seen[i].announced, to);
 }
 
 void watch_close(void)
