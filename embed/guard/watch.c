@@ -240,7 +240,8 @@ static void print_line(const char *begin, struct span name, uint32_t version, FI
 
 void print_what(const nb_table *table, FILE *to)
 {
-    qsort(all_seen, seen_count, sizeof *all_seen, by_name);
+    if (seen_count > 0)
+        qsort(all_seen, seen_count, sizeof *all_seen, by_name);
     fprintf(to, "# What the program bound.\n");
     for (size_t i = 0; i < seen_count; i++)
         if (all_seen[i].bound > 0)

@@ -82,6 +82,45 @@ def opened(policy, table):
     return allowed, names
 
 
+def said_on(connections, policy, files):
+    """What clients said to the compositor, to be compared with what they say behind a guard: how often they bound what the policy allows,
+    up to its version; of which interfaces the policy opens they made objects; and how many frames they committed."""
+    table = rows(files)
+    allowed, names = opened(policy, table)
+    binds, made, frames = {}, set(), 0
+    for kept in connections:
+        objects, left = {1: "wl_display"}, [b"", b""]
+        for is_event, data in kept:
+            data = left[is_event] + data
+            while len(data) >= 8 and len(data) >= struct.unpack_from("=I", data, 4)[0] >> 16:
+                sender, rest = struct.unpack_from("=II", data)
+                body, data = data[8:rest >> 16], data[rest >> 16:]
+                messages = table.get(objects.get(sender), ([], []))[is_event]
+                if (rest & 0xFFFF) >= len(messages):
+                    continue
+                name, arguments = messages[rest & 0xFFFF]
+                frames += (objects[sender], name) == ("wl_surface", "commit")
+                at = 0
+                for kind, interface in arguments:
+                    if kind in ("string", "array") or (kind == "new_id" and interface is None):
+                        length = struct.unpack_from("=I", body, at)[0]
+                        text, at = body[at + 4:at + 3 + length].decode(errors="replace"), at + 4 + (length + 3) // 4 * 4
+                        if kind == "new_id":
+                            version, number = struct.unpack_from("=II", body, at)
+                            objects[number], at = text, at + 8
+                            if text in allowed:
+                                bound = text, min(version, int(allowed[text]))
+                                binds[bound] = binds.get(bound, 0) + 1
+                    elif kind != "fd":
+                        if kind == "new_id":
+                            objects[struct.unpack_from("=I", body, at)[0]] = interface
+                            if not is_event and interface in names:
+                                made.add(interface)
+                        at += 4
+            left[is_event] = data
+    return {"binds": binds, "made": made, "frames": frames}
+
+
 def faults(kept, policy, files):
     """What is wrong with what went to the compositor on one connection, and how many requests there were."""
     table = rows(files)
