@@ -181,7 +181,8 @@ static void drop_all(struct connection *connection)
             connection->ends[side].is_gone = true;
             flush(&connection->ends[side]);
         }
-        nb_guard_hang_up(&connection->guard, connection->policy);
+        if (nb_guard_hang_up(&connection->guard, connection->policy) == NB_OUT_OF_MEMORY)
+            fprintf(stderr, "numbyroga-guard: out of memory: descriptors that were not read stay open\n");
     }
     close_released(connection);
 }
