@@ -8,6 +8,7 @@ import select
 import socket
 import struct
 import threading
+import time
 import xml.etree.ElementTree
 
 
@@ -16,7 +17,7 @@ class Recorder(threading.Thread):
 
     def __init__(self, path, server):
         super().__init__(daemon=True)
-        self.path, self.server, self.connections, self.is_ended = path, server, [], False
+        self.path, self.server, self.connections, self.threads, self.is_ended = path, server, [], [], False
         self.listener = socket.socket(socket.AF_UNIX)
         self.listener.bind(path)
         self.listener.listen(64)
@@ -31,7 +32,8 @@ class Recorder(threading.Thread):
                 server.connect(self.server)
                 kept = []
                 self.connections.append(kept)
-                threading.Thread(target=self.serve, args=(client, server, kept), daemon=True).start()
+                self.threads.append(threading.Thread(target=self.serve, args=(client, server, kept), daemon=True))
+                self.threads[-1].start()
 
     @staticmethod
     def serve(client, server, kept):
@@ -44,8 +46,11 @@ class Recorder(threading.Thread):
                     if not data:
                         return
                     kept.append((ready is server, data))
-                    sent = other[ready].sendmsg([data], [(socket.SOL_SOCKET, socket.SCM_RIGHTS, it) for it in given])
-                    other[ready].sendall(data[sent:])
+                    try:
+                        sent = other[ready].sendmsg([data], [(socket.SOL_SOCKET, socket.SCM_RIGHTS, it) for it in given])
+                        other[ready].sendall(data[sent:])
+                    except OSError:
+                        pass  # It has hung up: what it said before is still to be read.
                     for it in given:
                         for descriptor in it:
                             os.close(descriptor)
@@ -54,6 +59,16 @@ class Recorder(threading.Thread):
         finally:
             client.close()
             server.close()
+
+    def take(self, seconds=10):
+        """What went over the connections since the last call: the programs have ended, so it waits until all is read of them."""
+        time.sleep(0.3)  # until the last one that connected is accepted
+        for thread in self.threads:
+            thread.join(seconds)
+        taken = self.connections[:]
+        self.threads.clear()
+        self.connections.clear()
+        return taken
 
     def close(self):
         self.is_ended = True
