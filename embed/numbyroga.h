@@ -1389,9 +1389,9 @@ nb_status nb_queues_finish(nb_queues *place, uint64_t ticket, uint64_t *content)
 
 /* ======== A guard
  *
- * For a program between a client and its compositor: numbyroga-guard is one. It takes what both sides send, and hands on
- * what a policy allows. The policy says which globals the client is told of and may bind, up to which version, and which
- * requests it may not make; it has the table under which both sides are read. Nothing is allowed at first.
+ * For a program between a client and its compositor: numbyroga-guard is one. It takes what both sides send, and hands
+ * on what a policy allows. The policy says which globals the client is told of and may bind, up to which version, and
+ * which requests it may not make; it has the table under which both sides are read. Nothing is allowed at first.
  *
  *   1. Make a policy by nb_policy_new, and give it its rules.
  *   2. For each client make a guard by nb_guard_new, and connect to the compositor.
@@ -1426,19 +1426,19 @@ enum { NB_CLIENT_SIDE = 0, NB_SERVER_SIDE = 1 };
 
 /* Why a guard's connection has ended. */
 enum {
-    NB_NOT_ENDED = 0,           /* it has not */
-    NB_END_MALFORMED = 1,       /* what a side sent is no message */
-    NB_END_UNKNOWN = 2,         /* there is no such object, or its interface has no such message */
-    NB_END_DESTROYED = 3,       /* the client has ended the object */
-    NB_END_LENGTH = 4,          /* the message is not as long as its arguments */
-    NB_END_VERSION = 5,         /* the version of the object does not have the request */
-    NB_END_POLICY = 6,          /* the policy refuses the request */
-    NB_END_GLOBAL = 7,          /* the client was not told last of such a global, or not in this version */
-    NB_END_NEW_ID = 8,          /* a new object may not have this number */
-    NB_END_OBJECTS = 9,         /* a new object has a number beyond the limit */
-    NB_END_GLOBALS = 10,        /* more numbers of globals were announced than the limit */
-    NB_END_DESCRIPTORS = 11,    /* there are descriptors that no message takes, or a message waits for one */
-    NB_END_OUT_OF_MEMORY = 12   /* malloc refused */
+    NB_NOT_ENDED = 0,         /* it has not */
+    NB_END_MALFORMED = 1,     /* what a side sent is no message */
+    NB_END_UNKNOWN = 2,       /* there is no such object, or its interface has no such message */
+    NB_END_DESTROYED = 3,     /* the client has ended the object */
+    NB_END_LENGTH = 4,        /* the message is not as long as its arguments */
+    NB_END_VERSION = 5,       /* the version of the object does not have the request */
+    NB_END_POLICY = 6,        /* the policy refuses the request */
+    NB_END_GLOBAL = 7,        /* the client was not told last of such a global, or not in this version */
+    NB_END_NEW_ID = 8,        /* a new object may not have this number */
+    NB_END_OBJECTS = 9,       /* a new object has a number beyond the limit */
+    NB_END_GLOBALS = 10,      /* more numbers of globals were announced than the limit */
+    NB_END_DESCRIPTORS = 11,  /* there are descriptors that no message takes, or a message waits for one */
+    NB_END_OUT_OF_MEMORY = 12 /* malloc refused */
 };
 
 /* How a guard's connection ended: 16 bytes. */
