@@ -1582,7 +1582,9 @@ static inline nb_status nb_guard_hang_up(nb_guard *place, nb_policy *policy)
     do
         status = nb_guard_received(place, policy, NB_CLIENT_SIDE, NULL, 0, none, sizeof none / sizeof none[0]);
     while (status == NB_OK);
-    return status == NB_CLOSED ? NB_OK : status;
+    if (status == NB_CLOSED)
+        status = NB_OK;
+    return status;
 }
 
 /* nb_server_create_global without data, in group 1 and hidden from nobody: each client of nb_serve_client sees it. */
