@@ -80,8 +80,8 @@ const MAKING: &[Entry<Act>] = &[
     ),
 ];
 
-/// Runs of a new session.
-static TOLD: [Run<Act>; 10] = [
+/// Runs of a new session: whose messages are told, and until when.
+static TOLD: [Run<Act>; 4] = [
     // Only of clients that are inserted after the call, and only while they are there.
     Run {
         name: "whose messages are told",
@@ -103,155 +103,6 @@ static TOLD: [Run<Act>; 10] = [
                 Act::NextTold(FlatClientId { serial: 3, slot: 1 }, 0, 0),
                 "InvalidId",
             ),
-        ],
-    },
-    // Each message is told once: a request when it was read, an event when it is in the mailbox.
-    Run {
-        name: "what is read is told, and then what is written",
-        first: &[],
-        entries: &[
-            (Act::TellMessages(1), "Ok"),
-            (Act::Global(70, 1, &[]), "Ok global 1:1"),
-            (Act::Insert(7, 1, &[]), "Ok client 0:1"),
-            (Act::NextTold(SECOND, 0, 0), "InvalidId"),
-            (Act::NextTold(FIRST, 0, 0), "WouldBlock"),
-            (Act::Received(FIRST, BIND, &[]), "Ok"),
-            (Act::NextTold(FIRST, 1, 0), "WouldBlock"),
-            (
-                Act::Next(FIRST, 0, 0),
-                "Ok kind 2 data 70 version 2 made 4@3",
-            ),
-            (
-                Act::NextTold(FIRST, 1, 0),
-                "Ok kind 1 opcode 1 arguments 1 of 1@1 (5: 0 object 2@2)",
-            ),
-            (
-                Act::NextTold(FIRST, 1, 0),
-                "TooSmall kind 1 arguments 4 bytes 8 of 2@2 (0: 0)",
-            ),
-            (
-                Act::NextTold(FIRST, 4, 8),
-                "Ok kind 1 arguments 4 bytes 8 of 2@2 (1: 1) (3: 0 length 3) (1: 2) (5: 0 object 4@3) [ 70 61 64 00 00 00 00 00 ]",
-            ),
-            (Act::NextTold(FIRST, 4, 8), "WouldBlock"),
-            (Act::FinishBind(FIRST, 33), "Ok kept true"),
-            (Act::Writable, "Ok client 0:1"),
-            (
-                Act::NextTold(FIRST, 3, 8),
-                "Ok kind 1 event 1 arguments 3 bytes 8 of 2@2 (1: 1) (3: 0 length 3) (1: 2) [ 70 61 64 00 00 00 00 00 ]",
-            ),
-            (Act::NextTold(FIRST, 0, 0), "WouldBlock"),
-            // The descriptors are told by their numbers. An event is told also if it has left the mailbox.
-            (Act::Received(FIRST, PUSH_AND_LABEL, &[42]), "Ok"),
-            (
-                Act::Next(FIRST, 2, 0),
-                "Ok kind 1 data 33 arguments 2 by 4@3 (0: 5) (7: 42)",
-            ),
-            (Act::Finish(FIRST), "Ok"),
-            (Act::Send(PAD, GIVEN, &[arg!(fd: 99)], &[]), "Ok"),
-            (Act::Send(PAD, MOVED, &[arg!(int: -1)], &[]), "Ok"),
-            (Act::Writable, "Ok client 0:1"),
-            (
-                Act::Next(FIRST, 1, 8),
-                "Ok kind 1 opcode 1 data 33 arguments 1 bytes 8 by 4@3 (3: 0 length 3) [ 68 65 79 00 00 00 00 00 ]",
-            ),
-            (Act::Sent(FIRST, 44), "Ok"),
-            (
-                Act::NextTold(FIRST, 2, 0),
-                "Ok kind 1 arguments 2 of 4@3 (0: 5) (7: 42)",
-            ),
-            (
-                Act::NextTold(FIRST, 1, 0),
-                "Ok kind 1 event 1 opcode 1 arguments 1 of 4@3 (7: 99)",
-            ),
-            (
-                Act::NextTold(FIRST, 1, 0),
-                "Ok kind 1 event 1 arguments 1 of 4@3 (0: -1)",
-            ),
-            (
-                Act::NextTold(FIRST, 1, 8),
-                "Ok kind 1 opcode 1 arguments 1 bytes 8 of 4@3 (3: 0 length 3) [ 68 65 79 00 00 00 00 00 ]",
-            ),
-            (Act::NextTold(FIRST, 0, 0), "WouldBlock"),
-        ],
-    },
-    // What the session answers by itself is told, too, and so is the end of an object.
-    Run {
-        name: "the session's own messages are told",
-        first: &[],
-        entries: &[
-            (Act::TellMessages(2), "Ok"),
-            (Act::Global(70, 1, &[]), "Ok global 1:1"),
-            (Act::Insert(7, 1, &[]), "Ok client 0:1"),
-            (Act::Received(FIRST, BIND, &[]), "Ok"),
-            (
-                Act::Next(FIRST, 0, 0),
-                "Ok kind 2 data 70 version 2 made 4@3",
-            ),
-            (Act::FinishBind(FIRST, 33), "Ok kept true"),
-            (Act::Received(FIRST, SYNCS, &[]), "Ok"),
-            (Act::Next(FIRST, 0, 0), "WouldBlock"),
-            (Act::Writable, "Ok client 0:1"),
-            (
-                Act::NextTold(FIRST, 1, 0),
-                "Ok kind 1 opcode 1 arguments 1 of 1@1 (5: 0 object 2@2)",
-            ),
-            (
-                Act::NextTold(FIRST, 4, 8),
-                "Ok kind 1 arguments 4 bytes 8 of 2@2 (1: 1) (3: 0 length 3) (1: 2) (5: 0 object 4@3) [ 70 61 64 00 00 00 00 00 ]",
-            ),
-            (
-                Act::NextTold(FIRST, 1, 0),
-                "Ok kind 1 arguments 1 of 1@1 (5: 0 object 3@4)",
-            ),
-            (
-                Act::NextTold(FIRST, 1, 0),
-                "Ok kind 1 arguments 1 of 1@1 (5: 0 object 3@5)",
-            ),
-            (
-                Act::NextTold(FIRST, 3, 8),
-                "Ok kind 1 event 1 arguments 3 bytes 8 of 2@2 (1: 1) (3: 0 length 3) (1: 2) [ 70 61 64 00 00 00 00 00 ]",
-            ),
-            (
-                Act::NextTold(FIRST, 1, 0),
-                "Ok kind 1 event 1 arguments 1 of 3@4 (1: 0)",
-            ),
-            (
-                Act::NextTold(FIRST, 1, 0),
-                "Ok kind 1 event 1 opcode 1 arguments 1 of 1@1 (1: 4)",
-            ),
-            (
-                Act::NextTold(FIRST, 1, 0),
-                "Ok kind 1 event 1 arguments 1 of 3@5 (1: 0)",
-            ),
-            (
-                Act::NextTold(FIRST, 1, 0),
-                "Ok kind 1 event 1 opcode 1 arguments 1 of 1@1 (1: 5)",
-            ),
-            (Act::NextTold(FIRST, 1, 0), "WouldBlock"),
-            // The number 3 is another object's once it was deleted.
-            (Act::Received(FIRST, MAKE_AND_CLOSE, &[]), "Ok"),
-            (
-                Act::Next(FIRST, 1, 0),
-                "Ok kind 1 opcode 3 data 33 version 2 arguments 1 by 4@3 made 4@4 (5: 0 object 4@4)",
-            ),
-            (Act::FinishWith(FIRST, 66), "Ok kept true"),
-            (
-                Act::Next(FIRST, 0, 0),
-                "Ok kind 1 opcode 2 ends 1 data 33 by 4@3",
-            ),
-            (Act::Finish(FIRST), "Ok"),
-            (Act::Writable, "Ok client 0:1"),
-            (
-                Act::NextTold(FIRST, 1, 0),
-                "Ok kind 1 opcode 3 arguments 1 of 4@3 (5: 0 object 4@4)",
-            ),
-            (Act::NextTold(FIRST, 0, 0), "Ok kind 1 opcode 2 of 4@3"),
-            (
-                Act::NextTold(FIRST, 1, 0),
-                "Ok kind 1 event 1 opcode 1 arguments 1 of 1@1 (1: 3)",
-            ),
-            (Act::NextTold(FIRST, 1, 0), "WouldBlock"),
         ],
     },
     // What is no message of an object was not read, so it is not told. The client is killed without a word.
@@ -307,6 +158,161 @@ static TOLD: [Run<Act>; 10] = [
             (Act::NextTold(FIRST, 1, 0), "InvalidId"),
         ],
     },
+];
+
+/// Each message is told once: a request when it was read, an event when it is in the mailbox.
+static READ_AND_WRITTEN: Run<Act> = Run {
+    name: "what is read is told, and then what is written",
+    first: &[],
+    entries: &[
+        (Act::TellMessages(1), "Ok"),
+        (Act::Global(70, 1, &[]), "Ok global 1:1"),
+        (Act::Insert(7, 1, &[]), "Ok client 0:1"),
+        (Act::NextTold(SECOND, 0, 0), "InvalidId"),
+        (Act::NextTold(FIRST, 0, 0), "WouldBlock"),
+        (Act::Received(FIRST, BIND, &[]), "Ok"),
+        (Act::NextTold(FIRST, 1, 0), "WouldBlock"),
+        (
+            Act::Next(FIRST, 0, 0),
+            "Ok kind 2 data 70 version 2 made 4@3",
+        ),
+        (
+            Act::NextTold(FIRST, 1, 0),
+            "Ok kind 1 opcode 1 arguments 1 of 1@1 (5: 0 object 2@2)",
+        ),
+        (
+            Act::NextTold(FIRST, 1, 0),
+            "TooSmall kind 1 arguments 4 bytes 8 of 2@2 (0: 0)",
+        ),
+        (
+            Act::NextTold(FIRST, 4, 8),
+            "Ok kind 1 arguments 4 bytes 8 of 2@2 (1: 1) (3: 0 length 3) (1: 2) (5: 0 object 4@3) [ 70 61 64 00 00 00 00 00 ]",
+        ),
+        (Act::NextTold(FIRST, 4, 8), "WouldBlock"),
+        (Act::FinishBind(FIRST, 33), "Ok kept true"),
+        (Act::Writable, "Ok client 0:1"),
+        (
+            Act::NextTold(FIRST, 3, 8),
+            "Ok kind 1 event 1 arguments 3 bytes 8 of 2@2 (1: 1) (3: 0 length 3) (1: 2) [ 70 61 64 00 00 00 00 00 ]",
+        ),
+        (Act::NextTold(FIRST, 0, 0), "WouldBlock"),
+        // The descriptors are told by their numbers. An event is told also if it has left the mailbox.
+        (Act::Received(FIRST, PUSH_AND_LABEL, &[42]), "Ok"),
+        (
+            Act::Next(FIRST, 2, 0),
+            "Ok kind 1 data 33 arguments 2 by 4@3 (0: 5) (7: 42)",
+        ),
+        (Act::Finish(FIRST), "Ok"),
+        (Act::Send(PAD, GIVEN, &[arg!(fd: 99)], &[]), "Ok"),
+        (Act::Send(PAD, MOVED, &[arg!(int: -1)], &[]), "Ok"),
+        (Act::Writable, "Ok client 0:1"),
+        (
+            Act::Next(FIRST, 1, 8),
+            "Ok kind 1 opcode 1 data 33 arguments 1 bytes 8 by 4@3 (3: 0 length 3) [ 68 65 79 00 00 00 00 00 ]",
+        ),
+        (Act::Sent(FIRST, 44), "Ok"),
+        (
+            Act::NextTold(FIRST, 2, 0),
+            "Ok kind 1 arguments 2 of 4@3 (0: 5) (7: 42)",
+        ),
+        (
+            Act::NextTold(FIRST, 1, 0),
+            "Ok kind 1 event 1 opcode 1 arguments 1 of 4@3 (7: 99)",
+        ),
+        (
+            Act::NextTold(FIRST, 1, 0),
+            "Ok kind 1 event 1 arguments 1 of 4@3 (0: -1)",
+        ),
+        (
+            Act::NextTold(FIRST, 1, 8),
+            "Ok kind 1 opcode 1 arguments 1 bytes 8 of 4@3 (3: 0 length 3) [ 68 65 79 00 00 00 00 00 ]",
+        ),
+        (Act::NextTold(FIRST, 0, 0), "WouldBlock"),
+    ],
+};
+
+/// What the session answers by itself is told, too, and so is the end of an object.
+static OWN_MESSAGES: Run<Act> = Run {
+    name: "the session's own messages are told",
+    first: &[],
+    entries: &[
+        (Act::TellMessages(2), "Ok"),
+        (Act::Global(70, 1, &[]), "Ok global 1:1"),
+        (Act::Insert(7, 1, &[]), "Ok client 0:1"),
+        (Act::Received(FIRST, BIND, &[]), "Ok"),
+        (
+            Act::Next(FIRST, 0, 0),
+            "Ok kind 2 data 70 version 2 made 4@3",
+        ),
+        (Act::FinishBind(FIRST, 33), "Ok kept true"),
+        (Act::Received(FIRST, SYNCS, &[]), "Ok"),
+        (Act::Next(FIRST, 0, 0), "WouldBlock"),
+        (Act::Writable, "Ok client 0:1"),
+        (
+            Act::NextTold(FIRST, 1, 0),
+            "Ok kind 1 opcode 1 arguments 1 of 1@1 (5: 0 object 2@2)",
+        ),
+        (
+            Act::NextTold(FIRST, 4, 8),
+            "Ok kind 1 arguments 4 bytes 8 of 2@2 (1: 1) (3: 0 length 3) (1: 2) (5: 0 object 4@3) [ 70 61 64 00 00 00 00 00 ]",
+        ),
+        (
+            Act::NextTold(FIRST, 1, 0),
+            "Ok kind 1 arguments 1 of 1@1 (5: 0 object 3@4)",
+        ),
+        (
+            Act::NextTold(FIRST, 1, 0),
+            "Ok kind 1 arguments 1 of 1@1 (5: 0 object 3@5)",
+        ),
+        (
+            Act::NextTold(FIRST, 3, 8),
+            "Ok kind 1 event 1 arguments 3 bytes 8 of 2@2 (1: 1) (3: 0 length 3) (1: 2) [ 70 61 64 00 00 00 00 00 ]",
+        ),
+        (
+            Act::NextTold(FIRST, 1, 0),
+            "Ok kind 1 event 1 arguments 1 of 3@4 (1: 0)",
+        ),
+        (
+            Act::NextTold(FIRST, 1, 0),
+            "Ok kind 1 event 1 opcode 1 arguments 1 of 1@1 (1: 4)",
+        ),
+        (
+            Act::NextTold(FIRST, 1, 0),
+            "Ok kind 1 event 1 arguments 1 of 3@5 (1: 0)",
+        ),
+        (
+            Act::NextTold(FIRST, 1, 0),
+            "Ok kind 1 event 1 opcode 1 arguments 1 of 1@1 (1: 5)",
+        ),
+        (Act::NextTold(FIRST, 1, 0), "WouldBlock"),
+        // The number 3 is another object's once it was deleted.
+        (Act::Received(FIRST, MAKE_AND_CLOSE, &[]), "Ok"),
+        (
+            Act::Next(FIRST, 1, 0),
+            "Ok kind 1 opcode 3 data 33 version 2 arguments 1 by 4@3 made 4@4 (5: 0 object 4@4)",
+        ),
+        (Act::FinishWith(FIRST, 66), "Ok kept true"),
+        (
+            Act::Next(FIRST, 0, 0),
+            "Ok kind 1 opcode 2 ends 1 data 33 by 4@3",
+        ),
+        (Act::Finish(FIRST), "Ok"),
+        (Act::Writable, "Ok client 0:1"),
+        (
+            Act::NextTold(FIRST, 1, 0),
+            "Ok kind 1 opcode 3 arguments 1 of 4@3 (5: 0 object 4@4)",
+        ),
+        (Act::NextTold(FIRST, 0, 0), "Ok kind 1 opcode 2 of 4@3"),
+        (
+            Act::NextTold(FIRST, 1, 0),
+            "Ok kind 1 event 1 opcode 1 arguments 1 of 1@1 (1: 3)",
+        ),
+        (Act::NextTold(FIRST, 1, 0), "WouldBlock"),
+    ],
+};
+
+/// What arrives and is sent in pieces, and what is refused.
+static PIECES: [Run<Act>; 2] = [
     // A request that arrives in two pieces, and events that are sent in two, behind which another comes.
     Run {
         name: "messages in pieces",
@@ -387,6 +393,10 @@ static TOLD: [Run<Act>; 10] = [
             (Act::NextTold(FIRST, 2, 0), "WouldBlock"),
         ],
     },
+];
+
+/// Objects that the client knows otherwise.
+static UNKNOWN: [Run<Act>; 2] = [
     // An object whose new id was not sent is not known. A new id that leaves its number out ends what is told of the server.
     Run {
         name: "an object of which the client was not told",
@@ -461,8 +471,34 @@ fn messages(rt: HostRuntime) -> Result<(), Fail> {
     Ok(())
 }
 
+#[test]
+fn messages_read_and_written(rt: HostRuntime) -> Result<(), Fail> {
+    run_tells::<Server>(&rt, &READ_AND_WRITTEN, None, false)
+}
+
+#[test]
+fn messages_of_the_session(rt: HostRuntime) -> Result<(), Fail> {
+    run_tells::<Server>(&rt, &OWN_MESSAGES, None, false)
+}
+
+#[test]
+fn messages_in_pieces(rt: HostRuntime) -> Result<(), Fail> {
+    for run in &PIECES {
+        run_tells::<Server>(&rt, run, None, false)?;
+    }
+    Ok(())
+}
+
+#[test]
+fn messages_of_unknown_objects(rt: HostRuntime) -> Result<(), Fail> {
+    for run in &UNKNOWN {
+        run_tells::<Server>(&rt, run, None, false)?;
+    }
+    Ok(())
+}
+
 /// Whatever memory is refused, each message is told once when the call is made again.
 #[test]
 fn drill_of_messages(rt: HostRuntime) -> Result<(), Fail> {
-    run_tells::<Server>(&rt, &TOLD[1], None, true)
+    run_tells::<Server>(&rt, &READ_AND_WRITTEN, None, true)
 }
