@@ -598,14 +598,12 @@ fn rows(rt: HostRuntime) -> Result<(), Fail> {
 /// The client pokes object 3, up to a thousand times, until there is no room. Answers how often there was.
 fn pokes_taken(alloc: Global, policy: &Policy, guard: &mut Guard) -> Result<usize, Fail> {
     let pieces = spelled(alloc, &[(3, 0, &[Arg::Int(1)])])?;
-    let mut taken = 0;
-    for _ in 0..1000 {
+    for taken in 0..1000 {
         if guard.arrive(policy, Side::Client, &pieces.bytes, &[]) == Err(ArriveError::NoRoom) {
-            break;
+            return Ok(taken);
         }
-        taken += 1;
     }
-    Ok(taken)
+    Ok(1000)
 }
 
 #[test]
