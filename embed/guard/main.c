@@ -1,7 +1,7 @@
 /* numbyroga-guard: a guard between Wayland clients and their compositor. docs/GUARD.md says what it is for.
  *
- *   numbyroga-guard [-p POLICY] [-l LOG] [-x FILE.xml]... [-a APP_ID [-e ENGINE]] [-s SOCKET] [-- PROGRAM
- * [ARGUMENT]...] numbyroga-guard --what [-l LOG] [-x FILE.xml]... -- PROGRAM [ARGUMENT]...
+ *   numbyroga-guard [-p POLICY] [-l LOG] [-x FILE.xml]... [-a APP_ID [-e ENGINE]] [-s SOCKET] [-- PROGRAM ..]
+ *   numbyroga-guard --what [-l LOG] [-x FILE.xml]... -- PROGRAM ..
  *
  *   -p POLICY    a file of rules (policy.c), or the name of one that comes with it; 'toolkit' without it
  *   -l LOG       a file that is told which globals clients see and bind, and which of them are refused
