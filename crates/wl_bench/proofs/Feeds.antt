@@ -11,19 +11,19 @@ use Rattle.wl_wire.specs.declared.argument.Token.{Token}
 use Rattle.wl_wire.specs.declared.error.IoFault.TheVariants as fault
 use Rattle.wl_link.specs.Exchange.{Queue}
 use Rattle.wl_link.specs.Script.{Script, parcel}
-use Rattle.wl_server.specs.declared.error.ActionError.{ActionError}
-use Rattle.wl_server.specs.declared.error.ActionError.TheVariants.{Io, ActionOpen}
-use Rattle.wl_server.specs.declared.error.FinishError.{FinishError}
-use Rattle.wl_server.specs.declared.error.FinishError.TheVariants as finish
-use Rattle.wl_server.specs.declared.error.GlobalError.{GlobalError}
-use Rattle.wl_server.specs.declared.error.GlobalError.TheVariants as global
-use Rattle.wl_server.specs.declared.error.InsertClientError.{InsertClientError}
-use Rattle.wl_server.specs.declared.error.InsertClientError.TheVariants as insert
-use Rattle.wl_server.specs.declared.error.ScriptError.{ScriptError}
-use Rattle.wl_server.specs.declared.error.ScriptError.TheVariants as script
-use Rattle.wl_server.specs.declared.runs.step.Reply.TheVariants as reply
-use Rattle.wl_server.specs.Deeds.{Bind, Handed, Registry, Request, handed}
-use Rattle.wl_server.specs.Ids.{ClientParts, IdParts}
+use Rattle.wl_server_client.specs.declared.error.ActionError.{ActionError}
+use Rattle.wl_server_client.specs.declared.error.ActionError.TheVariants.{Io, ActionOpen}
+use Rattle.wl_server_client.specs.declared.error.FinishError.{FinishError}
+use Rattle.wl_server_client.specs.declared.error.FinishError.TheVariants as finish
+use Rattle.wl_server_client.specs.declared.error.GlobalError.{GlobalError}
+use Rattle.wl_server_client.specs.declared.error.GlobalError.TheVariants as global
+use Rattle.wl_server_client.specs.declared.error.InsertClientError.{InsertClientError}
+use Rattle.wl_server_client.specs.declared.error.InsertClientError.TheVariants as insert
+use Rattle.wl_server_client.specs.declared.error.ScriptError.{ScriptError}
+use Rattle.wl_server_client.specs.declared.error.ScriptError.TheVariants as script
+use Rattle.wl_server_model.specs.declared.step.Reply.TheVariants as reply
+use Rattle.wl_server_client.specs.Deeds.{Bind, Handed, Registry, Request, handed}
+use Rattle.wl_server_client.specs.Ids.{ClientParts, IdParts}
 use Rattle.wl_bench.specs.declared.command.Command.{Command}
 use Rattle.wl_bench.specs.declared.command.Command.TheVariants.{Insert, Client, Dispatch, Create, Disable, Remove, Flush, Cleanup, Notes}
 use Rattle.wl_bench.specs.Answers.{Line, action_text, after_byte, answer_lines, answer_text, argument_text, arguments_text, bytes_of, created_text, effect_text, fault_text, finish_name, flag_text, global_name, hex, insert_name, joined, record_lines, records_lines, refusal_text, script_name, sent_lines, share_lines, taken_out_lines, token_text, tokens_of, tokens_text}

@@ -25,36 +25,36 @@ use Rattle.wl_link.specs.Link.{IsLimit}
 use Rattle.wl_link.proofs.Calls.OneScript.{script_receives_function, script_sends_function}
 use Rattle.wl_link.proofs.Calls.WriteLaws.{room_stays}
 use Rattle.wl_link.proofs.Ids.StoreLaws.{held_empty, stored_here, stored_other}
-use Rattle.wl_server.specs.declared.error.ActionError.TheVariants.{Io}
-use Rattle.wl_server.specs.declared.objects.Kept.{Kept}
-use Rattle.wl_server.specs.declared.reading.action.Reading.{Reading}
-use Rattle.wl_server.specs.declared.reading.response.RequestFault.TheVariants as wrong
-use Rattle.wl_server.specs.declared.reading.violation.MessageFault.TheVariants as message
-use Rattle.wl_server.specs.declared.reading.violation.Violation.{Violation}
-use Rattle.wl_server.specs.Deeds.{Deed, notes_in}
-use Rattle.wl_server.specs.declared.error.ActionError.{ActionError}
-use Rattle.wl_server.specs.declared.error.InsertClientError.{InsertClientError}
-use Rattle.wl_server.specs.declared.reading.action.Action.{Action}
-use Rattle.wl_server.specs.declared.runs.step.Reply.{Reply}
-use Rattle.wl_server.specs.declared.runs.step.Reply.TheVariants as reply
-use Rattle.wl_server.specs.declared.runs.step.Step.{Step}
-use Rattle.wl_server.specs.declared.runs.step.Step.TheVariants as step
-use Rattle.wl_server.specs.Backend.{BackendState, Calls}
-use Rattle.wl_server.specs.Errors.{new_id_text}
-use Rattle.wl_server.specs.Felt.{FlushedTo}
-use Rattle.wl_server.specs.Globals.{Offer, new_offer}
-use Rattle.wl_server.specs.Ids.{ClientParts, GlobalParts, same_client}
-use Rattle.wl_server.specs.Part.{Part, display_object, fresh_part, last_possible_serial}
-use Rattle.wl_server.specs.PartStep.{Call, Inserted, InsertedAs, OfClient, OnPart, PartCall, PartStep, Unfelt, World, around, over}
-use Rattle.wl_server.specs.Reading.{Around, NextAction, action_content, breaks, new_reading, request, row_in, sent_to, server, syncs}
-use Rattle.wl_server.specs.Requests.{is_valid_new}
-use Rattle.wl_server.specs.Server.{Seen, ServerState, new_server, seen}
-use Rattle.wl_server.specs.Steps.{Entry, IsRefused, offer_after}
-use Rattle.wl_server.specs.Telling.{Core, Told, core_of, objects_in, part_of, reader_part}
-use Rattle.wl_server.specs.Violations.{violation}
+use Rattle.wl_server_client.specs.declared.error.ActionError.TheVariants.{Io}
+use Rattle.wl_server_client.specs.declared.objects.Kept.{Kept}
+use Rattle.wl_server_client.specs.declared.reading.action.Reading.{Reading}
+use Rattle.wl_server_client.specs.declared.reading.response.RequestFault.TheVariants as wrong
+use Rattle.wl_server_client.specs.declared.reading.violation.MessageFault.TheVariants as message
+use Rattle.wl_server_client.specs.declared.reading.violation.Violation.{Violation}
+use Rattle.wl_server_client.specs.Deeds.{Deed, notes_in}
+use Rattle.wl_server_client.specs.declared.error.ActionError.{ActionError}
+use Rattle.wl_server_client.specs.declared.error.InsertClientError.{InsertClientError}
+use Rattle.wl_server_client.specs.declared.reading.action.Action.{Action}
+use Rattle.wl_server_model.specs.declared.step.Reply.{Reply}
+use Rattle.wl_server_model.specs.declared.step.Reply.TheVariants as reply
+use Rattle.wl_server_model.specs.declared.step.Step.{Step}
+use Rattle.wl_server_model.specs.declared.step.Step.TheVariants as step
+use Rattle.wl_server_model.specs.Backend.{BackendState, Calls}
+use Rattle.wl_server_client.specs.Errors.{new_id_text}
+use Rattle.wl_server_client.specs.Felt.{FlushedTo}
+use Rattle.wl_server_client.specs.Globals.{Offer, new_offer}
+use Rattle.wl_server_client.specs.Ids.{ClientParts, GlobalParts, same_client}
+use Rattle.wl_server_client.specs.Part.{Part, display_object, fresh_part, last_possible_serial}
+use Rattle.wl_server_model.specs.PartStep.{Call, Inserted, InsertedAs, OfClient, OnPart, PartCall, PartStep, Unfelt, World, around, over}
+use Rattle.wl_server_client.specs.Reading.{Around, NextAction, action_content, breaks, new_reading, request, row_in, sent_to, server, syncs}
+use Rattle.wl_server_client.specs.Requests.{is_valid_new}
+use Rattle.wl_server_model.specs.Server.{Seen, ServerState, new_server, seen}
+use Rattle.wl_server_model.specs.Steps.{Entry, IsRefused, offer_after}
+use Rattle.wl_server_client.specs.Telling.{Core, Told, core_of, objects_in, part_of, reader_part}
+use Rattle.wl_server_client.specs.Violations.{violation}
 use Rattle.wl_bench.specs.Sync.{HasAsked, WasSent, all_bytes, answer_bytes, bringing, one_argument, request_bytes}
-use Rattle.wl_server.proofs.OverRuns.Alone.IsolationLaw.{same_self}
-use Rattle.wl_server.proofs.OverRuns.Outcome.PartOutcome.{flushed_one, next_action_one}
+use Rattle.wl_server_model.proofs.OverRuns.Alone.IsolationLaw.{same_self}
+use Rattle.wl_server_model.proofs.OverRuns.Outcome.PartOutcome.{flushed_one, next_action_one}
 
 -- ---- the link
 

@@ -2,8 +2,8 @@
 use Rattle.std.proofs.Common.{◌≡◌, List, [], ◌∷◌, ◌++◌, length, map, refl, sym, ap, subst, arith, append_assoc, append-nil, length-append, false, Result, Ok, Err, Vec, Global}
 use Rattle.std.specs.Prelude.{IfOk}
 use Rattle.wl_link.specs.Runs.{RunEntry, entries}
-use Rattle.wl_server.specs.Ids.{ClientParts}
-use Rattle.wl_server.specs.Runs.{Performs}
+use Rattle.wl_server_client.specs.Ids.{ClientParts}
+use Rattle.wl_server_model.specs.Runs.{Performs}
 use Rattle.wl_bench.specs.Bench.{BenchReply, BenchServer, BenchStep, Replies, bench_world, take_step}
 
 -- runs behind one another

@@ -12,26 +12,26 @@ use Rattle.wl_wire.specs.declared.error.ProtocolError.{ProtocolError}
 use Rattle.wl_wire.specs.Table.{InterfaceRow, name_of}
 use Rattle.wl_link.specs.Runs.{entries}
 use Rattle.wl_link.specs.Script.{Script, ScriptReceives, ScriptSends}
-use Rattle.wl_server.specs.declared.globals.handler.ShownToAll.{ShownToAll}
-use Rattle.wl_server.specs.declared.notes.DisconnectReason.TheVariants as ended
-use Rattle.wl_server.specs.declared.notes.Happening.{Happening}
-use Rattle.wl_server.specs.declared.notes.Happening.TheVariants as happened
-use Rattle.wl_server.specs.declared.notes.Note.{Note}
-use Rattle.wl_server.specs.declared.notes.Note.TheVariants as note
-use Rattle.wl_server.specs.declared.reading.action.Action.TheVariants as action
-use Rattle.wl_server.specs.declared.reading.action.Reading.{Reading}
-use Rattle.wl_server.specs.declared.error.FinishError.{FinishError}
-use Rattle.wl_server.specs.declared.runs.step.Reply.TheVariants as reply
-use Rattle.wl_server.specs.declared.runs.step.Step.TheVariants as step
-use Rattle.wl_server.specs.Dispatch.{Answers, EachIsDispatched, Handles, IsDispatched, Last, Round, Rounds, more, no_action, none, not_ended}
-use Rattle.wl_server.specs.Globals.{Offer}
-use Rattle.wl_server.specs.Identified.{waiting_of}
-use Rattle.wl_server.specs.Ids.{ClientParts, same_client}
-use Rattle.wl_server.specs.NotedEnds.Errors.{EachCallCausesItsErrors, MayKillFor, TellsError}
-use Rattle.wl_server.specs.PartStep.{Asked, Call, Changed, PartStep, World, over}
-use Rattle.wl_server.specs.Runs.{Performs}
-use Rattle.wl_server.specs.Server.{notes_of, seen, told_of}
-use Rattle.wl_server.specs.Steps.{Entry, IsChangeFor, OneStep, StandsFor, offer_after}
+use Rattle.wl_server_client.specs.declared.globals.handler.ShownToAll.{ShownToAll}
+use Rattle.wl_server_client.specs.declared.notes.DisconnectReason.TheVariants as ended
+use Rattle.wl_server_client.specs.declared.notes.Happening.{Happening}
+use Rattle.wl_server_client.specs.declared.notes.Happening.TheVariants as happened
+use Rattle.wl_server_client.specs.declared.notes.Note.{Note}
+use Rattle.wl_server_client.specs.declared.notes.Note.TheVariants as note
+use Rattle.wl_server_client.specs.declared.reading.action.Action.TheVariants as action
+use Rattle.wl_server_client.specs.declared.reading.action.Reading.{Reading}
+use Rattle.wl_server_client.specs.declared.error.FinishError.{FinishError}
+use Rattle.wl_server_model.specs.declared.step.Reply.TheVariants as reply
+use Rattle.wl_server_model.specs.declared.step.Step.TheVariants as step
+use Rattle.wl_server_model.specs.Dispatch.{Answers, EachIsDispatched, Handles, IsDispatched, Last, Round, Rounds, more, no_action, none, not_ended}
+use Rattle.wl_server_client.specs.Globals.{Offer}
+use Rattle.wl_server_model.specs.Identified.{waiting_of}
+use Rattle.wl_server_client.specs.Ids.{ClientParts, same_client}
+use Rattle.wl_server_model.specs.NotedEnds.Errors.{EachCallCausesItsErrors, MayKillFor, TellsError}
+use Rattle.wl_server_model.specs.PartStep.{Asked, Call, Changed, PartStep, World, over}
+use Rattle.wl_server_model.specs.Runs.{Performs}
+use Rattle.wl_server_model.specs.Server.{notes_of, seen, told_of}
+use Rattle.wl_server_model.specs.Steps.{Entry, IsChangeFor, OneStep, StandsFor, offer_after}
 use Rattle.wl_bench.specs.declared.bench.Open.{Open}
 use Rattle.wl_bench.specs.declared.bench.Open.TheVariants as opened
 use Rattle.wl_bench.specs.declared.bench.Seat.{Seat}

@@ -10,27 +10,27 @@ use Rattle.wl_link.specs.Runs.{AllSame, entries}
 use Rattle.wl_link.specs.Script.{Script, ScriptReceives, ScriptSends}
 use Rattle.wl_link.proofs.Calls.OneScript.{script_receives_function, script_sends_function}
 use Rattle.wl_wire.specs.declared.error.IoFault.{IoFault}
-use Rattle.wl_server.specs.declared.error.ActionError.{ActionError}
-use Rattle.wl_server.specs.declared.globals.handler.ShownToAll.{ShownToAll}
-use Rattle.wl_server.specs.declared.notes.Note.{Note}
-use Rattle.wl_server.specs.declared.reading.action.Action.{Action}
-use Rattle.wl_server.specs.declared.runs.step.Reply.TheVariants as reply
-use Rattle.wl_server.specs.declared.runs.step.Step.TheVariants as step
-use Rattle.wl_server.specs.Deeds.{Deed, Handed}
-use Rattle.wl_server.specs.Outcome.Dispatches.{IsDeterministic, SameBackend}
-use Rattle.wl_server.specs.Globals.{Offer}
-use Rattle.wl_server.specs.Ids.{ClientParts, GlobalParts}
-use Rattle.wl_server.specs.Moves.{Moved, taken}
-use Rattle.wl_server.specs.PartStep.{Asked, Call, PartStep, over}
-use Rattle.wl_server.specs.Reading.{action_content}
-use Rattle.wl_server.specs.Runs.{Performs}
-use Rattle.wl_server.specs.Server.{Seen, notes_of, seen}
-use Rattle.wl_server.specs.Steps.{lacks_growth}
-use Rattle.wl_server.specs.Outcome.Whole.{SameServer, WholeReply}
-use Rattle.wl_server.proofs.OverRuns.Outcome.DispatchLaws.{dispatches_one}
-use Rattle.wl_server.proofs.OverRuns.Outcome.MoveLaws.{scripts_determined, transport_determined}
-use Rattle.wl_server.proofs.OverRuns.Outcome.WholeLaws.{ample_by}
-use Rattle.wl_server.proofs.OverRuns.Outcome.WholeRuns.{performance_one}
+use Rattle.wl_server_client.specs.declared.error.ActionError.{ActionError}
+use Rattle.wl_server_client.specs.declared.globals.handler.ShownToAll.{ShownToAll}
+use Rattle.wl_server_client.specs.declared.notes.Note.{Note}
+use Rattle.wl_server_client.specs.declared.reading.action.Action.{Action}
+use Rattle.wl_server_model.specs.declared.step.Reply.TheVariants as reply
+use Rattle.wl_server_model.specs.declared.step.Step.TheVariants as step
+use Rattle.wl_server_client.specs.Deeds.{Deed, Handed}
+use Rattle.wl_server_model.specs.Outcome.Dispatches.{IsDeterministic, SameBackend}
+use Rattle.wl_server_client.specs.Globals.{Offer}
+use Rattle.wl_server_client.specs.Ids.{ClientParts, GlobalParts}
+use Rattle.wl_server_model.specs.Moves.{Moved, taken}
+use Rattle.wl_server_model.specs.PartStep.{Asked, Call, PartStep, over}
+use Rattle.wl_server_client.specs.Reading.{action_content}
+use Rattle.wl_server_model.specs.Runs.{Performs}
+use Rattle.wl_server_model.specs.Server.{Seen, notes_of, seen}
+use Rattle.wl_server_model.specs.Steps.{lacks_growth}
+use Rattle.wl_server_model.specs.Outcome.Whole.{SameServer, WholeReply}
+use Rattle.wl_server_model.proofs.OverRuns.Outcome.DispatchLaws.{dispatches_one}
+use Rattle.wl_server_model.proofs.OverRuns.Outcome.MoveLaws.{scripts_determined, transport_determined}
+use Rattle.wl_server_model.proofs.OverRuns.Outcome.WholeLaws.{ample_by}
+use Rattle.wl_server_model.proofs.OverRuns.Outcome.WholeRuns.{performance_one}
 use Rattle.wl_bench.specs.declared.bench.Seat.{Seat}
 use Rattle.wl_bench.specs.declared.command.ClientCommand.{ClientCommand}
 use Rattle.wl_bench.specs.declared.command.Command.{Command}

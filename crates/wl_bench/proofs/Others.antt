@@ -7,18 +7,18 @@ use Rattle.wl_wire.specs.declared.error.IoFault.{IoFault}
 use Rattle.wl_link.specs.Exchange.{Queue}
 use Rattle.wl_link.specs.Runs.{entries}
 use Rattle.wl_link.specs.Script.{Script, parcel}
-use Rattle.wl_server.specs.declared.notes.DisconnectReason.{DisconnectReason}
-use Rattle.wl_server.specs.declared.notes.DisconnectReason.TheVariants as ended
-use Rattle.wl_server.specs.declared.runs.step.Reply.TheVariants as reply
-use Rattle.wl_server.specs.declared.runs.step.Step.TheVariants as step
-use Rattle.wl_server.specs.Deeds.{Bind, Deed, Handed, Registry, Request, handed}
-use Rattle.wl_server.specs.Globals.{Offer}
-use Rattle.wl_server.specs.Ids.{ClientParts, same_client}
-use Rattle.wl_server.specs.PartStep.{Asked, Call, PartCall, PartStep, Unfelt}
-use Rattle.wl_server.specs.Runs.{Performs}
-use Rattle.wl_server.specs.Server.{Seen, seen}
-use Rattle.wl_server.specs.Steps.{Entry, OneStep}
-use Rattle.wl_server.specs.declared.globals.handler.ShownToAll.{ShownToAll}
+use Rattle.wl_server_client.specs.declared.notes.DisconnectReason.{DisconnectReason}
+use Rattle.wl_server_client.specs.declared.notes.DisconnectReason.TheVariants as ended
+use Rattle.wl_server_model.specs.declared.step.Reply.TheVariants as reply
+use Rattle.wl_server_model.specs.declared.step.Step.TheVariants as step
+use Rattle.wl_server_client.specs.Deeds.{Bind, Deed, Handed, Registry, Request, handed}
+use Rattle.wl_server_client.specs.Globals.{Offer}
+use Rattle.wl_server_client.specs.Ids.{ClientParts, same_client}
+use Rattle.wl_server_model.specs.PartStep.{Asked, Call, PartCall, PartStep, Unfelt}
+use Rattle.wl_server_model.specs.Runs.{Performs}
+use Rattle.wl_server_model.specs.Server.{Seen, seen}
+use Rattle.wl_server_model.specs.Steps.{Entry, OneStep}
+use Rattle.wl_server_client.specs.declared.globals.handler.ShownToAll.{ShownToAll}
 use Rattle.wl_bench.specs.declared.bench.Open.{Open}
 use Rattle.wl_bench.specs.declared.bench.Open.TheVariants as opened
 use Rattle.wl_bench.specs.declared.bench.Seat.{Seat}

@@ -10,8 +10,8 @@ use Rattle.wl_bench.specs.declared.command.Command.TheVariants.{Insert, Client, 
 use Rattle.wl_wire.specs.declared.argument.Argument.TheVariants as arg
 use Rattle.wl_wire.specs.declared.error.IoFault.TheVariants.{WouldBlock, Other}
 use Rattle.wl_wire.specs.Table.{anonymous_id}
-use Rattle.wl_server.specs.Deeds.{Request}
-use Rattle.wl_server.specs.Ids.{IdParts}
+use Rattle.wl_server_client.specs.Deeds.{Request}
+use Rattle.wl_server_client.specs.Ids.{IdParts}
 
 -- ---- lines that are commands
 

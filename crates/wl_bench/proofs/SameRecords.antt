@@ -4,18 +4,18 @@ use Rattle.std.specs.Prelude.{◌⊎◌, ◌↔◌}
 use Rattle.std.specs.String.{string_bytes}
 use Rattle.wl_wire.specs.declared.argument.Token.{Token}
 use Rattle.wl_link.specs.Script.{Script}
-use Rattle.wl_server.specs.declared.error.GlobalError.TheVariants as global
-use Rattle.wl_server.specs.declared.error.InsertClientError.TheVariants as insert
-use Rattle.wl_server.specs.declared.globals.handler.ShownToAll.{ShownToAll}
-use Rattle.wl_server.specs.declared.runs.step.Reply.TheVariants as reply
-use Rattle.wl_server.specs.declared.runs.step.Step.TheVariants as step
-use Rattle.wl_server.specs.Deeds.{Deed}
-use Rattle.wl_server.specs.Globals.{Offer}
-use Rattle.wl_server.specs.Ids.{ClientParts}
-use Rattle.wl_server.specs.PartStep.{Asked, Call, MovedFor, PartStep}
-use Rattle.wl_server.specs.Moves.{Arrive as ArriveMove, nothing_taken}
-use Rattle.wl_server.specs.Server.{Seen, seen}
-use Rattle.wl_server.specs.Steps.{Entry, NotesGoOn, OneStep, inserted_by, lacks_growth, offer_after}
+use Rattle.wl_server_client.specs.declared.error.GlobalError.TheVariants as global
+use Rattle.wl_server_client.specs.declared.error.InsertClientError.TheVariants as insert
+use Rattle.wl_server_client.specs.declared.globals.handler.ShownToAll.{ShownToAll}
+use Rattle.wl_server_model.specs.declared.step.Reply.TheVariants as reply
+use Rattle.wl_server_model.specs.declared.step.Step.TheVariants as step
+use Rattle.wl_server_client.specs.Deeds.{Deed}
+use Rattle.wl_server_client.specs.Globals.{Offer}
+use Rattle.wl_server_client.specs.Ids.{ClientParts}
+use Rattle.wl_server_model.specs.PartStep.{Asked, Call, MovedFor, PartStep}
+use Rattle.wl_server_model.specs.Moves.{Arrive as ArriveMove, nothing_taken}
+use Rattle.wl_server_model.specs.Server.{Seen, seen}
+use Rattle.wl_server_model.specs.Steps.{Entry, NotesGoOn, OneStep, inserted_by, lacks_growth, offer_after}
 use Rattle.wl_bench.specs.declared.bench.Seat.{Seat}
 use Rattle.wl_bench.specs.declared.command.ClientCommand.{ClientCommand}
 use Rattle.wl_bench.specs.declared.command.ClientCommand.TheVariants.{Arrive, Read, Finish, Kill, Accept, FailIn, FailOut}

@@ -6,10 +6,10 @@ use Rattle.std.specs.Prelude.{IfOk, MatchOption}
 use Rattle.wl_wire.specs.declared.error.IoFault.{IoFault}
 use Rattle.wl_link.specs.Runs.{entries}
 use Rattle.wl_link.specs.Script.{ScriptReceives, ScriptSends}
-use Rattle.wl_server.specs.Dispatch.{DispatchesAll}
-use Rattle.wl_server.specs.Ids.{ClientParts}
-use Rattle.wl_server.specs.PartStep.{over}
-use Rattle.wl_server.specs.Runs.{Performs}
+use Rattle.wl_server_model.specs.Dispatch.{DispatchesAll}
+use Rattle.wl_server_client.specs.Ids.{ClientParts}
+use Rattle.wl_server_model.specs.PartStep.{over}
+use Rattle.wl_server_model.specs.Runs.{Performs}
 use Rattle.wl_bench.specs.Answers.{Line, dispatched_text, records_lines}
 use Rattle.wl_bench.specs.declared.bench.dispatch.LineHandler.{LineHandler}
 use Rattle.wl_bench.specs.declared.command.Command.{Command}

@@ -9,24 +9,24 @@ use Rattle.wl_wire.specs.declared.error.IoFault.TheVariants as fault
 use Rattle.wl_wire.specs.declared.error.ProtocolError.{ProtocolError}
 use Rattle.wl_link.specs.Exchange.{Queue}
 use Rattle.wl_link.specs.Script.{Script, parcel}
-use Rattle.wl_server.specs.declared.error.ActionError.{ActionError}
-use Rattle.wl_server.specs.declared.error.ActionError.TheVariants.{Io, ActionOpen}
-use Rattle.wl_server.specs.declared.error.FinishError.{FinishError}
-use Rattle.wl_server.specs.declared.error.FinishError.TheVariants as finish
-use Rattle.wl_server.specs.declared.error.GlobalError.{GlobalError}
-use Rattle.wl_server.specs.declared.error.GlobalError.TheVariants as global
-use Rattle.wl_server.specs.declared.error.InsertClientError.{InsertClientError}
-use Rattle.wl_server.specs.declared.error.InsertClientError.TheVariants as insert
-use Rattle.wl_server.specs.declared.error.ScriptError.{ScriptError}
-use Rattle.wl_server.specs.declared.error.ScriptError.TheVariants as script
-use Rattle.wl_server.specs.declared.notes.DisconnectReason.{DisconnectReason}
-use Rattle.wl_server.specs.declared.notes.DisconnectReason.TheVariants as ended
-use Rattle.wl_server.specs.declared.notes.Note.{Note}
-use Rattle.wl_server.specs.declared.notes.Note.TheVariants as note
-use Rattle.wl_server.specs.declared.runs.step.Reply.{Reply}
-use Rattle.wl_server.specs.declared.runs.step.Reply.TheVariants as reply
-use Rattle.wl_server.specs.Deeds.{Bind, Handed, Registry, Request, handed}
-use Rattle.wl_server.specs.Ids.{ClientParts, GlobalParts, IdParts}
+use Rattle.wl_server_client.specs.declared.error.ActionError.{ActionError}
+use Rattle.wl_server_client.specs.declared.error.ActionError.TheVariants.{Io, ActionOpen}
+use Rattle.wl_server_client.specs.declared.error.FinishError.{FinishError}
+use Rattle.wl_server_client.specs.declared.error.FinishError.TheVariants as finish
+use Rattle.wl_server_client.specs.declared.error.GlobalError.{GlobalError}
+use Rattle.wl_server_client.specs.declared.error.GlobalError.TheVariants as global
+use Rattle.wl_server_client.specs.declared.error.InsertClientError.{InsertClientError}
+use Rattle.wl_server_client.specs.declared.error.InsertClientError.TheVariants as insert
+use Rattle.wl_server_client.specs.declared.error.ScriptError.{ScriptError}
+use Rattle.wl_server_client.specs.declared.error.ScriptError.TheVariants as script
+use Rattle.wl_server_client.specs.declared.notes.DisconnectReason.{DisconnectReason}
+use Rattle.wl_server_client.specs.declared.notes.DisconnectReason.TheVariants as ended
+use Rattle.wl_server_client.specs.declared.notes.Note.{Note}
+use Rattle.wl_server_client.specs.declared.notes.Note.TheVariants as note
+use Rattle.wl_server_model.specs.declared.step.Reply.{Reply}
+use Rattle.wl_server_model.specs.declared.step.Reply.TheVariants as reply
+use Rattle.wl_server_client.specs.Deeds.{Bind, Handed, Registry, Request, handed}
+use Rattle.wl_server_client.specs.Ids.{ClientParts, GlobalParts, IdParts}
 use Rattle.wl_bench.specs.Hex.{hex_digits}
 
 -- ---- pieces

@@ -1,8 +1,8 @@
 -- A command about one client, and the other clients.
 use Rattle.std.specs.Prelude.{◌≡◌, ℕ, List, ◌∷◌, ◌++◌, codes, false, Some}
 use Rattle.wl_link.specs.Exchange.{Queue}
-use Rattle.wl_server.specs.Ids.{ClientParts, same_client}
-use Rattle.wl_server.specs.Server.{seen}
+use Rattle.wl_server_client.specs.Ids.{ClientParts, same_client}
+use Rattle.wl_server_model.specs.Server.{seen}
 use Rattle.wl_bench.specs.declared.bench.Seat.{Seat}
 use Rattle.wl_bench.specs.Answers.{Line, sent_lines}
 use Rattle.wl_bench.specs.Bench.{BenchState, latest}

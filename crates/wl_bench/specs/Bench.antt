@@ -10,19 +10,19 @@ use Rattle.wl_wire.specs.declared.argument.Token.{Token}
 use Rattle.wl_wire.specs.declared.interface.InterfaceId.{InterfaceId}
 use Rattle.wl_link.specs.Runs.{entries}
 use Rattle.wl_link.specs.Script.{Script, ScriptReceives, ScriptSends}
-use Rattle.wl_server.specs.declared.globals.handler.ShownToAll.{ShownToAll}
-use Rattle.wl_server.specs.declared.notes.DisconnectReason.TheVariants as ended
-use Rattle.wl_server.specs.declared.runs.step.Reply.{Reply}
-use Rattle.wl_server.specs.declared.runs.step.Reply.TheVariants as reply
-use Rattle.wl_server.specs.declared.runs.step.Step.{Step}
-use Rattle.wl_server.specs.declared.runs.step.Step.TheVariants as step
-use Rattle.wl_server.specs.Backend.{BackendState}
-use Rattle.wl_server.specs.Deeds.{Bind, Handed, Registry, Request, handed}
-use Rattle.wl_server.specs.Dispatch.{Answering, DispatchesAll, answering}
-use Rattle.wl_server.specs.Ids.{ClientParts, GlobalParts, IdParts}
-use Rattle.wl_server.specs.PartStep.{World, over, over_scripts}
-use Rattle.wl_server.specs.Runs.{Performs}
-use Rattle.wl_server.specs.Server.{ServerState, new_server}
+use Rattle.wl_server_client.specs.declared.globals.handler.ShownToAll.{ShownToAll}
+use Rattle.wl_server_client.specs.declared.notes.DisconnectReason.TheVariants as ended
+use Rattle.wl_server_model.specs.declared.step.Reply.{Reply}
+use Rattle.wl_server_model.specs.declared.step.Reply.TheVariants as reply
+use Rattle.wl_server_model.specs.declared.step.Step.{Step}
+use Rattle.wl_server_model.specs.declared.step.Step.TheVariants as step
+use Rattle.wl_server_model.specs.Backend.{BackendState}
+use Rattle.wl_server_client.specs.Deeds.{Bind, Handed, Registry, Request, handed}
+use Rattle.wl_server_model.specs.Dispatch.{Answering, DispatchesAll, answering}
+use Rattle.wl_server_client.specs.Ids.{ClientParts, GlobalParts, IdParts}
+use Rattle.wl_server_model.specs.PartStep.{World, over, over_scripts}
+use Rattle.wl_server_model.specs.Runs.{Performs}
+use Rattle.wl_server_model.specs.Server.{ServerState, new_server}
 use Rattle.wl_bench.specs.declared.bench.Open.{Open}
 use Rattle.wl_bench.specs.declared.bench.Open.TheVariants as opened
 use Rattle.wl_bench.specs.declared.bench.Seat.{Seat}

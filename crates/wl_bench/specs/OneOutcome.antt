@@ -2,10 +2,10 @@
 --
 -- `ordered` says whether the order of the notes of different clients counts.
 use Rattle.std.specs.Prelude.{⊤, ◌≡◌, ℕ, Bool, IsTrue, List, [], ◌∷◌}
-use Rattle.wl_server.specs.declared.notes.Note.{Note}
-use Rattle.wl_server.specs.Ids.{ClientParts}
-use Rattle.wl_server.specs.Outcome.Whole.{SameServer}
-use Rattle.wl_server.specs.Server.{notes_of}
+use Rattle.wl_server_client.specs.declared.notes.Note.{Note}
+use Rattle.wl_server_client.specs.Ids.{ClientParts}
+use Rattle.wl_server_model.specs.Outcome.Whole.{SameServer}
+use Rattle.wl_server_model.specs.Server.{notes_of}
 use Rattle.wl_bench.specs.declared.command.Command.{Command}
 use Rattle.wl_bench.specs.declared.command.Command.TheVariants.{Notes}
 use Rattle.wl_bench.specs.Answers.{Line, note_lines}

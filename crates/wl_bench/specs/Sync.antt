@@ -8,11 +8,11 @@ use Rattle.wl_link.specs.Exchange.{Queue}
 use Rattle.wl_link.specs.Link.{IsFresh as IsFreshLink, LinkState}
 use Rattle.wl_link.specs.Script.{Script}
 use Rattle.wl_client.specs.Session.{SessionState, IsConnected}
-use Rattle.wl_server.specs.Globals.{new_offer}
-use Rattle.wl_server.specs.Ids.{ClientParts}
-use Rattle.wl_server.specs.Lookups.{client_of, transport_of}
-use Rattle.wl_server.specs.Part.{fresh_part}
-use Rattle.wl_server.specs.Server.{ServerState}
+use Rattle.wl_server_client.specs.Globals.{new_offer}
+use Rattle.wl_server_client.specs.Ids.{ClientParts}
+use Rattle.wl_server_model.specs.Lookups.{client_of, transport_of}
+use Rattle.wl_server_client.specs.Part.{fresh_part}
+use Rattle.wl_server_model.specs.Server.{ServerState}
 
 -- a message of one argument
 abbrev pub one_argument : ℕ → ℕ → WireArgument → WireMessage

@@ -4,7 +4,7 @@ ghost use Rattle.std.specs.Prelude.{◌≡◌, ◌++◌, map, IfOk, OnOk};
 ghost use Rattle.std.specs.List.{flat_map};
 ghost use Rattle.std.specs.String.{string_bytes};
 ghost use Rattle.wl_link.specs.Script.{parcel};
-ghost use Rattle.wl_server.specs.Deeds.{handed};
+ghost use Rattle.wl_server_client.specs.Deeds.{handed};
 ghost use Rattle.wl_bench.specs.Answers.{answer_lines, bind_text, destroyed_text, error_front, error_place, answer_text, action_text, argument_text, arguments_text, bytes_of, client_text, effect_text, end_text, error_text, fault_text, finish_name, global_name, global_text, hex, insert_name, name_of_fault, note_lines, note_text, record_lines, registry_text, records_lines, refusal_text, script_name, sent_lines, sent_text, taken_out_lines, tokens_of, tokens_text};
 
 use std::alloc::{AllocError, Global};

@@ -2,7 +2,7 @@
 
 ghost use Rattle.std.specs.Prelude.{List, ◌≡◌, ◌∷◌, ◌++◌, [], IfErr, IfOk, MatchOption, None, Ok, OnOk, Some, map};
 ghost use Rattle.std.specs.String.{string_bytes};
-ghost use Rattle.wl_server.specs.Deeds.{handed};
+ghost use Rattle.wl_server_client.specs.Deeds.{handed};
 ghost use Rattle.wl_bench.specs.Bench.{BenchReply, Does, DoesFor, DoesForAll, IsOneCall, IsShared, NamesNone, Replies, accept_step, all_clients, client_calls, clients_after, finish_step, global_of, globals_after, heard_by, latest, new_bench, opened_by, printed, seat_told, shared_call, take_step, with_latest};
 ghost use Rattle.wl_bench.specs.Table.{bench_rows};
 ghost use Rattle.wl_bench.specs.declared.stop.Stop.TheVariants.{Failed};

@@ -3,7 +3,7 @@
 ghost use Rattle.std.specs.Prelude.{◌≡◌, IfErr, IfOk, OnOk};
 ghost use Rattle.wl_bench.specs.declared.stop.Stop.TheVariants.{Failed};
 ghost use Rattle.wl_bench.specs.Sync.{HasAsked, IsFresh, WasSent, all_bytes, answer_bytes, bringing, request_bytes};
-ghost use Rattle.wl_server.specs.Server.{new_server};
+ghost use Rattle.wl_server_model.specs.Server.{new_server};
 ghost use Rattle.wl_wire.specs.Table.{fixed_rows};
 
 use crate::stop::Stop;

@@ -4,20 +4,20 @@ use mathlib.Core.Logic.{inl, inr}
 use Rattle.std.specs.Prelude.{◌⊎◌, IsSome, OnOk}
 use Rattle.wl_wire.specs.Table.{InterfaceRow}
 use Rattle.wl_link.specs.declared.object.Object.{Object}
-use Rattle.wl_server.specs.declared.error.DestroyError.{DestroyError}
-use Rattle.wl_server.specs.declared.objects.Kept.{Kept}
-use Rattle.wl_server.specs.declared.runs.step.Reply.TheVariants as reply
-use Rattle.wl_server.specs.declared.runs.step.Step.TheVariants as step
-use Rattle.wl_server.specs.Backend.{BackendState, Calls}
-use Rattle.wl_server.specs.Identified.{named_of}
-use Rattle.wl_server.specs.Ids.{ClientParts, IdParts, same_client}
-use Rattle.wl_server.specs.Named.{EachNamesNoneAgain}
-use Rattle.wl_server.specs.PartStep.{Asked, Call, World}
-use Rattle.wl_server.specs.Plain.{DestroysObject}
-use Rattle.wl_server.specs.Runs.{Inserts, IsIsolated, IsNeverInserted, IsNotInserted, Leads}
-use Rattle.wl_server.specs.Server.{Seen, ServerState, new_server, seen}
-use Rattle.wl_server.specs.Steps.{Entry}
-use Rattle.wl_server.proofs.Plain.Base.{same_is}
+use Rattle.wl_server_client.specs.declared.error.DestroyError.{DestroyError}
+use Rattle.wl_server_client.specs.declared.objects.Kept.{Kept}
+use Rattle.wl_server_model.specs.declared.step.Reply.TheVariants as reply
+use Rattle.wl_server_model.specs.declared.step.Step.TheVariants as step
+use Rattle.wl_server_model.specs.Backend.{BackendState, Calls}
+use Rattle.wl_server_model.specs.Identified.{named_of}
+use Rattle.wl_server_client.specs.Ids.{ClientParts, IdParts, same_client}
+use Rattle.wl_server_model.specs.Named.{EachNamesNoneAgain}
+use Rattle.wl_server_model.specs.PartStep.{Asked, Call, World}
+use Rattle.wl_server_model.specs.Plain.{DestroysObject}
+use Rattle.wl_server_model.specs.Runs.{Inserts, IsIsolated, IsNeverInserted, IsNotInserted, Leads}
+use Rattle.wl_server_model.specs.Server.{Seen, ServerState, new_server, seen}
+use Rattle.wl_server_model.specs.Steps.{Entry}
+use Rattle.wl_server_model.proofs.Plain.Base.{same_is}
 use Rattle.wl_callers.specs.Destruction.{IsGoneForGood}
 
 -- ---- a client that is stored was inserted

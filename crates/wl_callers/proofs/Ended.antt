@@ -5,13 +5,13 @@ use Rattle.std.specs.Global.{Global}
 use Rattle.wl_wire.specs.declared.error.IoFault.{IoFault}
 use Rattle.wl_wire.specs.declared.error.OutOfMemory.{OutOfMemory}
 use Rattle.wl_link.specs.Exchange.{Queue}
-use Rattle.wl_server.specs.declared.notes.DisconnectReason.{DisconnectReason}
-use Rattle.wl_server.specs.Backend.{BackendState}
-use Rattle.wl_server.specs.Ids.{ClientParts}
-use Rattle.wl_server.specs.Lookups.{client_of}
-use Rattle.wl_server.specs.Part.{Part}
-use Rattle.wl_server.specs.PartStep.{share_of}
-use Rattle.wl_server.specs.Plain.{CleansUpClients, HandsOut, KillsClient, as_killed}
+use Rattle.wl_server_client.specs.declared.notes.DisconnectReason.{DisconnectReason}
+use Rattle.wl_server_model.specs.Backend.{BackendState}
+use Rattle.wl_server_client.specs.Ids.{ClientParts}
+use Rattle.wl_server_model.specs.Lookups.{client_of}
+use Rattle.wl_server_client.specs.Part.{Part}
+use Rattle.wl_server_model.specs.PartStep.{share_of}
+use Rattle.wl_server_model.specs.Plain.{CleansUpClients, HandsOut, KillsClient, as_killed}
 
 pub handed_out : {T U G C : Type 0} (sends : T → Queue → Result ℕ IoFault → T → Type 0) (before mid after : BackendState T U G C) (id : ClientParts) (reason : DisconnectReason)
     (answer : Result (Vec (ClientParts × T) Global) OutOfMemory) → KillsClient before id reason mid → CleansUpClients sends mid answer after

@@ -1,13 +1,13 @@
 -- Why the sender of a destructor request is found no more once the request has ended.
 use Rattle.std.proofs.Common.{◌≡◌, Bool, true, Option, None, Some, Result, Ok, Err, sym, subst, ◌∙◌}
 use Rattle.std.specs.Prelude.{OnOk}
-use Rattle.wl_server.specs.declared.error.FinishRefused.{FinishRefused}
-use Rattle.wl_server.specs.declared.reading.action.OpenAction.{OpenAction}
-use Rattle.wl_server.specs.declared.reading.action.OpenAction.TheVariants as opened
-use Rattle.wl_server.specs.Backend.{BackendState}
-use Rattle.wl_server.specs.Ids.{ClientParts, IdParts}
-use Rattle.wl_server.specs.Lookups.{object_of}
-use Rattle.wl_server.specs.Plain.{EndsOpenRequest, action_in, object_of_client}
+use Rattle.wl_server_client.specs.declared.error.FinishRefused.{FinishRefused}
+use Rattle.wl_server_client.specs.declared.reading.action.OpenAction.{OpenAction}
+use Rattle.wl_server_client.specs.declared.reading.action.OpenAction.TheVariants as opened
+use Rattle.wl_server_model.specs.Backend.{BackendState}
+use Rattle.wl_server_client.specs.Ids.{ClientParts, IdParts}
+use Rattle.wl_server_model.specs.Lookups.{object_of}
+use Rattle.wl_server_model.specs.Plain.{EndsOpenRequest, action_in, object_of_client}
 
 module _ {T U G C : Type 0} (before after : BackendState T U G C) (sender : IdParts) (u : Option U) where
   same_request : (s : IdParts) (d : Bool) (c created : Option IdParts)

@@ -5,22 +5,22 @@ use Rattle.wl_wire.specs.declared.interface.InterfaceId.{InterfaceId}
 use Rattle.wl_wire.specs.Table.{InterfaceRow}
 use Rattle.wl_link.specs.Store.{held}
 use Rattle.wl_link.proofs.Ids.StoreLaws.{stored_here}
-use Rattle.wl_server.specs.declared.error.GlobalError.{GlobalError}
-use Rattle.wl_server.specs.declared.runs.step.Reply.TheVariants as reply
-use Rattle.wl_server.specs.declared.runs.step.Step.TheVariants as step
-use Rattle.wl_server.specs.Announced.{AreSameGlobals, Announced, EachAnnouncesShown, announced, announced_as, shown_of}
-use Rattle.wl_server.specs.Backend.{BackendState, Calls}
-use Rattle.wl_server.specs.Deeds.{log_of}
-use Rattle.wl_server.specs.Globals.{Offer, new_global}
-use Rattle.wl_server.specs.Ids.{ClientParts, GlobalParts}
-use Rattle.wl_server.specs.Lookups.{client_of}
-use Rattle.wl_server.specs.Part.{Part}
-use Rattle.wl_server.specs.PartStep.{Call, World}
-use Rattle.wl_server.specs.Runs.{Leads, history, mine}
-use Rattle.wl_server.specs.Server.{ServerState, new_server}
-use Rattle.wl_server.specs.Steps.{Entry, offer_after}
-use Rattle.wl_server.proofs.OverRuns.Announced.ShownLaws.{IsShown, shown_among}
-use Rattle.wl_server.proofs.OverRuns.Ids.AmongLaws.{contains_among}
+use Rattle.wl_server_client.specs.declared.error.GlobalError.{GlobalError}
+use Rattle.wl_server_model.specs.declared.step.Reply.TheVariants as reply
+use Rattle.wl_server_model.specs.declared.step.Step.TheVariants as step
+use Rattle.wl_server_model.specs.Announced.{AreSameGlobals, Announced, EachAnnouncesShown, announced, announced_as, shown_of}
+use Rattle.wl_server_model.specs.Backend.{BackendState, Calls}
+use Rattle.wl_server_client.specs.Deeds.{log_of}
+use Rattle.wl_server_client.specs.Globals.{Offer, new_global}
+use Rattle.wl_server_client.specs.Ids.{ClientParts, GlobalParts}
+use Rattle.wl_server_model.specs.Lookups.{client_of}
+use Rattle.wl_server_client.specs.Part.{Part}
+use Rattle.wl_server_model.specs.PartStep.{Call, World}
+use Rattle.wl_server_model.specs.Runs.{Leads, history, mine}
+use Rattle.wl_server_model.specs.Server.{ServerState, new_server}
+use Rattle.wl_server_model.specs.Steps.{Entry, offer_after}
+use Rattle.wl_server_model.proofs.OverRuns.Announced.ShownLaws.{IsShown, shown_among}
+use Rattle.wl_server_model.proofs.OverRuns.Ids.AmongLaws.{contains_among}
 use Rattle.wl_callers.specs.Announcement.{IsOffered}
 
 -- the law of runs that it follows from

@@ -3,17 +3,17 @@ use Rattle.std.specs.Prelude.{◌≡◌, ℕ, List, ◌∷◌, ◌++◌, true, f
 use Rattle.wl_wire.specs.declared.interface.InterfaceId.{InterfaceId}
 use Rattle.wl_wire.specs.Table.{InterfaceRow}
 use Rattle.wl_link.specs.Identity.{Id}
-use Rattle.wl_server.specs.declared.runs.step.Reply.TheVariants as reply
-use Rattle.wl_server.specs.declared.runs.step.Step.TheVariants as step
-use Rattle.wl_server.specs.Announced.{Announced, IsAlwaysLeftAlone, announced, announced_as}
-use Rattle.wl_server.specs.Deeds.{log_of, registries_in}
-use Rattle.wl_server.specs.Ids.{ClientParts, GlobalParts}
-use Rattle.wl_server.specs.Lookups.{client_of}
-use Rattle.wl_server.specs.Part.{Part}
-use Rattle.wl_server.specs.PartStep.{Asked, World}
-use Rattle.wl_server.specs.Runs.{Leads, history, mine}
-use Rattle.wl_server.specs.Server.{ServerState, new_server}
-use Rattle.wl_server.specs.Steps.{Entry}
+use Rattle.wl_server_model.specs.declared.step.Reply.TheVariants as reply
+use Rattle.wl_server_model.specs.declared.step.Step.TheVariants as step
+use Rattle.wl_server_model.specs.Announced.{Announced, IsAlwaysLeftAlone, announced, announced_as}
+use Rattle.wl_server_client.specs.Deeds.{log_of, registries_in}
+use Rattle.wl_server_client.specs.Ids.{ClientParts, GlobalParts}
+use Rattle.wl_server_model.specs.Lookups.{client_of}
+use Rattle.wl_server_client.specs.Part.{Part}
+use Rattle.wl_server_model.specs.PartStep.{Asked, World}
+use Rattle.wl_server_model.specs.Runs.{Leads, history, mine}
+use Rattle.wl_server_model.specs.Server.{ServerState, new_server}
+use Rattle.wl_server_model.specs.Steps.{Entry}
 
 module _ {T U G C : Type 0} (w : World T G C) where
   -- Whatever calls led from a new server to this one: each registry that was made for the client, and that the program left

@@ -1,7 +1,7 @@
 //! Offers a global: each registry of a client that may see it is told of it.
 
 ghost use Rattle.std.specs.Prelude.{IfOk};
-ghost use Rattle.wl_server.specs.PartStep.{over};
+ghost use Rattle.wl_server_model.specs.PartStep.{over};
 ghost use Rattle.wl_callers.specs.Announcement.{IsOffered};
 
 use wl_link::Transport;

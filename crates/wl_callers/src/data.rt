@@ -1,7 +1,7 @@
 //! Sets the data of an object, and finds it again.
 
 ghost use Rattle.std.specs.Prelude.{◌≡◌, IfOk, None, OnErr};
-ghost use Rattle.wl_server.specs.Lookups.{object_of};
+ghost use Rattle.wl_server_model.specs.Lookups.{object_of};
 
 use wl_link::Transport;
 use wl_server::{Backend, GlobalHandler, InvalidId, ObjectId};

@@ -1,7 +1,7 @@
 //! Destroys an object: its id never names an object again, whatever calls follow.
 
 ghost use Rattle.std.specs.Prelude.{OnOk};
-ghost use Rattle.wl_server.specs.PartStep.{over};
+ghost use Rattle.wl_server_model.specs.PartStep.{over};
 ghost use Rattle.wl_callers.specs.Destruction.{IsGoneForGood};
 
 use wl_link::Transport;

@@ -1,9 +1,9 @@
 //! Kills a client: the next cleanup hands it out, with its transport.
 
 ghost use Rattle.std.specs.Prelude.{◌≡◌, [], IfNone, IfOk, IfSome};
-ghost use Rattle.wl_server.specs.Lookups.{client_of};
-ghost use Rattle.wl_server.specs.PartStep.{share_of};
-ghost use Rattle.wl_server.specs.Plain.{HandsOut};
+ghost use Rattle.wl_server_model.specs.Lookups.{client_of};
+ghost use Rattle.wl_server_model.specs.PartStep.{share_of};
+ghost use Rattle.wl_server_model.specs.Plain.{HandsOut};
 
 use wl_link::Transport;
 use wl_server::{Backend, ClientId, DisconnectReason, GlobalHandler};

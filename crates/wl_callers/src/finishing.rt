@@ -1,10 +1,10 @@
 //! The sender of a destructor request is no longer found after the request has ended.
 
 ghost use Rattle.std.specs.Prelude.{◌≡◌, None, OnOk, Option, Some, true};
-ghost use Rattle.wl_server.specs.Ids.{IdParts};
-ghost use Rattle.wl_server.specs.Lookups.{object_of};
-ghost use Rattle.wl_server.specs.Plain.{action_in};
-ghost use Rattle.wl_server.specs.declared.reading.action.OpenAction.TheVariants as opened;
+ghost use Rattle.wl_server_client.specs.Ids.{IdParts};
+ghost use Rattle.wl_server_model.specs.Lookups.{object_of};
+ghost use Rattle.wl_server_model.specs.Plain.{action_in};
+ghost use Rattle.wl_server_client.specs.declared.reading.action.OpenAction.TheVariants as opened;
 
 use wl_link::Transport;
 use wl_server::{Backend, FinishRefused, GlobalHandler, ObjectId};

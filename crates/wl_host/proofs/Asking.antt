@@ -6,10 +6,10 @@ use Rattle.std.specs.Prelude.{◌==◌, ◌&&◌, ◌||◌, MatchOption, MatchRe
 use Rattle.wl_link.proofs.Calls.Branches.{either_option}
 use Rattle.wl_link.specs.Mailbox.{MailboxSends, MailboxState}
 use Rattle.wl_link.specs.Puts.{lacks_memory}
-use Rattle.wl_server.specs.Ids.{ClientParts, same_client}
-use Rattle.wl_server.specs.Lookups.{transport_of}
-use Rattle.wl_server.specs.Plain.{FlushedAs, OtherClientsStay, client_in}
-use Rattle.wl_server.specs.Server.{Seen, seen}
+use Rattle.wl_server_client.specs.Ids.{ClientParts, same_client}
+use Rattle.wl_server_model.specs.Lookups.{transport_of}
+use Rattle.wl_server_model.specs.Plain.{FlushedAs, OtherClientsStay, client_in}
+use Rattle.wl_server_model.specs.Server.{Seen, seen}
 use Rattle.wl_wire.specs.declared.error.IoFault.{IoFault}
 use Rattle.wl_wire.specs.declared.error.OutOfMemory.{OutOfMemory}
 use Rattle.wl_host.proofs.Draining.{link_drained}

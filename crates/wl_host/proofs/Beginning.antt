@@ -5,10 +5,10 @@ use Rattle.std.proofs.lemmas.List.{length-replicate}
 use Rattle.std.specs.Prelude.{if◌then◌else◌, option_map, replicate, slice_set}
 use Rattle.wl_link.specs.Link.{LinkState}
 use Rattle.wl_link.specs.Mailbox.{MailboxState}
-use Rattle.wl_server.proofs.Plain.Clients.{inserts_client}
-use Rattle.wl_server.specs.Ids.{ClientParts}
-use Rattle.wl_server.specs.Lookups.{transport_of}
-use Rattle.wl_server.specs.Part.{Part}
+use Rattle.wl_server_model.proofs.Plain.Clients.{inserts_client}
+use Rattle.wl_server_client.specs.Ids.{ClientParts}
+use Rattle.wl_server_model.specs.Lookups.{transport_of}
+use Rattle.wl_server_client.specs.Part.{Part}
 use Rattle.wl_host.specs.Calls.{InsertsClient, new_mailbox}
 use Rattle.wl_host.specs.Clients.{inserted}
 use Rattle.wl_host.specs.Flat.{client_of, flat_client}

@@ -2,8 +2,8 @@
 use Rattle.std.proofs.Common.{◌≡◌, ℕ, ℤ, true, List, Option, None, Some, Result, Ok, Err, ap, sym, ◌∙◌}
 use Rattle.std.specs.Prelude.{MatchOption}
 use Rattle.wl_link.specs.Mailbox.{MailboxState}
-use Rattle.wl_server.specs.Ids.{ClientParts}
-use Rattle.wl_server.specs.Lookups.{transport_of, waiting_of}
+use Rattle.wl_server_client.specs.Ids.{ClientParts}
+use Rattle.wl_server_model.specs.Lookups.{transport_of, waiting_of}
 use Rattle.wl_wire.specs.declared.error.OutOfMemory.{OutOfMemory}
 use Rattle.wl_host.proofs.Refusing.{action_allowed}
 use Rattle.wl_host.proofs.Settled.{action_settled, kills_same, sent_settled, stays_by, stays_same}

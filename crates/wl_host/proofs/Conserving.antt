@@ -5,9 +5,9 @@ use Rattle.wl_wire.specs.declared.error.OutOfMemory.{OutOfMemory}
 use Rattle.std.specs.Prelude.{Vec, if◌then◌else◌, MatchOption, MatchResult, nat_lt, option_to_list, slice_get, slice_set}
 use Rattle.wl_follow.specs.declared.side.Side.TheVariants.{Client}
 use Rattle.wl_link.specs.Mailbox.{MailboxState}
-use Rattle.wl_server.specs.Ids.{ClientParts}
-use Rattle.wl_server.specs.Lookups.{transport_of, waiting_of}
-use Rattle.wl_server.specs.declared.notes.Note.{Note}
+use Rattle.wl_server_client.specs.Ids.{ClientParts}
+use Rattle.wl_server_model.specs.Lookups.{transport_of, waiting_of}
+use Rattle.wl_server_client.specs.declared.notes.Note.{Note}
 use Rattle.wl_host.proofs.Keeping.{conserves_gone_all, conserves_handed_out, conserves_passed_next}
 use Rattle.wl_host.proofs.Ledgers.{conserves_ledger, conserves_taken_out}
 use Rattle.wl_host.proofs.Queues.{conserves_nothing, conserves_put_in}

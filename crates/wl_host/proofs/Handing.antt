@@ -7,12 +7,12 @@ use Rattle.std.specs.Prelude.{MatchBool, MatchOption, if◌then◌else◌, optio
 use Rattle.wl_wire.specs.declared.argument.Argument.{Argument}
 use Rattle.wl_wire.specs.declared.argument.Argument.TheVariants as arg
 use Rattle.wl_wire.specs.declared.argument.Token.{Token}
-use Rattle.wl_server.specs.Deeds.{handed}
-use Rattle.wl_server.specs.Ids.{ClientParts}
-use Rattle.wl_server.specs.declared.error.ActionError.{ActionError}
-use Rattle.wl_server.specs.declared.error.EventError.{EventError}
-use Rattle.wl_server.specs.declared.error.EventError.TheVariants as event_error
-use Rattle.wl_server.specs.declared.reading.action.Action.{Action}
+use Rattle.wl_server_client.specs.Deeds.{handed}
+use Rattle.wl_server_client.specs.Ids.{ClientParts}
+use Rattle.wl_server_client.specs.declared.error.ActionError.{ActionError}
+use Rattle.wl_server_client.specs.declared.error.EventError.{EventError}
+use Rattle.wl_server_client.specs.declared.error.EventError.TheVariants as event_error
+use Rattle.wl_server_client.specs.declared.reading.action.Action.{Action}
 use Rattle.wl_host.proofs.Ledgers.{conserves_ledger, slot_of_client}
 use Rattle.wl_host.proofs.Queues.{conserves_nothing, conserves_out, conserves_put_in, conserves_without}
 use Rattle.wl_host.specs.Actions.{EndsBind, HandsFrom, HandsNothing, HandsOut, HandsWhole, KeepsAction, Lent, NextAction, NextActionOf, args_of, descriptors_with, fits, is_killed_by, marked_if, with_kept}

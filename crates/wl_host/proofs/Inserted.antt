@@ -7,9 +7,9 @@ use Rattle.std.proofs.lemmas.List.Sums.{sum_by-append, sum_by-set, sum_by_push}
 use Rattle.std.proofs.lemmas.Option.{slice_get-get_or, slice_get_past}
 use Rattle.std.proofs.Math.ListN.{get_or, get_or-append}
 use Rattle.std.specs.List.{sum_by}
-use Rattle.wl_server.specs.Ids.{ClientParts}
+use Rattle.wl_server_client.specs.Ids.{ClientParts}
 use Rattle.wl_link.specs.Mailbox.{MailboxState}
-use Rattle.wl_server.specs.declared.error.InsertClientError.{InsertClientError}
+use Rattle.wl_server_client.specs.declared.error.InsertClientError.{InsertClientError}
 use Rattle.wl_host.proofs.Queues.{conserves_given_up}
 use Rattle.wl_host.specs.Calls.{CoreState, InsertsClient, flattened, new_mailbox}
 use Rattle.wl_host.specs.Flat.{flat_client}

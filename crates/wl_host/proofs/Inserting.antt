@@ -6,12 +6,12 @@ use Rattle.std.specs.Prelude.{Vec, slice_set, vec_len}
 use Rattle.std.specs.VecDeque.{deque_capacity, deque_len}
 use Rattle.std.specs.declared.collections.VecDeque.{VecDeque}
 use Rattle.wl_link.specs.Mailbox.{MailboxState}
-use Rattle.wl_server.specs.Backend.{Calls}
-use Rattle.wl_server.specs.Ids.{ClientParts}
-use Rattle.wl_server.specs.Next.{NextClientIsGiven}
-use Rattle.wl_server.specs.Steps.{NumbersClient}
-use Rattle.wl_server.specs.declared.runs.step.Reply.TheVariants as reply
-use Rattle.wl_server.specs.declared.runs.step.Step.TheVariants as step
+use Rattle.wl_server_model.specs.Backend.{Calls}
+use Rattle.wl_server_client.specs.Ids.{ClientParts}
+use Rattle.wl_server_model.specs.Next.{NextClientIsGiven}
+use Rattle.wl_server_model.specs.Steps.{NumbersClient}
+use Rattle.wl_server_model.specs.declared.step.Reply.TheVariants as reply
+use Rattle.wl_server_model.specs.declared.step.Step.TheVariants as step
 use Rattle.wl_host.proofs.Seating.{seats_seated}
 use Rattle.wl_host.specs.Calls.{CoreState, world}
 use Rattle.wl_host.specs.Descriptors.{Descriptors}

@@ -4,7 +4,7 @@ use Rattle.std.proofs.lemmas.List.Sums.{sum_by-cons, sum_by_push}
 use Rattle.std.specs.List.{slice_get, sum_by}
 use Rattle.std.specs.Prelude.{option_to_list}
 use Rattle.wl_link.specs.Mailbox.{MailboxState}
-use Rattle.wl_server.specs.Ids.{ClientParts}
+use Rattle.wl_server_client.specs.Ids.{ClientParts}
 use Rattle.wl_host.proofs.Ledgers.{conserves_taken_out, slot_of_client, slot_of_ledger, sum_replaced}
 use Rattle.wl_host.proofs.Queues.{conserves_given_up, conserves_nothing, conserves_out}
 use Rattle.wl_host.specs.Descriptors.{Conserves, Descriptors, given_up, kept_in, occurrences}

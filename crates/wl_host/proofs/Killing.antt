@@ -12,25 +12,25 @@ use Rattle.wl_link.specs.Identity.{Id}
 use Rattle.wl_link.specs.Link.{LinkState, count_of, counted_answer}
 use Rattle.wl_link.specs.Puts.{PutsOut, Said}
 use Rattle.wl_link.specs.Reader.{CarriesOut, Given, Gives, Handled, HandedOut, Queued, Reader, ReaderState, Reads, Received, Turn, Unread, Verdict, came_to, given_first, with_link}
-use Rattle.wl_server.specs.declared.error.ActionError.{ActionError}
-use Rattle.wl_server.specs.declared.error.ActionError.TheVariants as action_error
-use Rattle.wl_server.specs.declared.objects.Kept.{Kept}
-use Rattle.wl_server.specs.declared.reading.action.OpenAction.{OpenAction}
-use Rattle.wl_server.specs.declared.reading.action.OpenAction.TheVariants as opened
-use Rattle.wl_server.specs.declared.reading.action.Reading.{Reading}
-use Rattle.wl_server.specs.declared.reading.violation.MessageFault.TheVariants as message
-use Rattle.wl_server.specs.declared.reading.violation.Violation.{Violation}
-use Rattle.wl_server.specs.Deeds as deeds
-use Rattle.wl_server.specs.Deeds.{Acted, Deed, Handed, Remembered}
-use Rattle.wl_server.specs.Errors.{since_text}
-use Rattle.wl_server.specs.Reading.{Around, NextAction, action_in, answered, breaks, converted, faulted, garbled, hands_out, other_request, reads_on, replies, sent_to, server, stops_if}
-use Rattle.wl_server.specs.Globals.{global_at}
-use Rattle.wl_server.specs.Requests.{Outcome, Whole, Wrong, convert, made_id, start, with_made}
-use Rattle.wl_server.specs.Part.{Part}
-use Rattle.wl_server.specs.Telling.{Core, Did, Finish, Stops, Told, objects_in, reader_part, with_objects}
-use Rattle.wl_server.specs.Violations.{violation}
-use Rattle.wl_server.proofs.OverRuns.Announced.RequestCases.{request_case}
-use Rattle.wl_server.proofs.Plain.Base.{when_false}
+use Rattle.wl_server_client.specs.declared.error.ActionError.{ActionError}
+use Rattle.wl_server_client.specs.declared.error.ActionError.TheVariants as action_error
+use Rattle.wl_server_client.specs.declared.objects.Kept.{Kept}
+use Rattle.wl_server_client.specs.declared.reading.action.OpenAction.{OpenAction}
+use Rattle.wl_server_client.specs.declared.reading.action.OpenAction.TheVariants as opened
+use Rattle.wl_server_client.specs.declared.reading.action.Reading.{Reading}
+use Rattle.wl_server_client.specs.declared.reading.violation.MessageFault.TheVariants as message
+use Rattle.wl_server_client.specs.declared.reading.violation.Violation.{Violation}
+use Rattle.wl_server_client.specs.Deeds as deeds
+use Rattle.wl_server_client.specs.Deeds.{Acted, Deed, Handed, Remembered}
+use Rattle.wl_server_client.specs.Errors.{since_text}
+use Rattle.wl_server_client.specs.Reading.{Around, NextAction, action_in, answered, breaks, converted, faulted, garbled, hands_out, other_request, reads_on, replies, sent_to, server, stops_if}
+use Rattle.wl_server_client.specs.Globals.{global_at}
+use Rattle.wl_server_client.specs.Requests.{Outcome, Whole, Wrong, convert, made_id, start, with_made}
+use Rattle.wl_server_client.specs.Part.{Part}
+use Rattle.wl_server_client.specs.Telling.{Core, Did, Finish, Stops, Told, objects_in, reader_part, with_objects}
+use Rattle.wl_server_client.specs.Violations.{violation}
+use Rattle.wl_server_model.proofs.OverRuns.Announced.RequestCases.{request_case}
+use Rattle.wl_server_model.proofs.Plain.Base.{when_false}
 use Rattle.wl_host.specs.Actions.{kills}
 
 -- ---- a reading

@@ -9,7 +9,7 @@ use Rattle.std.specs.List.{slice_get, slice_index_or, sum_by}
 use Rattle.std.specs.Option.{option_map_or}
 use Rattle.std.specs.Prelude.{IfNone, MatchOption, option_to_list, replicate, slice_set, ◌==◌, if◌then◌else◌}
 use Rattle.wl_wire.specs.declared.argument.Token.{Token}
-use Rattle.wl_server.specs.Ids.{ClientParts}
+use Rattle.wl_server_client.specs.Ids.{ClientParts}
 use Rattle.wl_host.proofs.Slots.{among_added}
 use Rattle.wl_host.proofs.Queues.{conserves_nothing, conserves_out, conserves_without}
 use Rattle.wl_host.specs.Descriptors.{Conserves, Descriptors, kept_in, without}

@@ -3,10 +3,12 @@ use Rattle.std.proofs.Common.{◌≡◌, ℕ, zero, suc, ℤ, Bool, true, false,
 use Rattle.std.specs.List.{slice_get}
 use Rattle.std.specs.Prelude.{if◌then◌else◌, option_map, slice_set, ◌==◌}
 use Rattle.wl_link.specs.Mailbox.{MailboxState}
-use Rattle.wl_server.specs.Ids.{ClientParts}
-use Rattle.wl_server.specs.Lending.{over_transport, state_over}
-use Rattle.wl_server.specs.Lookups.{transport_of}
-use Rattle.wl_server.specs.Server.{Stored, client_at, if_serial, stored_at}
+use Rattle.wl_server_client.specs.Ids.{ClientParts}
+use Rattle.wl_server_client.specs.Lending.{over_transport}
+use Rattle.wl_server.specs.Lending.{state_over}
+use Rattle.wl_server_model.specs.Lookups.{transport_of}
+use Rattle.wl_server_client.specs.Stored.{Stored}
+use Rattle.wl_server_model.specs.Server.{client_at, if_serial, stored_at}
 use Rattle.wl_host.proofs.Ledgers.{set_same, slot_of_client}
 use Rattle.wl_host.specs.Calls.{CoreState}
 use Rattle.wl_host.specs.Hearing.{TakesIn, ledger_after}

@@ -7,41 +7,43 @@ use Rattle.std.specs.Option.{unwrap_or}
 use Rattle.std.specs.Prelude.{MatchBool, Vec, if◌then◌else◌, option_map, slice_get, slice_set}
 use Rattle.wl_link.proofs.Calls.Branches.{either_bool, either_option}
 use Rattle.wl_link.specs.Mailbox.{MailboxReceives, MailboxSends, MailboxState}
-use Rattle.wl_server.specs.declared.error.ActionError.{ActionError}
-use Rattle.wl_server.specs.declared.error.CreateAtError.{CreateAtError}
-use Rattle.wl_server.specs.declared.error.CreateError.{CreateError}
-use Rattle.wl_server.specs.declared.error.FinishError.TheVariants as finish
-use Rattle.wl_server.specs.declared.error.FinishRefused.{FinishRefused}
-use Rattle.wl_server.specs.declared.error.GlobalError.{GlobalError}
-use Rattle.wl_server.specs.declared.error.InsertClientError.{InsertClientError}
-use Rattle.wl_server.specs.declared.error.InvalidId.{InvalidId}
-use Rattle.wl_server.specs.declared.error.VersionError.{VersionError}
-use Rattle.wl_server.specs.declared.notes.Note.{Note}
-use Rattle.wl_server.specs.declared.reading.action.Action.{Action}
-use Rattle.wl_server.specs.declared.reading.action.OpenAction.{OpenAction}
-use Rattle.wl_server.specs.declared.reading.action.OpenAction.TheVariants as opened
-use Rattle.wl_server.specs.declared.reading.action.Reading.{Reading}
-use Rattle.wl_server.specs.declared.runs.step.Reply.{Reply}
-use Rattle.wl_server.specs.declared.runs.step.Reply.TheVariants as reply
-use Rattle.wl_server.specs.declared.runs.step.Step.{Step}
-use Rattle.wl_server.specs.declared.runs.step.Step.TheVariants as step
-use Rattle.wl_server.proofs.Plain.Base.{of_each, when_false, when_true}
-use Rattle.wl_server.specs.Backend.{Calls, IsGrowth}
-use Rattle.wl_server.specs.Chosen.{CreatesNumbered, VersionSet, has_version, is_free_own}
-use Rattle.wl_server.specs.Deeds.{Deed, Handed, Noted}
-use Rattle.wl_server.specs.Felt.{Cleaned, FlushedTo, objects_leave}
-use Rattle.wl_server.specs.Finish.{FinishesBind, FinishesOpen, FinishesOpenBind, FinishesRequest, ends_request, finish_verdict, refusal}
-use Rattle.wl_server.specs.Globals.{Offer}
-use Rattle.wl_server.specs.Ids.{ClientParts, GlobalParts, IdParts, same_client}
-use Rattle.wl_server.specs.Lending.{over_transport, state_over}
-use Rattle.wl_server.specs.Lookups.{and_then}
-use Rattle.wl_server.specs.Objects.{Creates, DataSet}
-use Rattle.wl_server.specs.Part.{Part, last_possible_serial, named}
-use Rattle.wl_server.specs.PartStep.{Call, CleanedAs, FeelsGlobal, InsertedAs, NotesTaken, OfClient, PartCall, PartStep, ReadsFor, Unfelt, around, share_of}
-use Rattle.wl_server.specs.Plain.{action_in, killed_in}
-use Rattle.wl_server.specs.Reading.{Around, NextAction, action_content, new_reading}
-use Rattle.wl_server.specs.Server.{Seen, Stored, if_serial, seen, stored_at}
-use Rattle.wl_server.specs.Telling.{Core, Tells, core_of, speaker}
+use Rattle.wl_server_client.specs.declared.error.ActionError.{ActionError}
+use Rattle.wl_server_client.specs.declared.error.CreateAtError.{CreateAtError}
+use Rattle.wl_server_client.specs.declared.error.CreateError.{CreateError}
+use Rattle.wl_server_client.specs.declared.error.FinishError.TheVariants as finish
+use Rattle.wl_server_client.specs.declared.error.FinishRefused.{FinishRefused}
+use Rattle.wl_server_client.specs.declared.error.GlobalError.{GlobalError}
+use Rattle.wl_server_client.specs.declared.error.InsertClientError.{InsertClientError}
+use Rattle.wl_server_client.specs.declared.error.InvalidId.{InvalidId}
+use Rattle.wl_server_client.specs.declared.error.VersionError.{VersionError}
+use Rattle.wl_server_client.specs.declared.notes.Note.{Note}
+use Rattle.wl_server_client.specs.declared.reading.action.Action.{Action}
+use Rattle.wl_server_client.specs.declared.reading.action.OpenAction.{OpenAction}
+use Rattle.wl_server_client.specs.declared.reading.action.OpenAction.TheVariants as opened
+use Rattle.wl_server_client.specs.declared.reading.action.Reading.{Reading}
+use Rattle.wl_server_model.specs.declared.step.Reply.{Reply}
+use Rattle.wl_server_model.specs.declared.step.Reply.TheVariants as reply
+use Rattle.wl_server_model.specs.declared.step.Step.{Step}
+use Rattle.wl_server_model.specs.declared.step.Step.TheVariants as step
+use Rattle.wl_server_model.proofs.Plain.Base.{of_each, when_false, when_true}
+use Rattle.wl_server_model.specs.Backend.{Calls, IsGrowth}
+use Rattle.wl_server_client.specs.Chosen.{CreatesNumbered, VersionSet, has_version, is_free_own}
+use Rattle.wl_server_client.specs.Deeds.{Deed, Handed, Noted}
+use Rattle.wl_server_client.specs.Felt.{Cleaned, FlushedTo, objects_leave}
+use Rattle.wl_server_client.specs.Finish.{FinishesBind, FinishesOpen, FinishesOpenBind, FinishesRequest, ends_request, finish_verdict, refusal}
+use Rattle.wl_server_client.specs.Globals.{Offer}
+use Rattle.wl_server_client.specs.Ids.{ClientParts, GlobalParts, IdParts, same_client}
+use Rattle.wl_server_client.specs.Lending.{over_transport}
+use Rattle.wl_server.specs.Lending.{state_over}
+use Rattle.wl_server_model.specs.Lookups.{and_then}
+use Rattle.wl_server_client.specs.Objects.{Creates, DataSet}
+use Rattle.wl_server_client.specs.Part.{Part, last_possible_serial, named}
+use Rattle.wl_server_model.specs.PartStep.{Call, CleanedAs, FeelsGlobal, InsertedAs, NotesTaken, OfClient, PartCall, PartStep, ReadsFor, Unfelt, around, share_of}
+use Rattle.wl_server_model.specs.Plain.{action_in, killed_in}
+use Rattle.wl_server_client.specs.Reading.{Around, NextAction, action_content, new_reading}
+use Rattle.wl_server_model.specs.Server.{Seen, if_serial, seen, stored_at}
+use Rattle.wl_server_client.specs.Stored.{Stored}
+use Rattle.wl_server_client.specs.Telling.{Core, Tells, core_of, speaker}
 use Rattle.wl_wire.specs.declared.error.IoFault.{IoFault}
 use Rattle.wl_wire.specs.declared.error.OutOfMemory.{OutOfMemory}
 use Rattle.wl_wire.specs.declared.interface.InterfaceId.{InterfaceId}

@@ -6,10 +6,10 @@ use Rattle.std.specs.VecDeque.{deque_len}
 use Rattle.std.specs.declared.collections.VecDeque.{VecDeque}
 use Rattle.std.specs.Global.{Global}
 use Rattle.wl_wire.specs.declared.error.OutOfMemory.{OutOfMemory}
-use Rattle.wl_server.specs.Backend.{Calls}
-use Rattle.wl_server.specs.declared.notes.Note.{Note}
-use Rattle.wl_server.specs.declared.runs.step.Reply.TheVariants as reply
-use Rattle.wl_server.specs.declared.runs.step.Step.TheVariants as step
+use Rattle.wl_server_model.specs.Backend.{Calls}
+use Rattle.wl_server_client.specs.declared.notes.Note.{Note}
+use Rattle.wl_server_model.specs.declared.step.Reply.TheVariants as reply
+use Rattle.wl_server_model.specs.declared.step.Step.TheVariants as step
 use Rattle.wl_host.specs.Calls.{CoreState, world}
 use Rattle.wl_host.specs.Flat.{over_front}
 use Rattle.wl_host.specs.Notes.{Fetches, NextNote, Noted, flat_note, noted, noted_if, text_of, with_text}

@@ -7,12 +7,12 @@ use Rattle.wl_wire.specs.MessageRows.{event_row, request_row}
 use Rattle.wl_wire.specs.declared.error.IoFault.TheVariants as fault
 use Rattle.wl_link.proofs.Calls.Branches.{either_bool, either_option}
 use Rattle.wl_client.specs.Requests.{SessionMessage}
-use Rattle.wl_server.specs.Deeds.{Handed, handed}
-use Rattle.wl_server.specs.Deeds as deeds
-use Rattle.wl_server.specs.Ids.{ClientParts}
-use Rattle.wl_server.specs.declared.error.ActionError.{ActionError}
-use Rattle.wl_server.specs.declared.error.ActionError.TheVariants as action_error
-use Rattle.wl_server.specs.declared.reading.action.Action.{Action}
+use Rattle.wl_server_client.specs.Deeds.{Handed, handed}
+use Rattle.wl_server_client.specs.Deeds as deeds
+use Rattle.wl_server_client.specs.Ids.{ClientParts}
+use Rattle.wl_server_client.specs.declared.error.ActionError.{ActionError}
+use Rattle.wl_server_client.specs.declared.error.ActionError.TheVariants as action_error
+use Rattle.wl_server_client.specs.declared.reading.action.Action.{Action}
 use Rattle.wl_host.proofs.ClientReading.{something_read}
 use Rattle.wl_host.proofs.TellingNulls.{tells_null}
 use Rattle.wl_host.specs.Actions.{HandsOut, Lent, NextAction, ReadsAllowed, ReadsIfAllowed, ReadsNext, Refuses, args_of, fits, is_killed_by, marked_if, null_in, with_kept}

@@ -7,7 +7,7 @@ use Rattle.std.specs.List.{sum_by}
 use Rattle.std.specs.Prelude.{if◌then◌else◌, nat_lt, replicate, slice_set, vec_len}
 use Rattle.std.specs.Vec.{with_item}
 use Rattle.std.specs.VecDeque.{deque_capacity, deque_len}
-use Rattle.wl_server.specs.Ids.{ClientParts}
+use Rattle.wl_server_client.specs.Ids.{ClientParts}
 use Rattle.wl_host.proofs.Ledgers.{added_is_among, marked_added, marked_none, marked_padded, marked_seated, marked_set, slot_of_client, taken_few, taken_less, taken_replaced}
 use Rattle.wl_host.specs.Inside.Seats.{AreMarked, AreSeats, taken}
 use Rattle.wl_host.specs.Inside.Slots.{Slots, with_slot}

@@ -6,20 +6,20 @@ use Rattle.std.specs.Prelude.{MatchOption, MatchResult, Vec, length, nat_lt}
 use Rattle.wl_link.proofs.Calls.Branches.{either_bool, either_option}
 use Rattle.wl_link.specs.Mailbox.{MailboxState}
 use Rattle.wl_link.specs.declared.mailbox.Ending.{Ending}
-use Rattle.wl_server.specs.declared.error.ActionError.{ActionError}
-use Rattle.wl_server.specs.declared.error.GlobalError.{GlobalError}
-use Rattle.wl_server.specs.declared.notes.Note.{Note}
-use Rattle.wl_server.specs.declared.reading.action.Action.{Action}
-use Rattle.wl_server.specs.declared.reading.action.OpenAction.TheVariants as opened
-use Rattle.wl_server.specs.declared.runs.step.Reply.TheVariants as reply
-use Rattle.wl_server.specs.declared.runs.step.Step.TheVariants as step
-use Rattle.wl_server.specs.Backend.{Calls, IsGrowth}
-use Rattle.wl_server.specs.Deeds.{handed}
-use Rattle.wl_server.specs.Ids.{ClientParts, GlobalParts, IdParts}
+use Rattle.wl_server_client.specs.declared.error.ActionError.{ActionError}
+use Rattle.wl_server_client.specs.declared.error.GlobalError.{GlobalError}
+use Rattle.wl_server_client.specs.declared.notes.Note.{Note}
+use Rattle.wl_server_client.specs.declared.reading.action.Action.{Action}
+use Rattle.wl_server_client.specs.declared.reading.action.OpenAction.TheVariants as opened
+use Rattle.wl_server_model.specs.declared.step.Reply.TheVariants as reply
+use Rattle.wl_server_model.specs.declared.step.Step.TheVariants as step
+use Rattle.wl_server_model.specs.Backend.{Calls, IsGrowth}
+use Rattle.wl_server_client.specs.Deeds.{handed}
+use Rattle.wl_server_client.specs.Ids.{ClientParts, GlobalParts, IdParts}
 use Rattle.wl_server.specs.Lending.{state_over}
-use Rattle.wl_server.specs.Lookups.{transport_of}
-use Rattle.wl_server.specs.Plain.{action_in, killed_in}
-use Rattle.wl_server.specs.Reading.{action_content}
+use Rattle.wl_server_model.specs.Lookups.{transport_of}
+use Rattle.wl_server_model.specs.Plain.{action_in, killed_in}
+use Rattle.wl_server_client.specs.Reading.{action_content}
 use Rattle.wl_wire.specs.Table.{Extension, LongerRow, NewRows}
 use Rattle.wl_wire.specs.declared.error.OutOfMemory.{OutOfMemory}
 use Rattle.wl_host.proofs.Killing.{says_killed}

@@ -2,9 +2,9 @@
 use Rattle.std.proofs.Common.{◌≡◌, ◌∙◌, Result, ap}
 use Rattle.wl_wire.specs.Table.{Growth, table_after}
 use Rattle.wl_wire.specs.declared.protocol.TableError.{TableError}
-use Rattle.wl_server.specs.Backend.{IsGrowth}
-use Rattle.wl_server.specs.Globals.{Offer}
-use Rattle.wl_server.specs.Steps.{offer_after}
+use Rattle.wl_server_model.specs.Backend.{IsGrowth}
+use Rattle.wl_server_client.specs.Globals.{Offer}
+use Rattle.wl_server_model.specs.Steps.{offer_after}
 use Rattle.wl_host.specs.Calls.{CoreState, world}
 use Rattle.wl_host.specs.declared.server.HostGlobal.{HostGlobal}
 use Rattle.wl_host.specs.Client.{ClientCore}

@@ -5,8 +5,8 @@ use Rattle.std.specs.Prelude.{MatchOption, option_map}
 use Rattle.wl_wire.specs.declared.error.OutOfMemory.{OutOfMemory}
 use Rattle.wl_wire.specs.Table.{InterfaceRow}
 use Rattle.wl_link.specs.Mailbox.{MailboxState}
-use Rattle.wl_server.specs.Ids.{ClientParts}
-use Rattle.wl_server.specs.Lookups.{transport_of, waiting_of}
+use Rattle.wl_server_client.specs.Ids.{ClientParts}
+use Rattle.wl_server_model.specs.Lookups.{transport_of, waiting_of}
 use Rattle.wl_follow.specs.declared.side.Side.TheVariants.{Client}
 use Rattle.wl_host.proofs.Lending.{same_seats}
 use Rattle.wl_host.specs.Actions.{Lent, NextAction}

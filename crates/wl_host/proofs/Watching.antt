@@ -8,12 +8,14 @@ use Rattle.wl_wire.specs.Table.{InterfaceRow}
 use Rattle.wl_link.specs.Exchange.{Queue}
 use Rattle.wl_link.specs.Mailbox.{MailboxState, behind, front}
 use Rattle.wl_link.proofs.Calls.QueueLaws.{queue_is}
-use Rattle.wl_server.specs.Ids.{ClientParts}
-use Rattle.wl_server.specs.Lending.{over_transport, state_over}
-use Rattle.wl_server.specs.Lookups.{transport_of, waiting_of}
-use Rattle.wl_server.specs.Lookups as counted
-use Rattle.wl_server.specs.Server.{Stored, client_at, stored_at}
-use Rattle.wl_server.specs.Server as stored
+use Rattle.wl_server_client.specs.Ids.{ClientParts}
+use Rattle.wl_server_client.specs.Lending.{over_transport}
+use Rattle.wl_server.specs.Lending.{state_over}
+use Rattle.wl_server_model.specs.Lookups.{transport_of, waiting_of}
+use Rattle.wl_server_model.specs.Lookups as counted
+use Rattle.wl_server_client.specs.Stored.{Stored}
+use Rattle.wl_server_model.specs.Server.{client_at, stored_at}
+use Rattle.wl_server_model.specs.Server as stored
 use Rattle.wl_follow.specs.declared.follower.Told.{Told}
 use Rattle.wl_follow.specs.declared.side.Side.TheVariants.{Client}
 use Rattle.wl_host.proofs.Ledgers.{ledger_at_slot, slot_of_client}

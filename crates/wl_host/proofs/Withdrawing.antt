@@ -5,11 +5,11 @@ use mathlib.Core.Logic.{inl, inr}
 use Rattle.std.specs.List.{filter, list_any}
 use Rattle.std.proofs.lemmas.List.Elements.{filter-append}
 use Rattle.wl_link.proofs.Calls.Branches.{either_option}
-use Rattle.wl_server.specs.declared.error.EventError.{EventError}
-use Rattle.wl_server.specs.Deeds.{IsAmong}
-use Rattle.wl_server.specs.Ids.{GlobalParts, IdParts}
-use Rattle.wl_server.specs.Lookups.{global_info_by, object_info_of}
-use Rattle.wl_server.specs.Plain.{same_object}
+use Rattle.wl_server_client.specs.declared.error.EventError.{EventError}
+use Rattle.wl_server_client.specs.Deeds.{IsAmong}
+use Rattle.wl_server_client.specs.Ids.{GlobalParts, IdParts}
+use Rattle.wl_server_model.specs.Lookups.{global_info_by, object_info_of}
+use Rattle.wl_server_model.specs.Plain.{same_object}
 use Rattle.wl_host.specs.Calls.{CoreState, status_by}
 use Rattle.wl_host.specs.Registries.{AllTell, Announced, Announces, Called, IsThereMeanwhile, KeepsOutstanding, KeepsThere, Neither, Tells, TellsRemoval, TellsRemovals, Withdrawn, Withdraws, is_of, is_there, is_to, kept_after, outstanding, outstanding_after, registries_told, said_with, told_with, without_global}
 use Rattle.wl_host.specs.Server.{ServerState}

@@ -5,20 +5,20 @@ use Rattle.wl_wire.specs.Table.{name_of}
 use Rattle.wl_wire.specs.declared.argument.Argument.{Argument}
 use Rattle.wl_wire.specs.declared.argument.Token.{Token}
 use Rattle.wl_wire.specs.declared.error.IoFault.TheVariants as fault
-use Rattle.wl_server.specs.Backend.{Calls}
-use Rattle.wl_server.specs.Deeds.{Handed, handed}
-use Rattle.wl_server.specs.Deeds as deeds
-use Rattle.wl_server.specs.Ids.{ClientParts, IdParts}
-use Rattle.wl_server.specs.Part.{display_of}
-use Rattle.wl_server.specs.Plain.{ReturnsBindData, ReturnsRequestData}
+use Rattle.wl_server_model.specs.Backend.{Calls}
+use Rattle.wl_server_client.specs.Deeds.{Handed, handed}
+use Rattle.wl_server_client.specs.Deeds as deeds
+use Rattle.wl_server_client.specs.Ids.{ClientParts, IdParts}
+use Rattle.wl_server_client.specs.Part.{display_of}
+use Rattle.wl_server_model.specs.Plain.{ReturnsBindData, ReturnsRequestData}
 use Rattle.std.specs.Result.{result_and}
-use Rattle.wl_server.specs.declared.error.FinishRefused.{FinishRefused}
-use Rattle.wl_server.specs.declared.error.ActionError.{ActionError}
-use Rattle.wl_server.specs.declared.error.ActionError.TheVariants as action_error
-use Rattle.wl_server.specs.declared.notes.DisconnectReason.TheVariants as reason
-use Rattle.wl_server.specs.declared.reading.action.Action.{Action}
-use Rattle.wl_server.specs.declared.runs.step.Reply.TheVariants as reply
-use Rattle.wl_server.specs.declared.runs.step.Step.TheVariants as step
+use Rattle.wl_server_client.specs.declared.error.FinishRefused.{FinishRefused}
+use Rattle.wl_server_client.specs.declared.error.ActionError.{ActionError}
+use Rattle.wl_server_client.specs.declared.error.ActionError.TheVariants as action_error
+use Rattle.wl_server_client.specs.declared.notes.DisconnectReason.TheVariants as reason
+use Rattle.wl_server_client.specs.declared.reading.action.Action.{Action}
+use Rattle.wl_server_model.specs.declared.step.Reply.TheVariants as reply
+use Rattle.wl_server_model.specs.declared.step.Step.TheVariants as step
 use Rattle.wl_host.specs.Arguments.{all_bytes, descriptors_out, flat_arguments, queue_after_all}
 use Rattle.wl_host.specs.Calls.{CoreState, bit_of, data_or_zero, global_data_or_zero, kept_by, version_or_zero, world}
 use Rattle.wl_host.specs.Flat.{count_number, flat_global, flat_resource, no_action, no_object, over_front}

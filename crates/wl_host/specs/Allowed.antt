@@ -2,8 +2,8 @@
 use Rattle.std.specs.Prelude.{◌≡◌, ℕ, List}
 use Rattle.wl_wire.specs.MessageRows.{event_row, request_row}
 use Rattle.wl_client.specs.Requests.{SessionMessage}
-use Rattle.wl_server.specs.Deeds.{Handed}
-use Rattle.wl_server.specs.Deeds as deeds
+use Rattle.wl_server_client.specs.Deeds.{Handed}
+use Rattle.wl_server_client.specs.Deeds as deeds
 use Rattle.wl_host.specs.Actions.{Lent, lent_action}
 use Rattle.wl_host.specs.Calls.{CoreState}
 use Rattle.wl_host.specs.Client.{ClientCore, HostedClient, LentForEvent, with_event}

@@ -5,23 +5,23 @@ use Rattle.std.specs.Option.{option_map_or}
 use Rattle.wl_wire.specs.declared.interface.InterfaceId.{InterfaceId}
 use Rattle.wl_wire.specs.declared.interface.ObjectInfo.{ObjectInfo}
 use Rattle.wl_link.specs.Mailbox.{MailboxState, MailboxSends, MailboxReceives}
-use Rattle.wl_server.specs.Backend.{BackendState, Calls}
-use Rattle.wl_server.specs.Ids.{ClientParts, GlobalParts, IdParts}
-use Rattle.wl_server.specs.Next.{NextClient, NextGlobal}
-use Rattle.wl_server.specs.PartStep.{World, over}
+use Rattle.wl_server_model.specs.Backend.{BackendState, Calls}
+use Rattle.wl_server_client.specs.Ids.{ClientParts, GlobalParts, IdParts}
+use Rattle.wl_server_model.specs.Next.{NextClient, NextGlobal}
+use Rattle.wl_server_model.specs.PartStep.{World, over}
 use Rattle.wl_link.specs.Exchange.{nothing}
 use Rattle.wl_link.specs.declared.mailbox.Ending.TheVariants as ending
 use Rattle.wl_server.specs.Lending.{state_over}
-use Rattle.wl_server.specs.Lookups.{handler_of, object_data_of, object_info_of, transport_of}
-use Rattle.wl_server.specs.declared.error.InsertClientError.{InsertClientError}
-use Rattle.wl_server.specs.declared.error.CreateError.{CreateError}
-use Rattle.wl_server.specs.declared.error.DestroyError.{DestroyError}
-use Rattle.wl_server.specs.declared.error.FinishRefused.{FinishRefused}
-use Rattle.wl_server.specs.declared.error.GlobalError.{GlobalError}
-use Rattle.wl_server.specs.declared.error.InvalidId.{InvalidId}
-use Rattle.wl_server.specs.declared.ids.global_id.GlobalInfo.{GlobalInfo}
-use Rattle.wl_server.specs.declared.runs.step.Reply.TheVariants as reply
-use Rattle.wl_server.specs.declared.runs.step.Step.TheVariants as step
+use Rattle.wl_server_model.specs.Lookups.{handler_of, object_data_of, object_info_of, transport_of}
+use Rattle.wl_server_client.specs.declared.error.InsertClientError.{InsertClientError}
+use Rattle.wl_server_client.specs.declared.error.CreateError.{CreateError}
+use Rattle.wl_server_client.specs.declared.error.DestroyError.{DestroyError}
+use Rattle.wl_server_client.specs.declared.error.FinishRefused.{FinishRefused}
+use Rattle.wl_server_client.specs.declared.error.GlobalError.{GlobalError}
+use Rattle.wl_server_client.specs.declared.error.InvalidId.{InvalidId}
+use Rattle.wl_server_client.specs.declared.ids.global_id.GlobalInfo.{GlobalInfo}
+use Rattle.wl_server_model.specs.declared.step.Reply.TheVariants as reply
+use Rattle.wl_server_model.specs.declared.step.Step.TheVariants as step
 use Rattle.wl_host.specs.Flat.{client_of, flat_client, flat_global, flat_resource, interface_number, resource_of}
 use Rattle.wl_host.specs.Visibility.{IsViewed, IsViewer, sees}
 use Rattle.wl_host.specs.Status.{of_create, of_destroy, of_finish, of_global, of_insert}

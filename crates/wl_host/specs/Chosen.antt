@@ -1,11 +1,11 @@
 -- What the host chooses of an object, its number or its version, in the words of the core.
 use Rattle.std.specs.Prelude.{◌≡◌, ℕ, Result}
-use Rattle.wl_server.specs.Backend.{Calls}
-use Rattle.wl_server.specs.Ids.{IdParts}
-use Rattle.wl_server.specs.declared.error.CreateAtError.{CreateAtError}
-use Rattle.wl_server.specs.declared.error.VersionError.{VersionError}
-use Rattle.wl_server.specs.declared.runs.step.Reply.TheVariants as reply
-use Rattle.wl_server.specs.declared.runs.step.Step.TheVariants as step
+use Rattle.wl_server_model.specs.Backend.{Calls}
+use Rattle.wl_server_client.specs.Ids.{IdParts}
+use Rattle.wl_server_client.specs.declared.error.CreateAtError.{CreateAtError}
+use Rattle.wl_server_client.specs.declared.error.VersionError.{VersionError}
+use Rattle.wl_server_model.specs.declared.step.Reply.TheVariants as reply
+use Rattle.wl_server_model.specs.declared.step.Step.TheVariants as step
 use Rattle.wl_host.specs.Calls.{CoreState, flattened, interface_of, status_by, world}
 use Rattle.wl_host.specs.Flat.{client_of, flat_resource, resource_of}
 use Rattle.wl_host.specs.Status.{of_create_at, of_version}

@@ -1,8 +1,8 @@
 -- What the calls about clients do to a server's session.
 use Rattle.std.specs.Prelude.{◌≡◌, ℕ, true, Result, Ok, Err, MatchOption}
-use Rattle.wl_server.specs.Ids.{ClientParts}
+use Rattle.wl_server_client.specs.Ids.{ClientParts}
 use Rattle.wl_server.specs.Lending.{state_over}
-use Rattle.wl_server.specs.Lookups.{transport_of}
+use Rattle.wl_server_model.specs.Lookups.{transport_of}
 use Rattle.wl_host.specs.Calls.{CoreState}
 use Rattle.wl_host.specs.Flat.{client_of}
 use Rattle.wl_host.specs.Seats.{listed, seated}

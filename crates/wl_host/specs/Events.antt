@@ -2,11 +2,11 @@
 use Rattle.std.specs.Prelude.{◌≡◌, ◌≤◌, ◌^◌, ◌⊎◌, ℕ, List, true, Some, None, Result, Ok, Err, MatchOption}
 use Rattle.wl_wire.specs.declared.argument.Token.{Token}
 use Rattle.wl_wire.specs.declared.message.Message.{Message}
-use Rattle.wl_server.specs.Backend.{Calls}
-use Rattle.wl_server.specs.Ids.{IdParts}
-use Rattle.wl_server.specs.declared.error.EventError.{EventError}
-use Rattle.wl_server.specs.declared.runs.step.Reply.TheVariants as reply
-use Rattle.wl_server.specs.declared.runs.step.Step.TheVariants as step
+use Rattle.wl_server_model.specs.Backend.{Calls}
+use Rattle.wl_server_client.specs.Ids.{IdParts}
+use Rattle.wl_server_client.specs.declared.error.EventError.{EventError}
+use Rattle.wl_server_model.specs.declared.step.Reply.TheVariants as reply
+use Rattle.wl_server_model.specs.declared.step.Step.TheVariants as step
 use Rattle.wl_host.specs.Actions.{marked}
 use Rattle.wl_host.specs.Arguments.{arguments_of, descriptors_given, has_zero}
 use Rattle.wl_host.specs.Calls.{CoreState, status_by, world}

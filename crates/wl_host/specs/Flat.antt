@@ -1,7 +1,7 @@
 -- The flat structs, and the ids of the sessions that they stand for.
 use Rattle.std.specs.Prelude.{◌++◌, ℕ, ℤ, pos, List, length, drop, nat_lt, if◌then◌else◌}
 use Rattle.wl_client.specs.ObjectId.{IdParts as ProxyParts}
-use Rattle.wl_server.specs.Ids.{ClientParts, GlobalParts, IdParts}
+use Rattle.wl_server_client.specs.Ids.{ClientParts, GlobalParts, IdParts}
 use Rattle.wl_host.specs.declared.flat.FlatAction.{FlatAction}
 use Rattle.wl_host.specs.declared.flat.FlatArgument.{FlatArgument}
 use Rattle.wl_host.specs.declared.flat.FlatClientId.{FlatClientId}

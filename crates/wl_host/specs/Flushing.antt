@@ -1,8 +1,8 @@
 -- What a flush of one client answers to the host.
 use Rattle.std.specs.Prelude.{◌≡◌, Option, None, Some, Result, Ok, Err, MatchOption, true}
 use Rattle.wl_wire.specs.declared.error.OutOfMemory.{OutOfMemory}
-use Rattle.wl_server.specs.Ids.{ClientParts}
-use Rattle.wl_server.specs.Lookups.{transport_of}
+use Rattle.wl_server_client.specs.Ids.{ClientParts}
+use Rattle.wl_server_model.specs.Lookups.{transport_of}
 use Rattle.wl_host.specs.Calls.{CoreState}
 use Rattle.wl_host.specs.Server.{AsksClient, IsNotStored, ServerState, has_bytes}
 use Rattle.wl_host.specs.declared.status.Status.{Status}

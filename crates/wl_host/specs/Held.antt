@@ -1,6 +1,6 @@
 -- Objects with the program's data of them.
 use Rattle.std.specs.Prelude.{ℕ, Option, unwrap_or}
-use Rattle.wl_server.specs.Ids.{IdParts}
+use Rattle.wl_server_client.specs.Ids.{IdParts}
 use Rattle.wl_host.specs.Flat.{flat_resource}
 use Rattle.wl_host.specs.declared.flat.FlatHeldObject.{FlatHeldObject}
 

@@ -1,8 +1,8 @@
 -- When a client may have been killed, and that a cleanup looks for killed clients then.
 use Rattle.std.specs.Prelude.{◌≡◌, ◌≢◌, false, true, Bool, Option, None, Some}
-use Rattle.wl_server.specs.declared.reading.action.OpenAction.TheVariants as opened
-use Rattle.wl_server.specs.Ids.{ClientParts, IdParts}
-use Rattle.wl_server.specs.Plain.{action_in, killed_in}
+use Rattle.wl_server_client.specs.declared.reading.action.OpenAction.TheVariants as opened
+use Rattle.wl_server_client.specs.Ids.{ClientParts, IdParts}
+use Rattle.wl_server_model.specs.Plain.{action_in, killed_in}
 use Rattle.wl_host.specs.Calls.{CoreState}
 use Rattle.wl_host.specs.Seats.{ledger_of}
 use Rattle.wl_host.specs.Server.{ServerState}

@@ -1,13 +1,13 @@
 -- Notes as flat structs, and how a server's session hands them out.
 use Rattle.std.specs.Prelude.{◌≡◌, ◌⊎◌, ℕ, ◌++◌, List, [], ◌∷◌, length, nat_lt, Bool, true, false, Result, Ok, Err, if◌then◌else◌, MatchResult}
 use Rattle.wl_wire.specs.declared.error.ProtocolError.{ProtocolError}
-use Rattle.wl_server.specs.declared.notes.DisconnectReason.TheVariants.{ConnectionClosed, ProtocolError as ForError}
-use Rattle.wl_server.specs.declared.notes.Note.{Note}
-use Rattle.wl_server.specs.declared.notes.Note.TheVariants.{Initialized, Disconnected, Destroyed}
-use Rattle.wl_server.specs.declared.runs.step.Reply.TheVariants as reply
-use Rattle.wl_server.specs.declared.runs.step.Step.TheVariants as step
-use Rattle.wl_server.specs.Backend.{Calls}
-use Rattle.wl_server.specs.Ids.{ClientParts}
+use Rattle.wl_server_client.specs.declared.notes.DisconnectReason.TheVariants.{ConnectionClosed, ProtocolError as ForError}
+use Rattle.wl_server_client.specs.declared.notes.Note.{Note}
+use Rattle.wl_server_client.specs.declared.notes.Note.TheVariants.{Initialized, Disconnected, Destroyed}
+use Rattle.wl_server_model.specs.declared.step.Reply.TheVariants as reply
+use Rattle.wl_server_model.specs.declared.step.Step.TheVariants as step
+use Rattle.wl_server_model.specs.Backend.{Calls}
+use Rattle.wl_server_client.specs.Ids.{ClientParts}
 use Rattle.wl_host.specs.Calls.{world}
 use Rattle.wl_host.specs.Flat.{count_number, flat_client, flat_resource, no_object, over_front}
 use Rattle.wl_host.specs.Kinds as kinds

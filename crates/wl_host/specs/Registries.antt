@@ -6,17 +6,17 @@ use Rattle.wl_wire.specs.declared.argument.Argument.TheVariants as arg
 use Rattle.wl_wire.specs.declared.argument.Token.{Token}
 use Rattle.wl_wire.specs.declared.message.Message.{Message}
 use Rattle.wl_wire.specs.Table.{InterfaceRow, name_of}
-use Rattle.wl_server.specs.declared.error.EventError.{EventError}
-use Rattle.wl_server.specs.declared.error.EventError.TheVariants as event_error
-use Rattle.wl_server.specs.declared.ids.global_id.GlobalInfo.{GlobalInfo}
-use Rattle.wl_server.specs.declared.notes.DisconnectReason.TheVariants as reason
-use Rattle.wl_server.specs.declared.runs.step.Reply.TheVariants as reply
-use Rattle.wl_server.specs.declared.runs.step.Step.TheVariants as step
-use Rattle.wl_server.specs.Backend.{Calls}
-use Rattle.wl_server.specs.Deeds.{IsAmong}
-use Rattle.wl_server.specs.Ids.{ClientParts, GlobalParts, IdParts}
-use Rattle.wl_server.specs.Lookups.{global_info_by, object_info_of}
-use Rattle.wl_server.specs.Plain.{same_object}
+use Rattle.wl_server_client.specs.declared.error.EventError.{EventError}
+use Rattle.wl_server_client.specs.declared.error.EventError.TheVariants as event_error
+use Rattle.wl_server_client.specs.declared.ids.global_id.GlobalInfo.{GlobalInfo}
+use Rattle.wl_server_client.specs.declared.notes.DisconnectReason.TheVariants as reason
+use Rattle.wl_server_model.specs.declared.step.Reply.TheVariants as reply
+use Rattle.wl_server_model.specs.declared.step.Step.TheVariants as step
+use Rattle.wl_server_model.specs.Backend.{Calls}
+use Rattle.wl_server_client.specs.Deeds.{IsAmong}
+use Rattle.wl_server_client.specs.Ids.{ClientParts, GlobalParts, IdParts}
+use Rattle.wl_server_model.specs.Lookups.{global_info_by, object_info_of}
+use Rattle.wl_server_model.specs.Plain.{same_object}
 use Rattle.wl_host.specs.Calls.{CoreState, status_by, world}
 use Rattle.wl_host.specs.Clients.{told_at}
 use Rattle.wl_host.specs.Globals.{told_all}

@@ -7,16 +7,16 @@ use Rattle.wl_link.specs.Link.{offer_of}
 use Rattle.wl_link.specs.Mailbox.{MailboxSends, MailboxState, mailbox_answer}
 use Rattle.wl_link.specs.Puts.{lacks_memory}
 use Rattle.wl_link.specs.declared.mailbox.Ending.{Ending}
-use Rattle.wl_server.specs.declared.notes.Note.{Note}
-use Rattle.wl_server.specs.declared.notes.DisconnectReason.TheVariants as reason
-use Rattle.wl_server.specs.declared.runs.step.Reply.TheVariants as reply
-use Rattle.wl_server.specs.declared.runs.step.Step.TheVariants as step
-use Rattle.wl_server.specs.Backend.{Calls}
-use Rattle.wl_server.specs.Ids.{ClientParts}
+use Rattle.wl_server_client.specs.declared.notes.Note.{Note}
+use Rattle.wl_server_client.specs.declared.notes.DisconnectReason.TheVariants as reason
+use Rattle.wl_server_model.specs.declared.step.Reply.TheVariants as reply
+use Rattle.wl_server_model.specs.declared.step.Step.TheVariants as step
+use Rattle.wl_server_model.specs.Backend.{Calls}
+use Rattle.wl_server_client.specs.Ids.{ClientParts}
 use Rattle.wl_server.specs.Lending.{state_over}
-use Rattle.wl_server.specs.Lookups.{transport_of}
-use Rattle.wl_server.specs.Part.{Part}
-use Rattle.wl_server.specs.Plain.{FlushedAs, client_in}
+use Rattle.wl_server_model.specs.Lookups.{transport_of}
+use Rattle.wl_server_client.specs.Part.{Part}
+use Rattle.wl_server_model.specs.Plain.{FlushedAs, client_in}
 use Rattle.wl_host.specs.Arrivals.{MayArrive, RefusesArrival, mailbox_with}
 use Rattle.wl_host.specs.Calls.{CoreState, world}
 use Rattle.wl_host.specs.Descriptors.{Descriptors, put_in}

@@ -4,24 +4,24 @@ use Rattle.wl_wire.specs.declared.error.IoFault.{IoFault}
 use Rattle.wl_wire.specs.declared.error.IoFault.TheVariants as fault
 use Rattle.wl_link.specs.declared.mailbox.MailboxError.{MailboxError}
 use Rattle.wl_link.specs.declared.mailbox.MailboxError.TheVariants as mailbox
-use Rattle.wl_server.specs.declared.error.InsertClientError.{InsertClientError}
-use Rattle.wl_server.specs.declared.error.InsertClientError.TheVariants as insert
-use Rattle.wl_server.specs.declared.error.CreateAtError.{CreateAtError}
-use Rattle.wl_server.specs.declared.error.CreateAtError.TheVariants as create_at
-use Rattle.wl_server.specs.declared.error.CreateError.{CreateError}
-use Rattle.wl_server.specs.declared.error.CreateError.TheVariants as create
-use Rattle.wl_server.specs.declared.error.VersionError.{VersionError}
-use Rattle.wl_server.specs.declared.error.VersionError.TheVariants as version
-use Rattle.wl_server.specs.declared.error.DestroyError.{DestroyError}
-use Rattle.wl_server.specs.declared.error.DestroyError.TheVariants as destroy
-use Rattle.wl_server.specs.declared.error.EventError.{EventError}
-use Rattle.wl_server.specs.declared.error.EventError.TheVariants as event
-use Rattle.wl_server.specs.declared.error.GlobalError.{GlobalError}
-use Rattle.wl_server.specs.declared.error.GlobalError.TheVariants as glob
-use Rattle.wl_server.specs.declared.error.ActionError.{ActionError}
-use Rattle.wl_server.specs.declared.error.ActionError.TheVariants as action
-use Rattle.wl_server.specs.declared.error.FinishError.{FinishError}
-use Rattle.wl_server.specs.declared.error.FinishError.TheVariants as finish
+use Rattle.wl_server_client.specs.declared.error.InsertClientError.{InsertClientError}
+use Rattle.wl_server_client.specs.declared.error.InsertClientError.TheVariants as insert
+use Rattle.wl_server_client.specs.declared.error.CreateAtError.{CreateAtError}
+use Rattle.wl_server_client.specs.declared.error.CreateAtError.TheVariants as create_at
+use Rattle.wl_server_client.specs.declared.error.CreateError.{CreateError}
+use Rattle.wl_server_client.specs.declared.error.CreateError.TheVariants as create
+use Rattle.wl_server_client.specs.declared.error.VersionError.{VersionError}
+use Rattle.wl_server_client.specs.declared.error.VersionError.TheVariants as version
+use Rattle.wl_server_client.specs.declared.error.DestroyError.{DestroyError}
+use Rattle.wl_server_client.specs.declared.error.DestroyError.TheVariants as destroy
+use Rattle.wl_server_client.specs.declared.error.EventError.{EventError}
+use Rattle.wl_server_client.specs.declared.error.EventError.TheVariants as event
+use Rattle.wl_server_client.specs.declared.error.GlobalError.{GlobalError}
+use Rattle.wl_server_client.specs.declared.error.GlobalError.TheVariants as glob
+use Rattle.wl_server_client.specs.declared.error.ActionError.{ActionError}
+use Rattle.wl_server_client.specs.declared.error.ActionError.TheVariants as action
+use Rattle.wl_server_client.specs.declared.error.FinishError.{FinishError}
+use Rattle.wl_server_client.specs.declared.error.FinishError.TheVariants as finish
 use Rattle.wl_client.specs.declared.error.DestroyError.{DestroyError as ProxyDestroyError}
 use Rattle.wl_client.specs.declared.error.DestroyError.TheVariants as proxy_destroy
 use Rattle.wl_client.specs.declared.error.RequestError.{RequestError}

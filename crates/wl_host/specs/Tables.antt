@@ -3,9 +3,9 @@ use Rattle.std.specs.Prelude.{◌≡◌, ◌⊎◌, [], ◌++◌, List, true, fa
 use Rattle.wl_wire.specs.declared.protocol.TableError.{TableError}
 use Rattle.wl_wire.specs.Table.{AnswersGrowth, AnswersTo, Growth, InterfaceRow, IsAcceptedTable, IsFirstFault, NewRows, fixed_rows, grown, refused_growth, table_after}
 use Rattle.wl_client.specs.Session.{IsConnected}
-use Rattle.wl_server.specs.Backend.{IsGrowth}
-use Rattle.wl_server.specs.Globals.{new_offer}
-use Rattle.wl_server.specs.Server.{new_server}
+use Rattle.wl_server_model.specs.Backend.{IsGrowth}
+use Rattle.wl_server_client.specs.Globals.{new_offer}
+use Rattle.wl_server_model.specs.Server.{new_server}
 use Rattle.wl_host.specs.declared.extending.ExtensionFault.{ExtensionFault}
 use Rattle.wl_host.specs.declared.rows.Rows.{Rows}
 use Rattle.wl_host.specs.declared.rows.TableFault.{TableFault}

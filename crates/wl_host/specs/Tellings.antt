@@ -3,8 +3,8 @@ use Rattle.std.specs.Prelude.{◌≡◌, ℕ, ℤ, ◌+◌, List, [], length, mi
 use Rattle.std.specs.Option.{option_map_or}
 use Rattle.wl_wire.specs.declared.error.OutOfMemory.{OutOfMemory}
 use Rattle.wl_link.specs.Mailbox.{MailboxState}
-use Rattle.wl_server.specs.Ids.{ClientParts}
-use Rattle.wl_server.specs.Lookups.{transport_of, waiting_of}
+use Rattle.wl_server_client.specs.Ids.{ClientParts}
+use Rattle.wl_server_model.specs.Lookups.{transport_of, waiting_of}
 use Rattle.wl_host.specs.Actions.{HandsNothing, Lent, NextAction}
 use Rattle.wl_host.specs.Flat.{none_told}
 use Rattle.wl_host.specs.Hearing.{LedgerCatchesUp, LedgerTells}

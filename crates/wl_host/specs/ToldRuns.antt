@@ -7,8 +7,8 @@ use Rattle.wl_wire.specs.Message.{content}
 use Rattle.wl_wire.specs.Table.{InterfaceRow}
 use Rattle.wl_link.specs.Exchange.{Queue, joined, nothing}
 use Rattle.wl_link.specs.Mailbox.{MailboxState, behind, front}
-use Rattle.wl_server.specs.Ids.{ClientParts}
-use Rattle.wl_server.specs.Lookups.{transport_of}
+use Rattle.wl_server_client.specs.Ids.{ClientParts}
+use Rattle.wl_server_model.specs.Lookups.{transport_of}
 use Rattle.wl_follow.specs.Following.{FollowState, Tells, TellsNone, Turns}
 use Rattle.wl_follow.specs.Runs.{from_side}
 use Rattle.wl_follow.specs.Sent.{SentState}

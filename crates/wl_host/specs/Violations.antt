@@ -1,10 +1,10 @@
 -- How a client broke the protocol, as a flat struct.
 use Rattle.std.specs.Prelude.{ℕ, true, false}
-use Rattle.wl_server.specs.declared.reading.response.RequestFault.{RequestFault}
-use Rattle.wl_server.specs.declared.reading.response.RequestFault.TheVariants as wrong
-use Rattle.wl_server.specs.declared.reading.violation.MessageFault.{MessageFault}
-use Rattle.wl_server.specs.declared.reading.violation.MessageFault.TheVariants as fault
-use Rattle.wl_server.specs.declared.reading.violation.Violation.{Violation}
+use Rattle.wl_server_client.specs.declared.reading.response.RequestFault.{RequestFault}
+use Rattle.wl_server_client.specs.declared.reading.response.RequestFault.TheVariants as wrong
+use Rattle.wl_server_client.specs.declared.reading.violation.MessageFault.{MessageFault}
+use Rattle.wl_server_client.specs.declared.reading.violation.MessageFault.TheVariants as fault
+use Rattle.wl_server_client.specs.declared.reading.violation.Violation.{Violation}
 use Rattle.wl_host.specs.Flat.{count_number, interface_number}
 use Rattle.wl_host.specs.Kinds as kinds
 use Rattle.wl_host.specs.declared.server.violations.FlatViolation.{FlatViolation}

@@ -8,10 +8,10 @@ ghost use Rattle.wl_follow.specs.declared.side.Side.TheVariants.{Client, Server}
 ghost use Rattle.wl_link.specs.Exchange.{joined};
 ghost use Rattle.wl_link.specs.Mailbox.{MailboxState, front};
 ghost use Rattle.wl_link.specs.declared.mailbox.Ending.{Ending};
-ghost use Rattle.wl_server.specs.Backend.{Calls};
-ghost use Rattle.wl_server.specs.Ids.{ClientParts, GlobalParts, IdParts};
-ghost use Rattle.wl_server.specs.declared.runs.step.Reply.TheVariants as reply;
-ghost use Rattle.wl_server.specs.declared.runs.step.Step.TheVariants as step;
+ghost use Rattle.wl_server_model.specs.Backend.{Calls};
+ghost use Rattle.wl_server_client.specs.Ids.{ClientParts, GlobalParts, IdParts};
+ghost use Rattle.wl_server_model.specs.declared.step.Reply.TheVariants as reply;
+ghost use Rattle.wl_server_model.specs.declared.step.Step.TheVariants as step;
 ghost use Rattle.wl_wire.specs.declared.argument.Argument.{Argument};
 ghost use Rattle.wl_wire.specs.declared.argument.ArgumentType.{ArgumentType};
 ghost use Rattle.wl_wire.specs.declared.argument.Token.{Token};

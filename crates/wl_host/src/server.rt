@@ -43,9 +43,9 @@ ghost use Rattle.wl_host.specs.Server.{kept_by_server};
 ghost use Rattle.wl_host.specs.Calls.{world};
 ghost use Rattle.wl_host.specs.Nulls.{sets};
 ghost use Rattle.wl_host.specs.Tables.{AddsInterfaces, ExtendsInterfaces, IsFaultOf, IsNewServer, new_state};
-ghost use Rattle.wl_server.specs.Backend.{Calls};
-ghost use Rattle.wl_server.specs.declared.runs.step.Reply.TheVariants as reply;
-ghost use Rattle.wl_server.specs.declared.runs.step.Step.TheVariants as step;
+ghost use Rattle.wl_server_model.specs.Backend.{Calls};
+ghost use Rattle.wl_server_model.specs.declared.step.Reply.TheVariants as reply;
+ghost use Rattle.wl_server_model.specs.declared.step.Step.TheVariants as step;
 ghost use Rattle.wl_host.specs.declared.status.Status.TheVariants as status;
 
 use crate::arguments::{FromFlat, Objects};
@@ -341,7 +341,7 @@ impl Objects<ObjectId> for Core {
 
 impl Growing for Core {
     ghost use Rattle.wl_host.specs.Calls.{world};
-    ghost use Rattle.wl_server.specs.Backend.{IsGrowth};
+    ghost use Rattle.wl_server_model.specs.Backend.{IsGrowth};
 
     ghost table_of = { λ s. s.server.offer.table };
 

@@ -1,10 +1,3 @@
-pub mod OverRuns
-pub mod Dispatches
-mod Worked
-mod CallSteps
+pub mod CallSteps
 mod Touched
-mod CleanupSteps
-mod ObjectCalls
-mod Readings
-mod GlobalCalls
-pub mod Plain
+mod Worked

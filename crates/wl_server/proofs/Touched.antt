@@ -2,4 +2,5 @@
 pub mod Kept
 pub mod Flushed
 pub mod Gathered
+pub mod GatheredSlots
 pub mod Counted

@@ -1,17 +1,17 @@
 //! The server as a program uses it, and the fields that it keeps.
 
 ghost use Rattle.std.specs.Prelude.{◌≡◌, false};
-ghost use Rattle.wl_server.specs.Server.{new_server};
+ghost use Rattle.wl_server_model.specs.Server.{new_server};
 
 use crate::client::Slots;
 use crate::client::touched::Touched;
-use crate::globals::KeptGlobal;
-use crate::notes::Note;
-use crate::notes::queues::NoteNumbers;
 use std::alloc::Global;
 use std::fmt;
 use std::marker::Model;
 use wl_link::{DEFAULT_MAX_BUFFER_SIZE, MessagePlace, ObjectMap};
+use wl_server_client::globals::KeptGlobal;
+use wl_server_client::notes::Note;
+use wl_server_client::notes::queues::NoteNumbers;
 use wl_wire::Protocol;
 
 /// A Wayland server: its clients, their objects, and its globals.
@@ -72,10 +72,11 @@ impl<T, U, G, C> Model for Backend<T, U, G, C> {
     ghost use Rattle.std.specs.Coded.{codes};
     ghost use Rattle.std.specs.Prelude.{map, vec_len};
     ghost use Rattle.wl_link.specs.ObjectMap.{store_code};
-    ghost use Rattle.wl_server.specs.Backend.{BackendState};
-    ghost use Rattle.wl_server.specs.Inside.Inserting.{HasSlots};
+    ghost use Rattle.wl_server_model.specs.Backend.{BackendState};
+    ghost use Rattle.wl_server_model.specs.Inside.Inserting.{HasSlots};
     ghost use Rattle.wl_server.specs.Inside.Touched.{AreTouched};
-    ghost use Rattle.wl_server.specs.NoteOrder.{AllNumbered, HasNumbers, times_of};
+    ghost use Rattle.wl_server_model.specs.NoteOrder.{AllNumbered, HasNumbers};
+    ghost use Rattle.wl_server_client.specs.NoteTimes.{times_of};
 
     ghost Value = { BackendState T U G C };
 

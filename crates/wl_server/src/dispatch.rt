@@ -4,10 +4,10 @@
 //! finishes it.
 
 ghost use Rattle.std.specs.Prelude.{◌≡◌, false};
-ghost use Rattle.wl_server.specs.Dispatch.{DispatchesAll, DispatchesClient, answering, after_cleanup, total_with};
-ghost use Rattle.wl_server.specs.Inside.Dispatching.{CleansUp};
-ghost use Rattle.wl_server.specs.PartStep.{over};
-ghost use Rattle.wl_server.specs.Plain.Dispatch.{DispatchOfOneLeaves, DispatchOfSeveralLeaves};
+ghost use Rattle.wl_server_model.specs.Dispatch.{DispatchesAll, DispatchesClient, answering, after_cleanup, total_with};
+ghost use Rattle.wl_server_model.specs.Inside.Dispatching.{CleansUp};
+ghost use Rattle.wl_server_model.specs.PartStep.{over};
+ghost use Rattle.wl_server_model.specs.Plain.Dispatch.{DispatchOfOneLeaves, DispatchOfSeveralLeaves};
 
 /// The trait `Handler`, by which a program handles the actions of its clients.
 mod request_handler;
@@ -15,10 +15,10 @@ mod request_handler;
 mod serve;
 
 use crate::backend::Backend;
-use crate::globals::handler::GlobalHandler;
-use crate::ids::client_id::ClientId;
 pub use request_handler::Handler;
 use wl_link::Transport;
+use wl_server_client::globals::handler::GlobalHandler;
+use wl_server_client::ids::client_id::ClientId;
 use wl_wire::{IoFault, OutOfMemory};
 
 /// Adds the count of one more client to the total. An error counts as 0. The sum saturates at `usize::MAX`.

@@ -1,10 +1,6 @@
-//! Events: which ones are refused, how one is sent, and which ones the server sends by itself.
+//! Calls that send events: `send_event`, and `post_error`, which ends with one.
 
-/// Whether an event may be sent.
-pub mod check;
-/// The events of displays and callbacks that the server sends by itself: `error`, `delete_id`, `done`.
-pub mod own_events;
-/// Tells a client of an error on an object, and kills it: `post_error`, and breaches of the protocol.
+/// `post_error`.
 pub mod post_error;
 /// `send_event` and `send_event_lent`.
 pub mod send;

@@ -1,62 +1,30 @@
-//! The globals of a server.
+//! The globals of a server: how one is created, disabled and removed.
 
-ghost use Rattle.std.specs.Prelude.{◌≡◌, ℕ, Bool, MatchBool, MatchOption, IfOk, Some, option_copied};
+ghost use Rattle.std.specs.Prelude.{◌≡◌, ℕ, Bool, MatchBool, MatchOption, IfOk, Some};
 ghost use Rattle.wl_link.specs.Identity.{names};
-ghost use Rattle.wl_link.specs.ObjectMap.{InsertsNew, NextNew};
+ghost use Rattle.wl_link.specs.ObjectMap.{InsertsNew};
 ghost use Rattle.wl_link.specs.Store.{held, rewritten};
-ghost use Rattle.wl_server.specs.Inside.Naming.{InsertsUnused, NextName};
-ghost use Rattle.wl_server.specs.Globals.{CreatesGlobal, as_disabled, disabled, freed, global_serial, name_range, new_global, with_created};
+ghost use Rattle.wl_server_model.specs.Inside.Naming.{InsertsUnused, NextName};
+ghost use Rattle.wl_server_client.specs.Globals.{CreatesGlobal, as_disabled, disabled, freed, global_serial, name_range, new_global, with_created};
 
 /// `add_interfaces` and `extend_interface`: the table grows.
 pub mod add_interfaces;
-/// The message `wl_registry.global`, and how each registry of a client is told.
-pub mod announce;
 /// `create_global`.
 pub mod create_global;
-/// The trait `GlobalHandler`: which clients see a global.
-pub mod handler;
 /// Look-ups of globals.
 pub mod lookups;
 /// `hand_out_registries`: whether the program tells registries of globals by itself.
 pub mod hand_out_registries;
-/// Tells a new registry of each global that its client is shown.
-pub mod new_registry;
 /// `keep_global_names`: whether names that were in use are given again.
 pub mod keep_names;
 /// `disable_global` and `remove_global`.
 pub mod remove_global;
 
-use crate::error::GlobalError;
-use crate::ids::global_id::GlobalId;
 use wl_link::{InsertError, NewError, Object, ObjectMap};
+use wl_server_client::error::GlobalError;
+use wl_server_client::globals::{KeptGlobal, global_in};
+use wl_server_client::ids::global_id::GlobalId;
 use wl_wire::{InterfaceId, Protocol};
-
-/// What is kept of a global in addition to its interface and version.
-#[derive(Drop)]
-pub struct KeptGlobal<G> {
-    /// The serial. No other global has it.
-    pub serial: u64,
-    /// The program's handler of the global.
-    pub handler: G,
-    /// Whether it was disabled: it is no longer announced.
-    pub is_disabled: bool,
-}
-
-/// The global that the id names, if it is there: the one of its name, if that has its serial.
-pub fn global_in<'a, G: Drop>(
-    globals: &'a ObjectMap<KeptGlobal<G>>,
-    id: &GlobalId,
-) -> Option<&'a Object<KeptGlobal<G>>>
-    ensures { option_copied result ≡ names global_serial (record { number = id.now.name; serial = id.now.serial }) globals.now.store }
-{
-    if id.name() == 0 {
-        return None;
-    }
-    match globals.find(id.name()) {
-        Some(global) if global.value.serial == id.serial() => Some(global),
-        _ => None,
-    }
-}
 
 /// The least name that no global has, or that was never in use if names are kept; `None` if none is left.
 pub fn next_name<G: Drop>(globals: &ObjectMap<KeptGlobal<G>>, keeps_names: bool) -> Option<u32>

@@ -1,5 +1,5 @@
-//! What follows from the definitions of a server alone. Each function has a law as its contract. It does nothing, but for the last
-//! three, which compare two ids.
+//! What follows from the definitions of a server alone. Each function has a law as its contract, and does nothing. The
+//! three laws of ids each compare two, and stand in `wl_server_client`.
 //!
 //! These words are used in this file:
 //!
@@ -17,7 +17,7 @@
 //! The laws of runs speak of every transport. Over the transport by script a call of that transport stands for a change
 //! of it (clause `change` of [`calls_over_scripts_are_steps`]).
 
-ghost use Rattle.std.specs.Prelude.{◌≡◌, ◌≢◌, ◌<◌, ◌≤◌, ◌∷◌, ◌++◌, [], ◌↔◌, ℕ, Bool, false, IsTrue, List, None, Option, Some, Result, Err};
+ghost use Rattle.std.specs.Prelude.{◌≡◌, ◌≢◌, ◌<◌, ◌≤◌, ◌∷◌, ◌++◌, [], ℕ, Bool, false, List, None, Option, Some, Result, Err};
 ghost use Rattle.wl_wire.specs.Table.{AnswersExtension, AnswersGrowth, Extension, InterfaceRow};
 ghost use Rattle.wl_wire.specs.declared.protocol.TableError.{TableError};
 ghost use Rattle.wl_wire.specs.declared.protocol.TableError.TheVariants as table_error;
@@ -28,51 +28,53 @@ ghost use Rattle.wl_link.specs.Reader.{AllFed, Ends, Given, Gives, Reads, Turn, 
 ghost use Rattle.wl_link.specs.Runs.{RunEntry};
 ghost use Rattle.wl_link.specs.Script.{Script, ScriptReceives, ScriptSends};
 ghost use Rattle.wl_link.specs.Served.{Answers};
-ghost use Rattle.wl_server.specs.declared.error.GlobalError.{GlobalError};
-ghost use Rattle.wl_server.specs.declared.error.GlobalError.TheVariants as global;
-ghost use Rattle.wl_server.specs.declared.error.InsertClientError.{InsertClientError};
-ghost use Rattle.wl_server.specs.declared.error.InsertClientError.TheVariants as insert;
-ghost use Rattle.wl_server.specs.declared.runs.step.Reply.{Reply};
-ghost use Rattle.wl_server.specs.declared.runs.step.Step.{Step};
-ghost use Rattle.wl_server.specs.Accounts.{AreAccountedFor, IsAccountedFor};
-ghost use Rattle.wl_server.specs.Announced.{EachAnnouncesShown};
-ghost use Rattle.wl_server.specs.Backend.{BackendState};
-ghost use Rattle.wl_server.specs.Bounded.{EachIsBounded, EachPartIsBounded, receives_over};
-ghost use Rattle.wl_server.specs.Broken.{LiveKeepNone, ReadingsAloneBreak};
-ghost use Rattle.wl_server.specs.Cutting.{EachIsServed, GoesOn, HistoriesAreCut, IsServed};
-ghost use Rattle.wl_server.specs.Dispatch.{EachIsDispatched, EndsDispatch, IsDispatched, answering};
-ghost use Rattle.wl_server.specs.Outcome.Dispatches.{DispatchesHaveOneOutcome, IsDeterministic, IsDeterministicIfSpared, ManyDispatchesHaveOneOutcome, ManySparedDispatchesHaveOneOutcome, SparedDispatchesHaveOneOutcome};
-ghost use Rattle.wl_server.specs.GivenOnce.{GivesOnce};
-ghost use Rattle.wl_server.specs.Globals.{CreatesGlobal, Globals, Offer};
-ghost use Rattle.wl_server.specs.Ids.{ClientParts, GlobalParts};
-ghost use Rattle.wl_server.specs.Outcome.{CallsHaveOneOutcome, ClientsHaveOneOutcome, HaveOneOutcome, OffersHaveOneOutcome, OwnRunsHaveOneOutcome};
-ghost use Rattle.wl_server.specs.Identified.{EachHasOwnIds};
-ghost use Rattle.wl_server.specs.Killed.{EachStaysKilled};
-ghost use Rattle.wl_server.specs.Named.{EachKeepsNaming, EachNamesNoneAgain};
-ghost use Rattle.wl_server.specs.Logged.{EachLogIsSpelled};
-ghost use Rattle.wl_server.specs.NotedEnds.{EachNoteIsOfAnEnd, EndIsNotedAtOnce};
-ghost use Rattle.wl_server.specs.NotedEnds.Errors.{EachCallCausesItsErrors, EachErrorIsCaused};
-ghost use Rattle.wl_server.specs.NotedOnce.{CleanupNotesAll, EachIsNoted, FinishNotesAtOnce};
-ghost use Rattle.wl_server.specs.NoteOrder.Ordered.{EarlierNotesFirst, EarlierWaitFirst};
-ghost use Rattle.wl_server.specs.Part.{Part};
-ghost use Rattle.wl_server.specs.PartStep.{Call, around, over, over_scripts, share_of};
-ghost use Rattle.wl_server.specs.Reading.{Around, answered, reads_on, server};
-ghost use Rattle.wl_server.specs.ReadingEnds.{ReadingEnds};
-ghost use Rattle.wl_server.specs.Runs.{Alone, IsIsolated, Leads, Own, Performs, history};
-ghost use Rattle.wl_server.specs.Server.{Seen, ServerState, Stored, new_server};
-ghost use Rattle.wl_server.specs.Steps.{EachStandsFor, RiseBySlot, Entry, InsertsNext, OneStep, StandsFor, StepOf};
-ghost use Rattle.wl_server.specs.Stretches.{StretchIsServed, IsStretch, IsStretchWithin, SameLeft, handed_out, arrived, beside_exchanges, finished};
-ghost use Rattle.wl_server.specs.Telling.{Core, Finish, Told, reader_part};
-ghost use Rattle.wl_server.specs.WithinLimit.{ReadsWithinLimit};
-ghost use Rattle.wl_server.specs.Outcome.Whole.{AnswersAlike, HoldsSame, PerformancesHaveOneOutcome, RunsHaveOneOutcome};
+ghost use Rattle.wl_server_client.specs.declared.error.GlobalError.{GlobalError};
+ghost use Rattle.wl_server_client.specs.declared.error.GlobalError.TheVariants as global;
+ghost use Rattle.wl_server_client.specs.declared.error.InsertClientError.{InsertClientError};
+ghost use Rattle.wl_server_client.specs.declared.error.InsertClientError.TheVariants as insert;
+ghost use Rattle.wl_server_model.specs.declared.step.Reply.{Reply};
+ghost use Rattle.wl_server_model.specs.declared.step.Step.{Step};
+ghost use Rattle.wl_server_model.specs.Accounts.{AreAccountedFor, IsAccountedFor};
+ghost use Rattle.wl_server_model.specs.Announced.{EachAnnouncesShown};
+ghost use Rattle.wl_server_model.specs.Backend.{BackendState};
+ghost use Rattle.wl_server_model.specs.Bounded.{EachIsBounded, EachPartIsBounded, receives_over};
+ghost use Rattle.wl_server_model.specs.Broken.{LiveKeepNone, ReadingsAloneBreak};
+ghost use Rattle.wl_server_model.specs.Cutting.{EachIsServed, GoesOn, HistoriesAreCut, IsServed};
+ghost use Rattle.wl_server_model.specs.Dispatch.{EachIsDispatched, EndsDispatch, IsDispatched, answering};
+ghost use Rattle.wl_server_model.specs.Outcome.Dispatches.{DispatchesHaveOneOutcome, IsDeterministic, IsDeterministicIfSpared, ManyDispatchesHaveOneOutcome, ManySparedDispatchesHaveOneOutcome, SparedDispatchesHaveOneOutcome};
+ghost use Rattle.wl_server_model.specs.GivenOnce.{GivesOnce};
+ghost use Rattle.wl_server_client.specs.Globals.{CreatesGlobal, Globals, Offer};
+ghost use Rattle.wl_server_client.specs.Ids.{ClientParts, GlobalParts};
+ghost use Rattle.wl_server_model.specs.Outcome.{CallsHaveOneOutcome, ClientsHaveOneOutcome, HaveOneOutcome, OffersHaveOneOutcome, OwnRunsHaveOneOutcome};
+ghost use Rattle.wl_server_model.specs.Identified.{EachHasOwnIds};
+ghost use Rattle.wl_server_model.specs.Killed.{EachStaysKilled};
+ghost use Rattle.wl_server_model.specs.Named.{EachKeepsNaming, EachNamesNoneAgain};
+ghost use Rattle.wl_server_model.specs.Logged.{EachLogIsSpelled};
+ghost use Rattle.wl_server_model.specs.NotedEnds.{EachNoteIsOfAnEnd, EndIsNotedAtOnce};
+ghost use Rattle.wl_server_model.specs.NotedEnds.Errors.{EachCallCausesItsErrors, EachErrorIsCaused};
+ghost use Rattle.wl_server_model.specs.NotedOnce.{CleanupNotesAll, EachIsNoted, FinishNotesAtOnce};
+ghost use Rattle.wl_server_model.specs.NoteOrder.Ordered.{EarlierNotesFirst, EarlierWaitFirst};
+ghost use Rattle.wl_server_client.specs.Part.{Part};
+ghost use Rattle.wl_server_model.specs.PartStep.{Call, around, over, over_scripts, share_of};
+ghost use Rattle.wl_server_client.specs.Reading.{Around, answered, reads_on, server};
+ghost use Rattle.wl_server_model.specs.ReadingEnds.{ReadingEnds};
+ghost use Rattle.wl_server_model.specs.Runs.{Alone, IsIsolated, Leads, Own, Performs, history};
+ghost use Rattle.wl_server_model.specs.Server.{Seen, ServerState, new_server};
+ghost use Rattle.wl_server_client.specs.Stored.{Stored};
+ghost use Rattle.wl_server_model.specs.Steps.{EachStandsFor, RiseBySlot, Entry, InsertsNext, OneStep, StandsFor, StepOf};
+ghost use Rattle.wl_server_model.specs.Stretches.{StretchIsServed, IsStretch, IsStretchWithin, SameLeft, handed_out, arrived, beside_exchanges, finished};
+ghost use Rattle.wl_server_client.specs.Telling.{Core, Finish, Told, reader_part};
+ghost use Rattle.wl_server_model.specs.WithinLimit.{ReadsWithinLimit};
+ghost use Rattle.wl_server_model.specs.Outcome.Whole.{AnswersAlike, HoldsSame, PerformancesHaveOneOutcome, RunsHaveOneOutcome};
 
 use crate::dispatch::Handler;
-use crate::globals::handler::GlobalHandler;
-use crate::ids::client_id::ClientId;
-use crate::ids::global_id::GlobalId;
-use crate::ids::object_id::ObjectId;
-use crate::reading::next_action::READ_TURNS;
 use wl_link::Transport;
+use wl_server_client::globals::handler::GlobalHandler;
+pub use wl_server_client::laws::{
+    client_ids_are_equal_by_all_parts, global_ids_are_equal_by_all_parts,
+    object_ids_are_equal_by_all_parts,
+};
+use wl_server_client::reading::action::READ_TURNS;
 
 /// The isolation law of a server, over every transport: no client's calls matter to another client.
 ///
@@ -400,7 +402,7 @@ pub fn cutting_does_not_matter_to_a_run<U, G: GlobalHandler<C>, C>()
 
 /// The law of receives, for every transport: a reading receives at most as often as it may.
 ///
-/// The value of a constant of this crate: a reading makes at most 64 receives, if the program sets no other number.
+/// The value of a constant of `wl_server_client`: a reading makes at most 64 receives, if the program sets no other number.
 pub fn a_reading_receives_64_times()
     ensures { READ_TURNS ≡ 64 }
 {}
@@ -470,24 +472,3 @@ pub fn each_reading_receives_within_its_bound<
         EachIsDispatched (over T.sends T.receives G.views) (answering H.requests H.binds) ids h before calls lacked total h' mid →
         EachPartIsBounded ids calls }
 {}
-
-/// Two ids of objects are equal if all their parts are equal, and only then.
-pub fn object_ids_are_equal_by_all_parts(a: &ObjectId, b: &ObjectId) -> bool
-    ensures { IsTrue result ↔ (a.now ≡ b.now) }
-{
-    a == b
-}
-
-/// Two ids of clients are equal if both their parts are equal, and only then.
-pub fn client_ids_are_equal_by_all_parts(a: &ClientId, b: &ClientId) -> bool
-    ensures { IsTrue result ↔ (a.now ≡ b.now) }
-{
-    a == b
-}
-
-/// Two ids of globals are equal if both their parts are equal, and only then.
-pub fn global_ids_are_equal_by_all_parts(a: &GlobalId, b: &GlobalId) -> bool
-    ensures { IsTrue result ↔ (a.now ≡ b.now) }
-{
-    a == b
-}

@@ -1,8 +1,8 @@
 //! Look-ups of clients and objects. None of them changes the server.
 
 ghost use Rattle.std.specs.Prelude.{◌≡◌, MatchResult, None, Some, option_copied};
-ghost use Rattle.wl_server.specs.Lookups.{client_by, client_data_of, object_data_of, object_for_number, object_info_of, transport_of, violation_of};
-ghost use Rattle.wl_server.specs.Server.{client_at};
+ghost use Rattle.wl_server_model.specs.Lookups.{client_by, client_data_of, object_data_of, object_for_number, object_info_of, transport_of, violation_of};
+ghost use Rattle.wl_server_model.specs.Server.{client_at};
 
 /// Objects with their data: by number, and all of a client.
 pub mod held;
@@ -14,13 +14,12 @@ pub mod waiting;
 pub mod walks;
 
 use crate::backend::Backend;
-use crate::client::Client;
-use crate::error::InvalidId;
-use crate::ids::client_id::ClientId;
-use crate::ids::object_id::ObjectId;
-use crate::objects::{Kept, id_at, named_in};
-use crate::reading::violation::Violation;
-use wl_link::Object;
+use wl_server_client::client::Client;
+use wl_server_client::error::InvalidId;
+use wl_server_client::ids::client_id::ClientId;
+use wl_server_client::ids::object_id::ObjectId;
+use wl_server_client::objects::{id_at, named_in};
+use wl_server_client::reading::violation::Violation;
 use wl_wire::{InterfaceId, ObjectInfo};
 
 impl<T: Drop, U: Drop, G: Drop, C: Drop> Backend<T, U, G, C> {

@@ -7,5 +7,3 @@
 pub mod replay;
 /// The calls of a transport by script, as steps of the server.
 pub mod script;
-/// `Step`, `Reply` and `Stopped`.
-pub mod step;

@@ -10,7 +10,7 @@ ghost use Rattle.wl_host.specs.Held.{flat_held};
 ghost use Rattle.wl_host.specs.Lists.{Lists};
 ghost use Rattle.wl_host.specs.Server.{kept_by_server};
 ghost use Rattle.wl_host.specs.declared.status.Status.TheVariants as status;
-ghost use Rattle.wl_server.specs.Lookups.{held_by_number, held_of_client};
+ghost use Rattle.wl_server_model.specs.Lookups.{held_by_number, held_of_client};
 
 use super::place::ServerPlace;
 use crate::answer::write_answer;

@@ -10,11 +10,11 @@ ghost use Rattle.wl_host.specs.Lists.{Lists};
 ghost use Rattle.wl_host.specs.Server.{Ends, FailsSends, Received, kept_by_server, went_in};
 ghost use Rattle.wl_host.specs.declared.status.Status.TheVariants as status;
 ghost use Rattle.wl_link.specs.declared.mailbox.Ending.TheVariants as ending;
-ghost use Rattle.wl_server.specs.Backend.{Calls};
-ghost use Rattle.wl_server.specs.Lookups.{client_data_of, live_clients};
-ghost use Rattle.wl_server.specs.declared.notes.DisconnectReason.TheVariants as reason;
-ghost use Rattle.wl_server.specs.declared.runs.step.Reply.TheVariants as reply;
-ghost use Rattle.wl_server.specs.declared.runs.step.Step.TheVariants as step;
+ghost use Rattle.wl_server_model.specs.Backend.{Calls};
+ghost use Rattle.wl_server_model.specs.Lookups.{client_data_of, live_clients};
+ghost use Rattle.wl_server_client.specs.declared.notes.DisconnectReason.TheVariants as reason;
+ghost use Rattle.wl_server_model.specs.declared.step.Reply.TheVariants as reply;
+ghost use Rattle.wl_server_model.specs.declared.step.Step.TheVariants as step;
 ghost use Rattle.wl_wire.specs.declared.error.IoFault.TheVariants as fault;
 
 use super::place::ServerPlace;

@@ -9,7 +9,7 @@ ghost use Rattle.wl_host.specs.Flat.{client_of, flat_resource, resource_of};
 ghost use Rattle.wl_host.specs.Lists.{Lists};
 ghost use Rattle.wl_host.specs.Server.{kept_by_server};
 ghost use Rattle.wl_host.specs.declared.status.Status.TheVariants as status;
-ghost use Rattle.wl_server.specs.Lookups.{object_data_of, object_for_number, object_info_of, objects_of_client};
+ghost use Rattle.wl_server_model.specs.Lookups.{object_data_of, object_for_number, object_info_of, objects_of_client};
 
 use super::place::ServerPlace;
 use crate::answer::write_answer;

@@ -10,9 +10,9 @@ ghost use Rattle.wl_host.specs.Nulls.{sets};
 ghost use Rattle.wl_host.specs.Server.{ServerState, kept_by_server};
 ghost use Rattle.wl_host.specs.Tables.{AddsInterfaces, ExtendsInterfaces, IsFaultOf, IsNewServer};
 ghost use Rattle.wl_host.specs.declared.status.Status.TheVariants as status;
-ghost use Rattle.wl_server.specs.Backend.{Calls};
-ghost use Rattle.wl_server.specs.declared.runs.step.Reply.TheVariants as reply;
-ghost use Rattle.wl_server.specs.declared.runs.step.Step.TheVariants as step;
+ghost use Rattle.wl_server_model.specs.Backend.{Calls};
+ghost use Rattle.wl_server_model.specs.declared.step.Reply.TheVariants as reply;
+ghost use Rattle.wl_server_model.specs.declared.step.Step.TheVariants as step;
 
 use super::place::ServerPlace;
 use crate::answer::{write_added, write_extended, write_fault, write_flag};

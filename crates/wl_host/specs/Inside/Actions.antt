@@ -1,8 +1,8 @@
 -- What the functions share that hand out an action.
 use Rattle.std.specs.Prelude.{◌≡◌, Bool, false, Option, Result, Ok, Err, MatchResult}
-use Rattle.wl_server.specs.Ids.{ClientParts}
-use Rattle.wl_server.specs.declared.error.ActionError.{ActionError}
-use Rattle.wl_server.specs.declared.reading.action.Action.{Action}
+use Rattle.wl_server_client.specs.Ids.{ClientParts}
+use Rattle.wl_server_client.specs.declared.error.ActionError.{ActionError}
+use Rattle.wl_server_client.specs.declared.reading.action.Action.{Action}
 use Rattle.wl_host.specs.Actions.{HandsFrom, Lent, ReadsAllowed, kills, with_kept}
 use Rattle.wl_host.specs.Calls.{CoreState}
 use Rattle.wl_host.specs.Status.{of_action}

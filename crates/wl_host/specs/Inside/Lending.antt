@@ -1,7 +1,7 @@
 -- Seats that lend the ledger of a client.
 use Rattle.std.specs.Prelude.{Option}
 use Rattle.std.specs.Borrow.{Fml, LendsIf, MutBor}
-use Rattle.wl_server.specs.Ids.{ClientParts}
+use Rattle.wl_server_client.specs.Ids.{ClientParts}
 use Rattle.wl_host.specs.Seats.{SeatsState, with_ledger}
 use Rattle.wl_host.specs.contracts.server.ledger.Ledger as ledger
 use Rattle.wl_host.specs.contracts.server.seats.Seats as seats

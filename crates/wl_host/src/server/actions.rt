@@ -14,7 +14,7 @@ ghost use Rattle.wl_host.specs.Inside.Actions.{NextOf, is_killed_in, status_of_n
 ghost use Rattle.wl_host.specs.Seats.{ledger_of};
 ghost use Rattle.wl_host.specs.Server.{kept_by_server};
 ghost use Rattle.wl_host.specs.Tellings.{ReadsTold};
-ghost use Rattle.wl_server.specs.Deeds.{handed};
+ghost use Rattle.wl_server_client.specs.Deeds.{handed};
 
 use crate::arguments::{Needs, Objects, write_arguments};
 use crate::descriptors::DescriptorQueue;

@@ -8,11 +8,11 @@ ghost use Rattle.wl_host.specs.Clients.{SetsRoom, inserted, marked};
 ghost use Rattle.wl_host.specs.Lists.{Lists, filled};
 ghost use Rattle.wl_host.specs.Told.{first_telling};
 ghost use Rattle.wl_host.specs.Flat.{client_of, flat_client};
-ghost use Rattle.wl_server.specs.Backend.{Calls};
-ghost use Rattle.wl_server.specs.Lookups.{client_data_of, live_clients};
-ghost use Rattle.wl_server.specs.declared.runs.step.Reply.TheVariants as reply;
-ghost use Rattle.wl_server.specs.declared.runs.step.Step.TheVariants as step;
-ghost use Rattle.wl_server.specs.declared.notes.DisconnectReason.TheVariants as reason;
+ghost use Rattle.wl_server_model.specs.Backend.{Calls};
+ghost use Rattle.wl_server_model.specs.Lookups.{client_data_of, live_clients};
+ghost use Rattle.wl_server_model.specs.declared.step.Reply.TheVariants as reply;
+ghost use Rattle.wl_server_model.specs.declared.step.Step.TheVariants as step;
+ghost use Rattle.wl_server_client.specs.declared.notes.DisconnectReason.TheVariants as reason;
 ghost use Rattle.wl_host.specs.declared.status.Status.TheVariants as status;
 
 use crate::flat::{FlatClientId, FlatGlobalId, count_number};

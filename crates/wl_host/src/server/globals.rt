@@ -7,10 +7,10 @@ ghost use Rattle.wl_host.specs.Calls.{CreatesGlobal, TellsNextGlobal, flat_globa
 ghost use Rattle.wl_host.specs.Globals.{told_all};
 ghost use Rattle.wl_host.specs.Visibility.{sees};
 ghost use Rattle.wl_host.specs.Flat.{client_of, global_of};
-ghost use Rattle.wl_server.specs.Backend.{Calls};
-ghost use Rattle.wl_server.specs.Lookups.{global_info_by, handler_of, name_for};
-ghost use Rattle.wl_server.specs.declared.runs.step.Reply.TheVariants as reply;
-ghost use Rattle.wl_server.specs.declared.runs.step.Step.TheVariants as step;
+ghost use Rattle.wl_server_model.specs.Backend.{Calls};
+ghost use Rattle.wl_server_model.specs.Lookups.{global_info_by, handler_of, name_for};
+ghost use Rattle.wl_server_model.specs.declared.step.Reply.TheVariants as reply;
+ghost use Rattle.wl_server_model.specs.declared.step.Step.TheVariants as step;
 ghost use Rattle.wl_host.specs.declared.status.Status.TheVariants as status;
 
 use crate::flat::{FlatClientId, FlatGlobalId, FlatGlobalInfo, interface_number};

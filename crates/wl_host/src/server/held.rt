@@ -6,7 +6,7 @@ ghost use Rattle.wl_host.specs.Flat.{client_of};
 ghost use Rattle.wl_host.specs.Held.{flat_held};
 ghost use Rattle.wl_host.specs.Lists.{Lists, filled};
 ghost use Rattle.wl_host.specs.declared.status.Status.TheVariants as status;
-ghost use Rattle.wl_server.specs.Lookups.{held_by_number, held_of_client};
+ghost use Rattle.wl_server_model.specs.Lookups.{held_by_number, held_of_client};
 
 use crate::flat::{FlatClientId, FlatHeldObject, FlatObjectId, count_number};
 use crate::server::Server;

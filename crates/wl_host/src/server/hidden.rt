@@ -4,7 +4,7 @@ ghost use Rattle.std.specs.Prelude.{◌≡◌, ◌||◌, IfOk, OnOk};
 ghost use Rattle.std.specs.BTreeSet.{contains};
 ghost use Rattle.std.specs.List.{list_any};
 ghost use Rattle.std.specs.Ordering.{eq_by_cmp};
-ghost use Rattle.wl_server.specs.Ids.{ClientParts, GlobalParts};
+ghost use Rattle.wl_server_client.specs.Ids.{ClientParts, GlobalParts};
 ghost use Rattle.wl_host.specs.Visibility.{lists_client, lists_global};
 
 use crate::flat::{FlatClientId, FlatGlobalId};

@@ -9,7 +9,7 @@ ghost use Rattle.wl_host.specs.Calls.{CreatesObject, DestroysObject, SetsObjectD
 ghost use Rattle.wl_host.specs.Clients.{told_at};
 ghost use Rattle.wl_host.specs.Lists.{Lists, filled};
 ghost use Rattle.wl_host.specs.Flat.{client_of, flat_resource, resource_of};
-ghost use Rattle.wl_server.specs.Lookups.{object_data_of, object_for_number, object_info_of, objects_of_client};
+ghost use Rattle.wl_server_model.specs.Lookups.{object_data_of, object_for_number, object_info_of, objects_of_client};
 
 use crate::flat::{FlatClientId, FlatObjectId, FlatObjectInfo, count_number, interface_number};
 use crate::server::Server;

@@ -3,7 +3,7 @@
 ghost use Rattle.std.specs.Prelude.{◌≡◌, ℕ, List, IfSome};
 ghost use Rattle.std.specs.String.{string_bytes};
 ghost use Rattle.wl_host.specs.Actions.{KillsFor, Refuses, kept_unless_finished, null_in, refusal_text};
-ghost use Rattle.wl_server.specs.Deeds.{handed};
+ghost use Rattle.wl_server_client.specs.Deeds.{handed};
 
 use crate::nulls::{name_in, null_text};
 use crate::server::{Core, no_action};

@@ -10,9 +10,9 @@ ghost use Rattle.wl_host.specs.Flat.{global_of, resource_of};
 ghost use Rattle.wl_host.specs.Registries.{Announces, IsGlobalEvent, KeepsThere, KillsUntold, TellsRemoval, TellsRemovals, Withdraws, is_of, is_there, registries_told, said_with, told_with, without_global};
 ghost use Rattle.wl_host.specs.Server.{kept_by_server};
 ghost use Rattle.wl_host.specs.Status.{of_event};
-ghost use Rattle.wl_server.specs.Backend.{Calls};
-ghost use Rattle.wl_server.specs.declared.runs.step.Reply.TheVariants as reply;
-ghost use Rattle.wl_server.specs.declared.runs.step.Step.TheVariants as step;
+ghost use Rattle.wl_server_model.specs.Backend.{Calls};
+ghost use Rattle.wl_server_model.specs.declared.step.Reply.TheVariants as reply;
+ghost use Rattle.wl_server_model.specs.declared.step.Step.TheVariants as step;
 ghost use Rattle.wl_host.specs.declared.status.Status.TheVariants as status;
 
 use crate::arguments::text_of;

@@ -5,7 +5,7 @@ ghost use Rattle.wl_host.specs.Calls.{or_invalid};
 ghost use Rattle.wl_host.specs.Flat.{client_of};
 ghost use Rattle.wl_host.specs.Kinds as kinds;
 ghost use Rattle.wl_host.specs.Violations.{flat_violation, with_fault, with_wrong};
-ghost use Rattle.wl_server.specs.Lookups.{violation_of};
+ghost use Rattle.wl_server_model.specs.Lookups.{violation_of};
 
 use crate::flat::{FlatClientId, count_number, interface_number};
 use crate::server::Server;

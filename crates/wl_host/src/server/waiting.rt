@@ -4,7 +4,7 @@ ghost use Rattle.std.specs.Prelude.{◌≡◌, option_map};
 ghost use Rattle.wl_host.specs.Calls.{or_invalid};
 ghost use Rattle.wl_host.specs.Flat.{client_of};
 ghost use Rattle.wl_host.specs.Waiting.{waiting_on};
-ghost use Rattle.wl_server.specs.Lookups.{client_of as stored_client};
+ghost use Rattle.wl_server_model.specs.Lookups.{client_of as stored_client};
 
 use crate::flat::{FlatClientId, Waiting};
 use crate::server::Server;

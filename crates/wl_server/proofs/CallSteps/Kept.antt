@@ -2,18 +2,20 @@
 use Rattle.std.proofs.Common.{◌≡◌, ℕ, Bool, List, Option, Some, refl, length, map, arith}
 use Rattle.std.specs.Prelude.{slice_set}
 use Rattle.wl_server.specs.declared.client.touched.Touched.{Touched}
-use Rattle.wl_server.specs.declared.notes.queues.NoteNumbers.{NoteNumbers}
+use Rattle.wl_server_client.specs.declared.notes.queues.NoteNumbers.{NoteNumbers}
 use Rattle.wl_wire.specs.Table.{InterfaceRow}
-use Rattle.wl_server.specs.Globals.{Globals, Offer}
-use Rattle.wl_server.specs.Ids.{ClientParts}
-use Rattle.wl_server.specs.Inside.Inserting.{HasSlots}
-use Rattle.wl_server.specs.Inside.Places.{AllFeel}
+use Rattle.wl_server_client.specs.Globals.{Globals, Offer}
+use Rattle.wl_server_client.specs.Ids.{ClientParts}
+use Rattle.wl_server_model.specs.Inside.Inserting.{HasSlots}
+use Rattle.wl_server_model.specs.Inside.Places.{AllFeel}
 use Rattle.wl_server.specs.Inside.Touched.{AreTouched}
-use Rattle.wl_server.specs.NoteOrder.{AllInTime, AllNumbered, HasNumbers, IsNumbered, NotesInTime, times_of}
-use Rattle.wl_server.specs.Server.{Stored, client_at}
-use Rattle.wl_server.proofs.CallSteps.Numbering.{numbered_at, numbers_set}
-use Rattle.wl_server.proofs.CallSteps.Slots.{Kind}
-use Rattle.wl_server.proofs.CleanupSteps.Taken.{slots_set, taken_felt}
+use Rattle.wl_server_model.specs.NoteOrder.{AllInTime, AllNumbered, HasNumbers}
+use Rattle.wl_server_client.specs.NoteTimes.{IsNumbered, NotesInTime, times_of}
+use Rattle.wl_server_client.specs.Stored.{Stored}
+use Rattle.wl_server_model.specs.Server.{client_at}
+use Rattle.wl_server_model.proofs.CallSteps.Numbering.{numbered_at, numbers_set}
+use Rattle.wl_server_model.proofs.CallSteps.Slots.{Kind}
+use Rattle.wl_server_model.proofs.CleanupSteps.Taken.{slots_set, taken_felt}
 
 -- a clause `call`, and what follows from it
 pub with_plain : {A B : Type 0} → (A → B) → A → record { call : A; plain : B }

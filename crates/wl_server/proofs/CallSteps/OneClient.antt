@@ -5,27 +5,31 @@ use Rattle.std.specs.Prelude.{slice_get, slice_set}
 use Rattle.std.proofs.lemmas.Bool.{false≢true}
 use Rattle.wl_wire.specs.Table.{InterfaceRow}
 use Rattle.wl_link.specs.Store.{Store}
-use Rattle.wl_server.specs.declared.globals.KeptGlobal.{KeptGlobal}
-use Rattle.wl_server.specs.declared.notes.Note.{Note}
-use Rattle.wl_server.specs.declared.notes.queues.NoteNumbers.{NoteNumbers}
-use Rattle.wl_server.specs.declared.runs.step.Reply.{Reply}
-use Rattle.wl_server.specs.declared.runs.step.Step.{Step}
-use Rattle.wl_server.specs.declared.runs.step.Step.TheVariants as step
-use Rattle.wl_server.proofs.OverRuns.Alone.AccountLaws.{calls}
-use Rattle.wl_server.specs.Backend.{Calls}
-use Rattle.wl_server.specs.Inside.Client.{Does}
-use Rattle.wl_server.specs.NoteOrder.{AllNumbered, IsNumbered, NotesInTime}
-use Rattle.wl_server.specs.Deeds.{Deed}
-use Rattle.wl_server.specs.Globals.{Offer}
-use Rattle.wl_server.specs.Ids.{ClientParts, same_client}
-use Rattle.wl_server.specs.PartStep.{Asked, Call, Changed, OfClient, PartCall, PartStep, Quietly, WithTransport, World}
-use Rattle.wl_server.specs.Lending.{over_transport, server_over}
-use Rattle.wl_server.specs.Server.{Seen, ServerState, Stored, client_at, notes_of, seen_as}
-use Rattle.wl_server.specs.Steps.{Makes, AnswersShared, lacks_growth, offer_after}
-use Rattle.wl_server.proofs.CallSteps.Numbering.{each_stays, in_time_none, set_in_time, all_same}
-use Rattle.wl_server.proofs.CallSteps.Doing.{does_quietly}
-use Rattle.wl_server.proofs.CallSteps.Slots.{Kind, did_at, each_set, lacks_at, same_self, slot_of_client, same_is}
-use Rattle.wl_server.proofs.CallSteps.Feeling.{step_by, step_of, IsFelt}
+use Rattle.wl_server_client.specs.declared.globals.KeptGlobal.{KeptGlobal}
+use Rattle.wl_server_client.specs.declared.notes.Note.{Note}
+use Rattle.wl_server_client.specs.declared.notes.queues.NoteNumbers.{NoteNumbers}
+use Rattle.wl_server_model.specs.declared.step.Reply.{Reply}
+use Rattle.wl_server_model.specs.declared.step.Step.{Step}
+use Rattle.wl_server_model.specs.declared.step.Step.TheVariants as step
+use Rattle.wl_server_model.proofs.OverRuns.Alone.AccountLaws.{calls}
+use Rattle.wl_server_model.specs.Backend.{Calls}
+use Rattle.wl_server_client.specs.Inside.Client.{Does}
+use Rattle.wl_server_model.specs.NoteOrder.{AllNumbered}
+use Rattle.wl_server_client.specs.NoteTimes.{IsNumbered, NotesInTime}
+use Rattle.wl_server_client.specs.Deeds.{Deed}
+use Rattle.wl_server_client.specs.Globals.{Offer}
+use Rattle.wl_server_client.specs.Ids.{ClientParts, same_client}
+use Rattle.wl_server_model.specs.PartStep.{Asked, Call, Changed, OfClient, PartCall, PartStep, Quietly, WithTransport, World}
+use Rattle.wl_server_client.specs.Lending.{over_transport}
+use Rattle.wl_server.specs.Lending.{server_over}
+use Rattle.wl_server_model.specs.Server.{Seen, ServerState, client_at, notes_of, seen_as}
+use Rattle.wl_server_client.specs.Stored.{Stored}
+use Rattle.wl_server_model.specs.Steps.{Makes, AnswersShared, lacks_growth, offer_after}
+use Rattle.wl_server_model.proofs.CallSteps.Numbering.{each_stays, set_in_time, all_same}
+use Rattle.wl_server_client.proofs.CallSteps.Numbers.{in_time_none}
+use Rattle.wl_server_client.proofs.CallSteps.Doing.{does_quietly}
+use Rattle.wl_server_model.proofs.CallSteps.Slots.{Kind, did_at, each_set, lacks_at, same_self, slot_of_client, same_is}
+use Rattle.wl_server_model.proofs.CallSteps.Feeling.{step_by, step_of, IsFelt}
 
 -- a call that is about one client: nothing changes that all share, and no memory is wanted but for that client
 record IsOwn {T U G C : Type 0} (call : Call T U G C) : Type 0 where

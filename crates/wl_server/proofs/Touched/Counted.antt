@@ -2,16 +2,17 @@
 use Rattle.std.proofs.Common.{◌≡◌, ◌∙◌, ℕ, ◌+◌, ◌<◌, ◌≤◌, Bool, true, false, List, [], ◌++◌, length, map, drop, Option, Some, refl, sym, ap, arith, append-nil}
 use Rattle.std.specs.Prelude.{if◌then◌else◌, slice_get, min}
 use Rattle.std.proofs.lemmas.List.{length-append}
-use Rattle.wl_server.specs.declared.notes.queues.NotePlace.{NotePlace}
-use Rattle.wl_server.specs.Inside.Gathering.{count_leaving}
-use Rattle.wl_server.specs.Inside.Leaving.{collected, ends_at, given_at}
-use Rattle.wl_server.specs.Inside.NoteOrder.{count_places}
+use Rattle.wl_server_client.specs.declared.notes.queues.NotePlace.{NotePlace}
+use Rattle.wl_server_model.specs.Inside.Gathering.{count_leaving}
+use Rattle.wl_server_model.specs.Inside.Leaving.{collected, ends_at, given_at}
+use Rattle.wl_server_model.specs.Inside.NoteOrder.{count_places}
 use Rattle.wl_sets.specs.SlotSets.{IsOut}
 use Rattle.wl_server.specs.Inside.Touched.{AllQuiet, IsQuiet}
-use Rattle.wl_server.specs.NoteOrder.{all_places, places_at, places_of, times_of, to_gather}
-use Rattle.wl_server.specs.Server.{Stored}
-use Rattle.wl_server.proofs.CleanupSteps.Gathering.{rest_at}
-use Rattle.wl_server.proofs.CleanupSteps.Ordering.{Placed, placed_more, placed_so_far}
+use Rattle.wl_server_model.specs.NoteOrder.{all_places, places_at}
+use Rattle.wl_server_client.specs.NoteTimes.{places_of, times_of, to_gather}
+use Rattle.wl_server_client.specs.Stored.{Stored}
+use Rattle.wl_server_model.proofs.CleanupSteps.Gathering.{rest_at}
+use Rattle.wl_server_model.proofs.CleanupSteps.Ordering.{Placed, placed_more, placed_so_far}
 use Rattle.wl_server.proofs.Touched.Kept.{carry, out_here, there}
 
 same_both : (b : Bool) (n : ℕ) → n ≡ n + (if b then 0 else 0)

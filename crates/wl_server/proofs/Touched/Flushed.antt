@@ -4,18 +4,18 @@ use Rattle.std.proofs.Math.Bool.{or-false}
 use Rattle.wl_wire.specs.declared.error.IoFault.{IoFault}
 use Rattle.wl_link.specs.Exchange.{Queue, Sending}
 use Rattle.wl_link.specs.Link.{Flushes}
-use Rattle.wl_server.specs.Deeds.{notes_in}
-use Rattle.wl_server.specs.Felt.{FlushedTo, FlushesLive}
-use Rattle.wl_server.specs.Inside.Client.{Does}
-use Rattle.wl_server.specs.Inside.Places.{AllFeel, PlaceFeels}
+use Rattle.wl_server_client.specs.Deeds.{notes_in}
+use Rattle.wl_server_client.specs.Felt.{FlushedTo, FlushesLive}
+use Rattle.wl_server_client.specs.Inside.Client.{Does}
+use Rattle.wl_server_model.specs.Inside.Places.{AllFeel, PlaceFeels}
 use Rattle.wl_sets.specs.SlotSets.{IsOut}
 use Rattle.wl_server.specs.Inside.Touched.{AllSent, HasSent, IsCalm}
-use Rattle.wl_server.specs.Part.{Part}
-use Rattle.wl_server.specs.Server.{Stored}
-use Rattle.wl_server.proofs.CallSteps.Feeling.{one_more_felt}
-use Rattle.wl_server.proofs.CleanupSteps.Gathering.{set_itself}
-use Rattle.wl_server.proofs.CallSteps.Doing.{live_flushed, does_quietly}
-use Rattle.wl_server.proofs.Readings.Notes.{notes_of_sends}
+use Rattle.wl_server_client.specs.Part.{Part}
+use Rattle.wl_server_client.specs.Stored.{Stored}
+use Rattle.wl_server_model.proofs.CallSteps.Feeling.{one_more_felt}
+use Rattle.wl_server_model.proofs.CleanupSteps.Gathering.{set_itself}
+use Rattle.wl_server_client.proofs.CallSteps.Doing.{live_flushed, does_quietly}
+use Rattle.wl_server_client.proofs.Readings.Notes.{notes_of_sends}
 use Rattle.wl_server.proofs.Touched.Kept.{carry, out_here, there}
 use Rattle.wl_link.proofs.Calls.Branches.{at_true}
 use Rattle.wl_link.specs.Puts.{lacks_memory}

@@ -8,20 +8,23 @@ use Rattle.wl_wire.specs.declared.error.IoFault.{IoFault}
 use Rattle.wl_wire.specs.declared.error.OutOfMemory.{OutOfMemory}
 use Rattle.wl_link.proofs.Calls.Branches.{either_bool}
 use Rattle.wl_link.specs.Exchange.{Queue}
-use Rattle.wl_server.specs.declared.notes.Note.{Note}
-use Rattle.wl_server.specs.Ids.{ClientParts}
-use Rattle.wl_server.specs.Inside.Cleanup.{CleansUp}
-use Rattle.wl_server.specs.Inside.Gathering.{Gathers, all_emptied, emptied}
-use Rattle.wl_server.specs.Inside.Leaving.{FlushesKilled, all_staying, staying}
-use Rattle.wl_server.specs.Inside.Places.{AllFeel, FeltAt}
+use Rattle.wl_server_client.specs.declared.notes.Note.{Note}
+use Rattle.wl_server_client.specs.Ids.{ClientParts}
+use Rattle.wl_server_model.specs.Inside.Cleanup.{CleansUp}
+use Rattle.wl_server_model.specs.Inside.Gathering.{Gathers, all_emptied}
+use Rattle.wl_server_client.specs.Inside.Gathering.{emptied}
+use Rattle.wl_server_model.specs.Inside.Leaving.{FlushesKilled, all_staying, staying}
+use Rattle.wl_server_model.specs.Inside.Places.{AllFeel, FeltAt}
 use Rattle.wl_server.specs.Inside.Touched.{AllQuiet, AllSent, HasSent, IsQuiet}
-use Rattle.wl_server.specs.NoteOrder.{AllNumbered, AllTakeFirst, IsNumbered, NoneWaits, TakesFirst, times_of, to_gather}
-use Rattle.wl_server.specs.Part.{Part}
-use Rattle.wl_server.specs.Server.{Stored, stored_at}
+use Rattle.wl_server_model.specs.NoteOrder.{AllNumbered, AllTakeFirst, NoneWaits}
+use Rattle.wl_server_client.specs.NoteTimes.{IsNumbered, TakesFirst, times_of, to_gather}
+use Rattle.wl_server_client.specs.Part.{Part}
+use Rattle.wl_server_client.specs.Stored.{Stored}
+use Rattle.wl_server_model.specs.Server.{stored_at}
 use Rattle.wl_server.proofs.Touched.Flushed.{sent_flushed}
 use Rattle.wl_server.proofs.Touched.Kept.{out_all, out_each}
-use Rattle.wl_server.proofs.CleanupSteps.Gathering.{both_none, stored_map}
-use Rattle.wl_server.proofs.CallSteps.Numbering.{times_stored}
+use Rattle.wl_server_model.proofs.CleanupSteps.Gathering.{both_none, stored_map}
+use Rattle.wl_server_model.proofs.CallSteps.Numbering.{times_stored}
 
 module _ {T U C : Type 0} where
   -- ---- notes are gathered

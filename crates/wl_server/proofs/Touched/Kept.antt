@@ -5,10 +5,11 @@ use Rattle.std.specs.Prelude.{IsTrue, MatchOption, slice_get, slice_set}
 use Rattle.std.proofs.lemmas.Bool.{eqb-true}
 use Rattle.std.proofs.lemmas.Option.{slice_get_cases}
 use Rattle.wl_server.specs.declared.client.touched.Touched.{Touched}
-use Rattle.wl_server.specs.Inside.Inserting.{IsPut}
+use Rattle.wl_server_model.specs.Inside.Inserting.{IsPut}
 use Rattle.wl_sets.specs.SlotSets.{Adds, IsOut, TakesOut}
 use Rattle.wl_server.specs.Inside.Touched.{AllOut, AreTouched, StayTouched, HasSent, IsQuiet}
-use Rattle.wl_server.specs.Server.{Stored, stored_at}
+use Rattle.wl_server_client.specs.Stored.{Stored}
+use Rattle.wl_server_model.specs.Server.{stored_at}
 use Rattle.wl_sets.proofs.Lists.{get_set_other, get_set_same, other_of}
 
 -- ---- from one slot to a later one

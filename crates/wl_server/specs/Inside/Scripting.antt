@@ -4,18 +4,18 @@ use Rattle.wl_wire.specs.declared.error.OutOfMemory.{OutOfMemory}
 use Rattle.wl_link.specs.declared.memory.ArriveError.{ArriveError}
 use Rattle.wl_link.specs.declared.memory.ArriveError.TheVariants as arrive
 use Rattle.wl_link.specs.Script.{Script}
-use Rattle.wl_server.specs.declared.error.ScriptError.{ScriptError}
-use Rattle.wl_server.specs.declared.error.ScriptError.TheVariants as refused
+use Rattle.wl_server_client.specs.declared.error.ScriptError.{ScriptError}
+use Rattle.wl_server_client.specs.declared.error.ScriptError.TheVariants as refused
 use Rattle.wl_server.specs.declared.runs.script.ScriptCall.{ScriptCall}
 use Rattle.wl_server.specs.declared.runs.script.ScriptCall.TheVariants as call
-use Rattle.wl_server.specs.declared.runs.step.Reply.{Reply}
-use Rattle.wl_server.specs.declared.runs.step.Reply.TheVariants as reply
-use Rattle.wl_server.specs.declared.runs.step.Step.{Step}
-use Rattle.wl_server.specs.declared.runs.step.Step.TheVariants as step
-use Rattle.wl_server.specs.Ids.{ClientParts}
-use Rattle.wl_server.specs.Moves.{Accept, AcceptFault, Arrive, ArriveFault, Move, Moved, ScriptMoves}
-use Rattle.wl_server.specs.Part.{Part}
-use Rattle.wl_server.specs.PartStep.{WithTransport}
+use Rattle.wl_server_model.specs.declared.step.Reply.{Reply}
+use Rattle.wl_server_model.specs.declared.step.Reply.TheVariants as reply
+use Rattle.wl_server_model.specs.declared.step.Step.{Step}
+use Rattle.wl_server_model.specs.declared.step.Step.TheVariants as step
+use Rattle.wl_server_client.specs.Ids.{ClientParts}
+use Rattle.wl_server_model.specs.Moves.{Accept, AcceptFault, Arrive, ArriveFault, Move, Moved, ScriptMoves}
+use Rattle.wl_server_client.specs.Part.{Part}
+use Rattle.wl_server_model.specs.PartStep.{WithTransport}
 
 abbrev pub move_of : ScriptCall → Move
 move_of (call.Arrive bytes tokens) = Arrive (record { bytes = bytes.items; tokens = tokens.items })

@@ -2,7 +2,8 @@
 use Rattle.std.specs.Prelude.{◌≡◌, ℕ, List, [], false, Option, None, Some}
 use Rattle.wl_server.specs.declared.client.touched.Touched.{Touched}
 use Rattle.wl_sets.specs.SlotSets.{IsOut}
-use Rattle.wl_server.specs.Server.{Stored, no_times, stored_at}
+use Rattle.wl_server_client.specs.Stored.{Stored, no_times}
+use Rattle.wl_server_model.specs.Server.{stored_at}
 
 module _ {T U C : Type 0} where
   -- no bytes wait to be sent to the client of a slot, if there is one

@@ -1,39 +1,28 @@
 //! Sends what waits in the buffers of clients.
 
 ghost use Rattle.std.specs.Prelude.{◌≡◌, ℕ, IsTrue, List, length, map, Some};
-ghost use Rattle.wl_link.specs.Puts.{lacks_memory};
-ghost use Rattle.wl_server.specs.Backend.{Calls};
-ghost use Rattle.wl_server.specs.Inside.Client.{Does};
-ghost use Rattle.wl_server.specs.Felt.{FlushedTo, FlushesLive};
-ghost use Rattle.wl_server.specs.Inside.Leaving.{Flushes, FlushesKilled};
-ghost use Rattle.wl_server.specs.NoteOrder.{AllNumbered, IsNumbered, times_of};
-ghost use Rattle.wl_server.specs.PartStep.{over};
-ghost use Rattle.wl_server.specs.Plain.{FlushesClients};
-ghost use Rattle.wl_server.specs.Inside.Places.{AllFeel, PlaceFeels};
+ghost use Rattle.wl_server_model.specs.Backend.{Calls};
+ghost use Rattle.wl_server_client.specs.Felt.{FlushesLive};
+ghost use Rattle.wl_server_model.specs.Inside.Leaving.{Flushes, FlushesKilled};
+ghost use Rattle.wl_server_model.specs.NoteOrder.{AllNumbered};
+ghost use Rattle.wl_server_client.specs.NoteTimes.{IsNumbered, times_of};
+ghost use Rattle.wl_server_model.specs.PartStep.{over};
+ghost use Rattle.wl_server_model.specs.Plain.{FlushesClients};
+ghost use Rattle.wl_server_model.specs.Inside.Places.{AllFeel, PlaceFeels};
 ghost use Rattle.wl_server.specs.Inside.Touched.{AllQuiet, AllSent, HasSent, IsQuiet};
-ghost use Rattle.wl_server.specs.declared.runs.step.Reply.TheVariants as reply;
-ghost use Rattle.wl_server.specs.declared.runs.step.Step.TheVariants as step;
+ghost use Rattle.wl_server_model.specs.declared.step.Reply.TheVariants as reply;
+ghost use Rattle.wl_server_model.specs.declared.step.Step.TheVariants as step;
 
 use crate::backend::Backend;
+use crate::client::Slots;
 use crate::client::stored::stored_mut;
-use crate::client::{Client, Slots};
-use crate::events::own_events::is_out_of_memory;
-use crate::globals::handler::GlobalHandler;
-use crate::ids::client_id::ClientId;
 use wl_link::Transport;
+use wl_server_client::client::Client;
+use wl_server_client::events::own_events::is_out_of_memory;
+use wl_server_client::globals::handler::GlobalHandler;
+use wl_server_client::ids::client_id::ClientId;
 use wl_sets::slot_set::SlotSet;
 use wl_wire::IoFault;
-
-impl<T: Transport + Drop, U: Drop, C: Drop> Client<T, U, C> {
-    /// Sends what waits for the client, as far as its transport takes it.
-    pub fn flush(&mut self) -> Result<(), IoFault>
-        ensures flushed { Does self.old (λ p did q. FlushedTo T.sends p result (lacks_memory result) did q) self.new }
-        ensures times { self.new.times ≡ self.old.times }
-        ensures numbered { IsNumbered (Some self.old) → IsNumbered (Some self.new) }
-    {
-        self.socket.flush()
-    }
-}
 
 /// Sends what waits for the client of a slot: only if it is killed, or only if it is live, as `killed` says. A fault is
 /// dropped. Returns whether memory ran out.

@@ -1,19 +1,19 @@
 //! Sends what waits for one client, and says whether more waits.
 
 ghost use Rattle.std.specs.Prelude.{◌≡◌, Result, Some};
-ghost use Rattle.wl_server.specs.Backend.{Calls};
-ghost use Rattle.wl_server.specs.Plain.FlushedClient.{TellsLeft, left_in, left_of};
-ghost use Rattle.wl_server.specs.PartStep.{over};
-ghost use Rattle.wl_server.specs.Plain.{FlushesClients};
+ghost use Rattle.wl_server_model.specs.Backend.{Calls};
+ghost use Rattle.wl_server.specs.FlushedClient.{TellsLeft, left_in, left_of};
+ghost use Rattle.wl_server_model.specs.PartStep.{over};
+ghost use Rattle.wl_server_model.specs.Plain.{FlushesClients};
 ghost use Rattle.wl_wire.specs.declared.error.IoFault.{IoFault};
-ghost use Rattle.wl_server.specs.declared.runs.step.Reply.TheVariants as reply;
-ghost use Rattle.wl_server.specs.declared.runs.step.Step.TheVariants as step;
+ghost use Rattle.wl_server_model.specs.declared.step.Reply.TheVariants as reply;
+ghost use Rattle.wl_server_model.specs.declared.step.Step.TheVariants as step;
 
 use crate::backend::Backend;
-use crate::client::Client;
-use crate::globals::handler::GlobalHandler;
-use crate::ids::client_id::ClientId;
 use wl_link::Transport;
+use wl_server_client::client::Client;
+use wl_server_client::globals::handler::GlobalHandler;
+use wl_server_client::ids::client_id::ClientId;
 use wl_wire::IoFault;
 
 /// Whether bytes wait to be sent to a client after what could be sent was sent.

@@ -1,17 +1,17 @@
 //! How far the buffers of clients may grow.
 
 ghost use Rattle.std.specs.Prelude.{Some, false};
-ghost use Rattle.wl_server.specs.Backend.{Calls};
-ghost use Rattle.wl_server.specs.PartStep.{over};
-ghost use Rattle.wl_server.specs.Plain.Calls.{SetsDefaultLimit, SetsLimit};
-ghost use Rattle.wl_server.specs.declared.runs.step.Reply.TheVariants as reply;
-ghost use Rattle.wl_server.specs.declared.runs.step.Step.TheVariants as step;
+ghost use Rattle.wl_server_model.specs.Backend.{Calls};
+ghost use Rattle.wl_server_model.specs.PartStep.{over};
+ghost use Rattle.wl_server_model.specs.Plain.Calls.{SetsDefaultLimit, SetsLimit};
+ghost use Rattle.wl_server_model.specs.declared.step.Reply.TheVariants as reply;
+ghost use Rattle.wl_server_model.specs.declared.step.Step.TheVariants as step;
 
 use crate::backend::Backend;
 use crate::client::stored::stored_mut;
-use crate::globals::handler::GlobalHandler;
-use crate::ids::client_id::ClientId;
 use wl_link::Transport;
+use wl_server_client::globals::handler::GlobalHandler;
+use wl_server_client::ids::client_id::ClientId;
 
 impl<T: Transport + Drop, U: Drop, G: GlobalHandler<C> + Drop, C: Drop> Backend<T, U, G, C> {
     /// Sets how far the buffers of each client that is inserted from now on may grow, in bytes.

@@ -3,13 +3,15 @@
 ghost use Rattle.std.specs.Borrow.{sem};
 ghost use Rattle.std.specs.Option.{option_copied_mut};
 ghost use Rattle.std.specs.Prelude.{◌≡◌, ◌<◌, IsTrue, MatchOption, Some, is_some, length, slice_set};
-ghost use Rattle.wl_server.specs.Inside.Lookup.{LendsStored};
+ghost use Rattle.wl_server_model.specs.Inside.Lookup.{LendsStored};
 ghost use Rattle.wl_server.specs.Inside.Touched.{AreTouched};
-ghost use Rattle.wl_server.specs.Server.{Stored, client_at};
+ghost use Rattle.wl_server_client.specs.Stored.{Stored};
+ghost use Rattle.wl_server_model.specs.Server.{client_at};
 
+use crate::client::Slots;
 use crate::client::touched::Touched;
-use crate::client::{Client, Slots};
-use crate::ids::client_id::ClientId;
+use wl_server_client::client::Client;
+use wl_server_client::ids::client_id::ClientId;
 
 /// Whether the client is stored.
 fn is_stored<T: Drop, U: Drop, C: Drop>(clients: &Slots<T, U, C>, id: &ClientId) -> bool

@@ -3,30 +3,17 @@
 ghost use Rattle.std.specs.Prelude.{◌≡◌, MatchResult, None, OnOk, Some};
 ghost use Rattle.std.specs.Borrow.{sem};
 ghost use Rattle.wl_server.specs.Lending.{server_over, state_over};
-ghost use Rattle.wl_server.specs.Lookups.{transport_of};
-ghost use Rattle.wl_server.specs.PartStep.{over};
-ghost use Rattle.wl_server.specs.Plain.Transport.{LeavesTransport};
-ghost use Rattle.wl_server.specs.Backend.{IsChange};
+ghost use Rattle.wl_server_model.specs.Lookups.{transport_of};
+ghost use Rattle.wl_server_model.specs.PartStep.{over};
+ghost use Rattle.wl_server_model.specs.Plain.Transport.{LeavesTransport};
+ghost use Rattle.wl_server_model.specs.Backend.{IsChange};
 
 use crate::backend::Backend;
-use crate::client::Client;
 use crate::client::stored::lend_stored;
-use crate::error::InvalidId;
-use crate::globals::handler::GlobalHandler;
-use crate::ids::client_id::ClientId;
 use wl_link::Transport;
-
-impl<T: Drop, U: Drop, C: Drop> Client<T, U, C> {
-    ghost use Rattle.wl_server.specs.Lending.{LendsTransportOf};
-
-    /// The transport, which may be changed through the reference. All else stays as it is.
-    pub fn transport_mut(&mut self) -> &mut T
-        ensures* lends { sem 𝓛 (LendsTransportOf T.row U.row C.row self.entry result) }
-        ensures value { result.now ≡ self.old.part.link.transport }
-    {
-        self.socket.transport_mut()
-    }
-}
+use wl_server_client::error::InvalidId;
+use wl_server_client::globals::handler::GlobalHandler;
+use wl_server_client::ids::client_id::ClientId;
 
 impl<T: Transport + Drop, U: Drop, G: GlobalHandler<C> + Drop, C: Drop> Backend<T, U, G, C> {
     ghost use Rattle.wl_server.specs.Lending.{LendsServerTransport};

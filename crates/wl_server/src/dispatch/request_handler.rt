@@ -3,19 +3,19 @@
 ghost use Rattle.wl_wire.specs.declared.argument.Argument.{Argument};
 ghost use Rattle.wl_wire.specs.declared.argument.Token.{Token};
 ghost use Rattle.std.specs.Prelude.{ℕ, List, Option};
-ghost use Rattle.wl_server.specs.Backend.{BackendState};
-ghost use Rattle.wl_server.specs.Ids.{ClientParts, GlobalParts, IdParts};
-ghost use Rattle.wl_server.specs.PartStep.{over};
-ghost use Rattle.wl_server.specs.Reached.{Reached};
+ghost use Rattle.wl_server_model.specs.Backend.{BackendState};
+ghost use Rattle.wl_server_client.specs.Ids.{ClientParts, GlobalParts, IdParts};
+ghost use Rattle.wl_server_model.specs.PartStep.{over};
+ghost use Rattle.wl_server_model.specs.Reached.{Reached};
 
 use crate::backend::Backend;
-use crate::globals::handler::GlobalHandler;
-use crate::ids::client_id::ClientId;
-use crate::ids::global_id::GlobalId;
-use crate::ids::object_id::ObjectId;
 use smallvec::SmallVec;
 use std::mem;
 use wl_link::Transport;
+use wl_server_client::globals::handler::GlobalHandler;
+use wl_server_client::ids::client_id::ClientId;
+use wl_server_client::ids::global_id::GlobalId;
+use wl_server_client::ids::object_id::ObjectId;
 use wl_wire::{Args, Argument, Token};
 
 /// A program's handler of the actions of its clients, which `Backend::dispatch_single_client` and

@@ -1,18 +1,18 @@
 //! Reads the actions of a client, has the handler handle them and finishes them, until no more of them waits.
 
 ghost use Rattle.std.specs.Prelude.{◌≡◌, ◌||◌, List};
-ghost use Rattle.wl_server.specs.Dispatch.{Handles, answering, dispatched, fault_of_end, fault_of_reading};
-ghost use Rattle.wl_server.specs.Inside.Dispatching.{MakesAllRounds, MakesRound, MakesRounds};
-ghost use Rattle.wl_server.specs.PartStep.{over};
-ghost use Rattle.wl_server.specs.Steps.{Entry};
+ghost use Rattle.wl_server_model.specs.Dispatch.{Handles, answering, dispatched, fault_of_end, fault_of_reading};
+ghost use Rattle.wl_server_model.specs.Inside.Dispatching.{MakesAllRounds, MakesRound, MakesRounds};
+ghost use Rattle.wl_server_model.specs.PartStep.{over};
+ghost use Rattle.wl_server_model.specs.Steps.{Entry};
 
 use crate::backend::Backend;
 use crate::dispatch::request_handler::Handler;
-use crate::error::{ActionError, FinishError};
-use crate::globals::handler::GlobalHandler;
-use crate::ids::client_id::ClientId;
-use crate::reading::action::{Action, Reading};
 use wl_link::Transport;
+use wl_server_client::error::{ActionError, FinishError};
+use wl_server_client::globals::handler::GlobalHandler;
+use wl_server_client::ids::client_id::ClientId;
+use wl_server_client::reading::action::{Action, Reading};
 use wl_wire::IoFault;
 
 /// The fault with which a dispatch ends if no action is handed out.

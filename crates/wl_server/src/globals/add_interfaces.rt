@@ -2,14 +2,14 @@
 
 ghost use Rattle.std.specs.Prelude.{◌≡◌};
 ghost use Rattle.wl_wire.specs.Table.{AnswersExtension, AnswersGrowth, IsAcceptedTable, LongerRow, NewRows, after_extension, extension_of, grown, interface_rows, refused_growth};
-ghost use Rattle.wl_server.specs.Backend.{IsGrowth};
-ghost use Rattle.wl_server.specs.Globals.{with_table};
-ghost use Rattle.wl_server.specs.PartStep.{over};
-ghost use Rattle.wl_server.specs.Plain.Calls.{AddsInterfaces, ExtendsInterface};
+ghost use Rattle.wl_server_model.specs.Backend.{IsGrowth};
+ghost use Rattle.wl_server_client.specs.Globals.{with_table};
+ghost use Rattle.wl_server_model.specs.PartStep.{over};
+ghost use Rattle.wl_server_model.specs.Plain.Calls.{AddsInterfaces, ExtendsInterface};
 
 use crate::backend::Backend;
-use crate::globals::handler::GlobalHandler;
 use wl_link::Transport;
+use wl_server_client::globals::handler::GlobalHandler;
 use wl_wire::{Interface, InterfaceId, MessageDesc, TableError};
 
 /// Whether the table refused to grow for want of memory.

@@ -2,26 +2,28 @@
 
 ghost use Rattle.std.specs.Prelude.{◌≡◌, ◌≤◌, IfSome, length, map};
 ghost use Rattle.wl_link.specs.Identity.{names};
-ghost use Rattle.wl_server.specs.NoteOrder.{IsNumbered, AllNumbered, AllInTime, NotesInTime, times_of};
-ghost use Rattle.wl_server.specs.Backend.{Calls};
-ghost use Rattle.wl_server.specs.Globals.{global_serial, shown_as};
-ghost use Rattle.wl_server.specs.Inside.News.{HearsNew};
-ghost use Rattle.wl_server.specs.PartStep.{over};
-ghost use Rattle.wl_server.specs.Plain.Globals.{OffersGlobal};
-ghost use Rattle.wl_server.specs.Inside.Places.{AllFeel, PlaceFeels};
-ghost use Rattle.wl_server.specs.declared.runs.step.Reply.TheVariants as reply;
-ghost use Rattle.wl_server.specs.declared.runs.step.Step.TheVariants as step;
+ghost use Rattle.wl_server_client.specs.NoteTimes.{IsNumbered, NotesInTime, times_of};
+ghost use Rattle.wl_server_model.specs.NoteOrder.{AllNumbered, AllInTime};
+ghost use Rattle.wl_server_model.specs.Backend.{Calls};
+ghost use Rattle.wl_server_client.specs.Globals.{global_serial, shown_as};
+ghost use Rattle.wl_server_client.specs.Inside.News.{HearsNew};
+ghost use Rattle.wl_server_model.specs.PartStep.{over};
+ghost use Rattle.wl_server_model.specs.Plain.Globals.{OffersGlobal};
+ghost use Rattle.wl_server_model.specs.Inside.Places.{AllFeel, PlaceFeels};
+ghost use Rattle.wl_server_model.specs.declared.step.Reply.TheVariants as reply;
+ghost use Rattle.wl_server_model.specs.declared.step.Step.TheVariants as step;
 
 use crate::backend::Backend;
-use crate::client::Client;
-use crate::error::GlobalError;
-use crate::globals::announce::Announcement;
-use crate::globals::handler::GlobalHandler;
-use crate::globals::{KeptGlobal, create, global_in};
-use crate::ids::client_id::ClientId;
-use crate::ids::global_id::GlobalId;
-use crate::notes::queues::NoteNumbers;
+use crate::globals::create;
 use wl_link::{Object, ObjectMap, Transport};
+use wl_server_client::client::Client;
+use wl_server_client::error::GlobalError;
+use wl_server_client::globals::announce::Announcement;
+use wl_server_client::globals::handler::GlobalHandler;
+use wl_server_client::globals::{KeptGlobal, global_in};
+use wl_server_client::ids::client_id::ClientId;
+use wl_server_client::ids::global_id::GlobalId;
+use wl_server_client::notes::queues::NoteNumbers;
 use wl_wire::{InterfaceId, Protocol};
 
 /// Tells the client of a slot of a new global, if it is live and may see it. Returns whether memory ran out.

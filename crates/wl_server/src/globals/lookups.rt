@@ -1,16 +1,17 @@
 //! Look-ups of globals. None of them changes the server.
 
 ghost use Rattle.std.specs.Prelude.{◌≡◌, MatchResult, Some};
-ghost use Rattle.wl_server.specs.Globals.{disabled};
-ghost use Rattle.wl_server.specs.Lookups.{global_info_by, handler_of, name_for};
-ghost use Rattle.wl_server.specs.Next.{NextGlobal, NextGlobalIsGiven};
+ghost use Rattle.wl_server_client.specs.Globals.{disabled};
+ghost use Rattle.wl_server_model.specs.Lookups.{global_info_by, handler_of, name_for};
+ghost use Rattle.wl_server_model.specs.Next.{NextGlobal, NextGlobalIsGiven};
 
 use crate::backend::Backend;
-use crate::error::InvalidId;
-use crate::globals::handler::GlobalHandler;
-use crate::globals::{global_in, next_name};
-use crate::ids::client_id::ClientId;
-use crate::ids::global_id::{GlobalId, GlobalInfo};
+use crate::globals::next_name;
+use wl_server_client::error::InvalidId;
+use wl_server_client::globals::global_in;
+use wl_server_client::globals::handler::GlobalHandler;
+use wl_server_client::ids::client_id::ClientId;
+use wl_server_client::ids::global_id::{GlobalId, GlobalInfo};
 
 impl<T: Drop, U: Drop, G: Drop, C: Drop> Backend<T, U, G, C> {
     /// The id that the next `create_global` gives, if it is not refused for its interface, its version or want of memory.

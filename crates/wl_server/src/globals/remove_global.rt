@@ -2,25 +2,27 @@
 
 ghost use Rattle.std.specs.Prelude.{◌≡◌, ℕ, length, map};
 ghost use Rattle.wl_link.specs.Identity.{names};
-ghost use Rattle.wl_server.specs.NoteOrder.{IsNumbered, AllNumbered, AllInTime, NotesInTime, times_of};
-ghost use Rattle.wl_server.specs.Backend.{Calls};
-ghost use Rattle.wl_server.specs.Felt.{Hears, removals};
-ghost use Rattle.wl_server.specs.Globals.{global_serial, is_enabled as global_is_enabled};
-ghost use Rattle.wl_server.specs.PartStep.{over};
-ghost use Rattle.wl_server.specs.Plain.Globals.{DisablesGlobal, RemovesGlobal};
-ghost use Rattle.wl_server.specs.Inside.Places.{AllFeel, PlaceFeels};
-ghost use Rattle.wl_server.specs.declared.runs.step.Reply.TheVariants as reply;
-ghost use Rattle.wl_server.specs.declared.runs.step.Step.TheVariants as step;
+ghost use Rattle.wl_server_client.specs.NoteTimes.{IsNumbered, NotesInTime, times_of};
+ghost use Rattle.wl_server_model.specs.NoteOrder.{AllNumbered, AllInTime};
+ghost use Rattle.wl_server_model.specs.Backend.{Calls};
+ghost use Rattle.wl_server_client.specs.Felt.{Hears, removals};
+ghost use Rattle.wl_server_client.specs.Globals.{global_serial, is_enabled as global_is_enabled};
+ghost use Rattle.wl_server_model.specs.PartStep.{over};
+ghost use Rattle.wl_server_model.specs.Plain.Globals.{DisablesGlobal, RemovesGlobal};
+ghost use Rattle.wl_server_model.specs.Inside.Places.{AllFeel, PlaceFeels};
+ghost use Rattle.wl_server_model.specs.declared.step.Reply.TheVariants as reply;
+ghost use Rattle.wl_server_model.specs.declared.step.Step.TheVariants as step;
 
 use crate::backend::Backend;
-use crate::client::Client;
-use crate::events::own_events::message_of_number;
-use crate::globals::announce::put_to_each;
-use crate::globals::handler::GlobalHandler;
-use crate::globals::{KeptGlobal, disable, global_in, remove};
-use crate::ids::global_id::GlobalId;
-use crate::notes::queues::NoteNumbers;
+use crate::globals::{disable, remove};
 use wl_link::{ObjectMap, Transport};
+use wl_server_client::client::Client;
+use wl_server_client::events::own_events::message_of_number;
+use wl_server_client::globals::announce::put_to_each;
+use wl_server_client::globals::handler::GlobalHandler;
+use wl_server_client::globals::{KeptGlobal, global_in};
+use wl_server_client::ids::global_id::GlobalId;
+use wl_server_client::notes::queues::NoteNumbers;
 use wl_wire::opcodes::GLOBAL_REMOVE;
 
 /// Whether the id names a global that is not disabled.

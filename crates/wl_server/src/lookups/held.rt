@@ -2,16 +2,16 @@
 
 ghost use Rattle.std.specs.Prelude.{◌≡◌, MatchResult, None, Some, option_copied};
 ghost use Rattle.std.specs.Iterator.{YieldsFirstBy, item_count};
-ghost use Rattle.wl_server.specs.Lookups.{held_by_number, held_of_client};
+ghost use Rattle.wl_server_model.specs.Lookups.{held_by_number, held_of_client};
 
 use crate::backend::Backend;
-use crate::error::InvalidId;
-use crate::ids::client_id::ClientId;
-use crate::ids::object_id::ObjectId;
-use crate::objects::{Kept, id_at};
 use std::fmt;
 use std::marker::Model;
 use wl_link::AllObjects;
+use wl_server_client::error::InvalidId;
+use wl_server_client::ids::client_id::ClientId;
+use wl_server_client::ids::object_id::ObjectId;
+use wl_server_client::objects::{Kept, id_at};
 
 /// An iterator over the objects of a client, by ascending number: the id of each, and its user data if it has any.
 #[derive(Drop)]
@@ -31,8 +31,8 @@ impl<'a, U> fmt::Debug for AllHeldFor<'a, U> {
 impl<'a, U> Model for AllHeldFor<'a, U> {
     ghost use Rattle.std.specs.Coded.{codes};
     ghost use Rattle.std.specs.Prelude.{List, Option, map};
-    ghost use Rattle.wl_server.specs.Ids.{IdParts};
-    ghost use Rattle.wl_server.specs.Lookups.{held_at};
+    ghost use Rattle.wl_server_client.specs.Ids.{IdParts};
+    ghost use Rattle.wl_server_model.specs.Lookups.{held_at};
 
     ghost Value = { List (IdParts × Option U) };
 

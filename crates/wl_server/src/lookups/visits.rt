@@ -2,16 +2,16 @@
 
 ghost use Rattle.std.specs.Prelude.{◌≡◌, ◌≤◌, Err, MatchOption, Ok, length, option_to_list};
 ghost use Rattle.std.specs.List.{FoldsTo};
-ghost use Rattle.wl_server.specs.Lookups.{id_if_stored, live_clients, live_from, objects_of_client};
-ghost use Rattle.wl_server.specs.Inside.Walks.{ids_of};
+ghost use Rattle.wl_server_model.specs.Lookups.{id_if_stored, live_clients, live_from, objects_of_client};
+ghost use Rattle.wl_server_model.specs.Inside.Walks.{ids_of};
 
 use crate::backend::Backend;
-use crate::client::Client;
-use crate::error::InvalidId;
-use crate::ids::client_id::ClientId;
-use crate::ids::object_id::ObjectId;
-use crate::objects::{Kept, id_at};
 use wl_link::ObjectMap;
+use wl_server_client::client::Client;
+use wl_server_client::error::InvalidId;
+use wl_server_client::ids::client_id::ClientId;
+use wl_server_client::ids::object_id::ObjectId;
+use wl_server_client::objects::{Kept, id_at};
 
 /// The id of the client of a slot, if it has one that is live.
 pub(crate) fn live_at<T, U, C>(slot: u32, place: &Option<Client<T, U, C>>) -> Option<ClientId>

@@ -1,11 +1,11 @@
 //! How much waits for a client, and of it.
 
 ghost use Rattle.std.specs.Prelude.{◌≡◌, MatchResult, None, Some};
-ghost use Rattle.wl_server.specs.Lookups.{waiting_of};
+ghost use Rattle.wl_server_model.specs.Lookups.{waiting_of};
 
 use crate::backend::Backend;
-use crate::error::InvalidId;
-use crate::ids::client_id::ClientId;
+use wl_server_client::error::InvalidId;
+use wl_server_client::ids::client_id::ClientId;
 
 impl<T: Drop, U: Drop, G: Drop, C: Drop> Backend<T, U, G, C> {
     /// How much waits in the server for a client, killed or not: the bytes and the tokens of it that were received and not read

@@ -2,18 +2,18 @@
 
 ghost use Rattle.std.specs.Prelude.{◌≡◌, MatchResult, None, Some};
 ghost use Rattle.std.specs.Iterator.{YieldsFirst, item_count};
-ghost use Rattle.wl_server.specs.Lookups.{live_clients, objects_of_client};
+ghost use Rattle.wl_server_model.specs.Lookups.{live_clients, objects_of_client};
 
 use crate::backend::Backend;
-use crate::client::Client;
-use crate::error::InvalidId;
-use crate::ids::client_id::ClientId;
-use crate::ids::object_id::ObjectId;
 use crate::lookups::visits::live_at;
-use crate::objects::{Kept, id_at};
 use std::fmt;
 use std::marker::Model;
 use wl_link::AllObjects;
+use wl_server_client::client::Client;
+use wl_server_client::error::InvalidId;
+use wl_server_client::ids::client_id::ClientId;
+use wl_server_client::ids::object_id::ObjectId;
+use wl_server_client::objects::{Kept, id_at};
 
 /// An iterator over the ids of the live clients, by ascending slot.
 #[derive(Drop)]
@@ -33,8 +33,8 @@ impl<'a, T, U, C> fmt::Debug for AllClients<'a, T, U, C> {
 impl<'a, T, U, C> Model for AllClients<'a, T, U, C> {
     ghost use Rattle.std.specs.Coded.{codes};
     ghost use Rattle.std.specs.Prelude.{List, ◌+◌, ◌≤◌, length};
-    ghost use Rattle.wl_server.specs.Ids.{ClientParts};
-    ghost use Rattle.wl_server.specs.Lookups.{live_from};
+    ghost use Rattle.wl_server_client.specs.Ids.{ClientParts};
+    ghost use Rattle.wl_server_model.specs.Lookups.{live_from};
 
     ghost Value = { List ClientParts };
 
@@ -84,8 +84,8 @@ impl<'a, U> fmt::Debug for AllObjectsFor<'a, U> {
 impl<'a, U> Model for AllObjectsFor<'a, U> {
     ghost use Rattle.std.specs.Coded.{codes};
     ghost use Rattle.std.specs.Prelude.{List, map};
-    ghost use Rattle.wl_server.specs.Ids.{IdParts};
-    ghost use Rattle.wl_server.specs.Part.{id_at};
+    ghost use Rattle.wl_server_client.specs.Ids.{IdParts};
+    ghost use Rattle.wl_server_client.specs.Part.{id_at};
 
     ghost Value = { List IdParts };
 

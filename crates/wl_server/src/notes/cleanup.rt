@@ -1,32 +1,34 @@
 //! The cleanup: takes out the clients that were killed, and makes the notes that waited for it.
 //!
-//! The page of the module `notes` explains what notes are, and which of them are made, wait, or are gathered.
+//! The page of the module `notes` of `wl_server_client` explains what notes are, and which of them are made, wait, or are gathered.
 
 ghost use Rattle.std.specs.Prelude.{◌≡◌, ℕ, map, ◌+◌, ◌++◌, ◌<◌, ◌≤◌, [], length, true, IfOk, OnErr, OnOk};
 ghost use Rattle.std.specs.Vec.{vec_capacity, vec_len};
-ghost use Rattle.wl_server.specs.Backend.{Calls};
-ghost use Rattle.wl_server.specs.Inside.Cleanup.{CleansUp};
-ghost use Rattle.wl_server.specs.Inside.Gathering.{count_leaving};
-ghost use Rattle.wl_server.specs.NoteOrder.{AllNumbered, AllTakeFirst, IsOrderOf, NoneWaits, times_of};
-ghost use Rattle.wl_server.specs.Inside.NoteOrder.{count_places};
-ghost use Rattle.wl_server.specs.Inside.Leaving.{all_staying, collected, ends_at, given_at, staying};
+ghost use Rattle.wl_server_model.specs.Backend.{Calls};
+ghost use Rattle.wl_server_model.specs.Inside.Cleanup.{CleansUp};
+ghost use Rattle.wl_server_model.specs.Inside.Gathering.{count_leaving};
+ghost use Rattle.wl_server_model.specs.NoteOrder.{AllNumbered, AllTakeFirst, IsOrderOf, NoneWaits};
+ghost use Rattle.wl_server_client.specs.NoteTimes.{times_of};
+ghost use Rattle.wl_server_model.specs.Inside.NoteOrder.{count_places};
+ghost use Rattle.wl_server_model.specs.Inside.Leaving.{all_staying, collected, ends_at, given_at, staying};
 ghost use Rattle.wl_server.specs.Inside.Touched.{AllQuiet};
-ghost use Rattle.wl_server.specs.PartStep.{over};
-ghost use Rattle.wl_server.specs.Plain.{CleansUpClients};
-ghost use Rattle.wl_server.specs.declared.runs.step.Reply.TheVariants as reply;
-ghost use Rattle.wl_server.specs.declared.runs.step.Step.TheVariants as step;
+ghost use Rattle.wl_server_model.specs.PartStep.{over};
+ghost use Rattle.wl_server_model.specs.Plain.{CleansUpClients};
+ghost use Rattle.wl_server_model.specs.declared.step.Reply.TheVariants as reply;
+ghost use Rattle.wl_server_model.specs.declared.step.Step.TheVariants as step;
 
 use crate::backend::Backend;
+use crate::client::Slots;
 use crate::client::flush::flush_killed;
-use crate::client::{Client, Slots};
-use crate::globals::handler::GlobalHandler;
-use crate::ids::client_id::ClientId;
-use crate::notes::Note;
 use crate::notes::gather::{count_of, gather, is_quiet, order_of};
-use crate::notes::leaving::{count_ending, end_objects};
-use crate::notes::queues::{NoteNumbers, NotePlace};
 use std::alloc::Global;
 use wl_link::Transport;
+use wl_server_client::client::Client;
+use wl_server_client::globals::handler::GlobalHandler;
+use wl_server_client::ids::client_id::ClientId;
+use wl_server_client::notes::Note;
+use wl_server_client::notes::leaving::{count_ending, end_objects};
+use wl_server_client::notes::queues::{NoteNumbers, NotePlace};
 use wl_sets::slot_set::SlotSet;
 use wl_wire::OutOfMemory;
 

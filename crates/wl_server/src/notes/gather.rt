@@ -1,21 +1,24 @@
 //! Gathers the notes of all clients in one list, in order of time.
 //!
 //! In this file `waits` says whether the notes that wait for a cleanup are gathered, too, after those that were made.
-//! The page of the module `notes` explains these words.
+//! The page of the module `notes` of `wl_server_client` explains these words.
 
-ghost use Rattle.std.specs.Prelude.{◌≡◌, ℕ, ◌+◌, ◌++◌, ◌≤◌, ◌<◌, ◌==◌, ◌∷◌, [], if◌then◌else◌, length, map, false, None, Some, MatchOption, IfOk, IsPermutation, IsTrue, OnErr, OnOk};
+ghost use Rattle.std.specs.Prelude.{◌≡◌, ℕ, ◌+◌, ◌++◌, ◌≤◌, ◌<◌, ◌==◌, if◌then◌else◌, length, map, false, None, Some, IfOk, IsPermutation, IsTrue, OnErr, OnOk};
 ghost use Rattle.std.specs.Vec.{vec_capacity, vec_len};
-ghost use Rattle.wl_server.specs.Inside.Gathering.{AllLeft, Gathers, MovesNote, count_leaving, emptied};
-ghost use Rattle.wl_server.specs.NoteOrder.{AllNumbered, AllTakeFirst, Along, IsInOrder, IsNumbered, IsOrderOf, Rise, TakesFirst, places_at, places_of, slot_of, times_of, to_gather};
-ghost use Rattle.wl_server.specs.Inside.NoteOrder.{AreNumbered, NoneNumbered, count_places};
+ghost use Rattle.wl_server_model.specs.Inside.Gathering.{AllLeft, Gathers, MovesNote, count_leaving};
+ghost use Rattle.wl_server_model.specs.NoteOrder.{AllNumbered, AllTakeFirst, Along, IsInOrder, IsOrderOf, Rise, places_at};
+ghost use Rattle.wl_server_client.specs.NoteTimes.{IsNumbered, TakesFirst, places_of, times_of, to_gather};
+ghost use Rattle.wl_server_client.specs.Inside.NoteTimes.{AreNumbered};
+ghost use Rattle.wl_server_model.specs.Inside.NoteOrder.{NoneNumbered, count_places};
 ghost use Rattle.wl_server.specs.Inside.Touched.{AllQuiet, IsQuiet};
-ghost use Rattle.wl_server.specs.Server.{note_of as the_note};
+ghost use Rattle.wl_server_client.specs.Stored.{note_of as the_note};
 
-use crate::client::{Client, Slots};
-use crate::ids::client_id::ClientId;
-use crate::notes::queues::NotePlace;
-use crate::notes::{Happening, Note};
+use crate::client::Slots;
 use std::alloc::Global;
+use wl_server_client::client::Client;
+use wl_server_client::ids::client_id::ClientId;
+use wl_server_client::notes::queues::NotePlace;
+use wl_server_client::notes::{Happening, Note};
 use wl_sets::slot_set::SlotSet;
 use wl_wire::OutOfMemory;
 
@@ -27,26 +30,6 @@ fn note_of<U>(id: ClientId, happening: Happening<U>) -> Note<U>
         Happening::Initialized => Note::Initialized(id),
         Happening::Disconnected(reason) => Note::Disconnected(id, reason),
         Happening::Destroyed(object, user_data) => Note::Destroyed(id, object, user_data),
-    }
-}
-
-impl<T, U, C> Client<T, U, C> {
-    /// Takes the next note of the client: the oldest that was made, or if there is none and `waits` is set, the oldest
-    /// that waits.
-    fn take_note(&mut self, waits: bool) -> Option<Happening<U>>
-        ensures taken { MatchOption result ((self.new ≡ self.old) × (to_gather waits (Some self.old) ≡ []))
-            (λ h. (to_gather waits (Some self.old) ≡ h ∷ to_gather waits (Some self.new)) × (emptied waits self.new ≡ emptied waits self.old)) }
-        ensures first { TakesFirst self.old.times self.new.times }
-        ensures numbered { AreNumbered waits (Some self.new) }
-        ensures all_numbered { IsNumbered (Some self.old) → IsNumbered (Some self.new) }
-    {
-        if let Some(happening) = self.made.pop() {
-            return Some(happening);
-        }
-        if waits {
-            return self.waiting.pop();
-        }
-        None
     }
 }
 

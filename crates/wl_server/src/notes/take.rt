@@ -1,17 +1,17 @@
 //! Hands the notes out to the program.
 
-ghost use Rattle.wl_server.specs.Backend.{Calls};
-ghost use Rattle.wl_server.specs.PartStep.{over};
-ghost use Rattle.wl_server.specs.Plain.{TakesNotes};
-ghost use Rattle.wl_server.specs.declared.runs.step.Reply.TheVariants as reply;
-ghost use Rattle.wl_server.specs.declared.runs.step.Step.TheVariants as step;
+ghost use Rattle.wl_server_model.specs.Backend.{Calls};
+ghost use Rattle.wl_server_model.specs.PartStep.{over};
+ghost use Rattle.wl_server_model.specs.Plain.{TakesNotes};
+ghost use Rattle.wl_server_model.specs.declared.step.Reply.TheVariants as reply;
+ghost use Rattle.wl_server_model.specs.declared.step.Step.TheVariants as step;
 
 use crate::backend::Backend;
-use crate::globals::handler::GlobalHandler;
-use crate::notes::Note;
 use crate::notes::gather::gather_made;
 use std::mem;
 use wl_link::Transport;
+use wl_server_client::globals::handler::GlobalHandler;
+use wl_server_client::notes::Note;
 use wl_wire::OutOfMemory;
 
 impl<T: Transport + Drop, U: Drop, G: GlobalHandler<C> + Drop, C: Drop> Backend<T, U, G, C> {

@@ -1,75 +1,20 @@
 //! Objects that the program creates at a number of the client's range.
 
-ghost use Rattle.std.specs.Prelude.{◌≡◌, [], MatchBool, Some};
-ghost use Rattle.wl_link.specs.declared.object.Object.{Object as ObjectOf};
-ghost use Rattle.wl_link.specs.declared.object_map.InsertError.TheVariants as insert;
-ghost use Rattle.wl_server.specs.NoteOrder.{IsNumbered};
-ghost use Rattle.wl_server.specs.Backend.{Calls};
-ghost use Rattle.wl_server.specs.Chosen.{CreatesNumbered};
-ghost use Rattle.wl_server.specs.Inside.Choosing.{InsertsOwn};
-ghost use Rattle.wl_server.specs.Inside.Client.{Does};
-ghost use Rattle.wl_server.specs.PartStep.{lacks_create_at, over};
-ghost use Rattle.wl_server.specs.Plain.Chosen.{CreatesObjectAt};
-ghost use Rattle.wl_server.specs.declared.runs.step.Reply.TheVariants as reply;
-ghost use Rattle.wl_server.specs.declared.runs.step.Step.TheVariants as step;
+ghost use Rattle.std.specs.Prelude.{◌≡◌, Some};
+ghost use Rattle.wl_server_model.specs.Backend.{Calls};
+ghost use Rattle.wl_server_model.specs.PartStep.{lacks_create_at, over};
+ghost use Rattle.wl_server_model.specs.Plain.Chosen.{CreatesObjectAt};
+ghost use Rattle.wl_server_model.specs.declared.step.Reply.TheVariants as reply;
+ghost use Rattle.wl_server_model.specs.declared.step.Step.TheVariants as step;
 
 use crate::backend::Backend;
-use crate::client::Client;
 use crate::client::stored::stored_mut;
-use crate::error::CreateAtError;
-use crate::globals::handler::GlobalHandler;
-use crate::ids::client_id::ClientId;
-use crate::ids::object_id::ObjectId;
-use crate::objects::{Kept, fresh_object};
-use wl_link::{InsertError, Object, ObjectMap, SERVER_ID_LIMIT, Transport};
-use wl_wire::{InterfaceId, Protocol};
-
-/// Puts an object at a number of the client's range.
-fn insert_own<U: Drop>(
-    objects: &mut ObjectMap<Kept<U>>,
-    number: u32,
-    object: Object<Kept<U>>,
-) -> Result<(), InsertError>
-    ensures { InsertsOwn objects.old.store number object result objects.new.store }
-{
-    if number >= SERVER_ID_LIMIT {
-        return Err(InsertError::NotFree);
-    }
-    objects.insert_at(number, object)
-}
-
-impl<T: Drop, U: Drop, C: Drop> Client<T, U, C> {
-    /// Creates an object at this number of the client, whose id is `id`.
-    pub fn create_object_at(
-        &mut self,
-        id: &ClientId,
-        protocol: &Protocol,
-        interface: InterfaceId,
-        version: u32,
-        number: u32,
-        user_data: U,
-    ) -> Result<ObjectId, CreateAtError>
-        ensures does { Does self.old (λ p did q. (did ≡ []) × CreatesNumbered protocol.now id.now p interface version number user_data result q) self.new }
-        ensures times { self.new.times ≡ self.old.times }
-        ensures numbered { IsNumbered (Some self.old) → IsNumbered (Some self.new) }
-    {
-        if protocol.get(interface).is_none() {
-            return Err(CreateAtError::UnknownInterface);
-        }
-        let Some(serial) = self.objects.last_serial.checked_add(1) else {
-            return Err(CreateAtError::SerialsExhausted);
-        };
-        let object = fresh_object(interface, version, serial, Some(user_data));
-        match insert_own(&mut self.objects.map, number, object) {
-            Ok(()) => {
-                self.objects.last_serial = serial;
-                Ok(ObjectId::from_parts(number, serial, *id, interface))
-            }
-            Err(InsertError::NotFree) => Err(CreateAtError::NotFree),
-            Err(InsertError::OutOfMemory) => Err(CreateAtError::OutOfMemory),
-        }
-    }
-}
+use wl_link::Transport;
+use wl_server_client::error::CreateAtError;
+use wl_server_client::globals::handler::GlobalHandler;
+use wl_server_client::ids::client_id::ClientId;
+use wl_server_client::ids::object_id::ObjectId;
+use wl_wire::InterfaceId;
 
 /// Whether the creation failed for want of memory.
 fn lacks_memory(answer: &Result<ObjectId, CreateAtError>) -> bool

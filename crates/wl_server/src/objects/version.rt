@@ -1,53 +1,19 @@
 //! The version of an object.
 
-ghost use Rattle.std.specs.Prelude.{◌≡◌, false};
-ghost use Rattle.wl_server.specs.Backend.{Calls};
-ghost use Rattle.wl_server.specs.Chosen.{has_version as in_table};
-ghost use Rattle.wl_server.specs.Inside.Choosing.{SetsVersionIn};
-ghost use Rattle.wl_server.specs.PartStep.{over};
-ghost use Rattle.wl_server.specs.Plain.Chosen.{SetsObjectVersion};
-ghost use Rattle.wl_server.specs.declared.runs.step.Reply.TheVariants as reply;
-ghost use Rattle.wl_server.specs.declared.runs.step.Step.TheVariants as step;
+ghost use Rattle.std.specs.Prelude.{false};
+ghost use Rattle.wl_server_model.specs.Backend.{Calls};
+ghost use Rattle.wl_server_model.specs.PartStep.{over};
+ghost use Rattle.wl_server_model.specs.Plain.Chosen.{SetsObjectVersion};
+ghost use Rattle.wl_server_model.specs.declared.step.Reply.TheVariants as reply;
+ghost use Rattle.wl_server_model.specs.declared.step.Step.TheVariants as step;
 
 use crate::backend::Backend;
 use crate::client::stored::stored_mut;
-use crate::error::VersionError;
-use crate::globals::handler::GlobalHandler;
-use crate::ids::object_id::ObjectId;
-use crate::objects::{Kept, named_in};
-use wl_link::{ObjectMap, Transport};
-use wl_wire::{InterfaceId, Protocol};
-
-/// Whether the interface has the version: it is not 0, and not above that of the table.
-fn has_version(protocol: &Protocol, interface: InterfaceId, version: u32) -> bool
-    ensures { result ≡ in_table protocol.now interface version }
-{
-    match protocol.get(interface) {
-        Some(known) => version > 0 && version <= known.version,
-        None => false,
-    }
-}
-
-/// Sets the version of the object that the id names.
-fn set_version<U: Drop>(
-    objects: &mut ObjectMap<Kept<U>>,
-    protocol: &Protocol,
-    id: &ObjectId,
-    version: u32,
-) -> Result<(), VersionError>
-    ensures { SetsVersionIn protocol.now objects.old.store id.now version result objects.new.store }
-{
-    let Some(object) = named_in(objects, id) else {
-        return Err(VersionError::InvalidId);
-    };
-    if !has_version(protocol, object.interface, version) {
-        return Err(VersionError::UnknownVersion);
-    }
-    objects.with(id.protocol_id(), |object| {
-        object.version = version;
-    });
-    Ok(())
-}
+use wl_link::Transport;
+use wl_server_client::error::VersionError;
+use wl_server_client::globals::handler::GlobalHandler;
+use wl_server_client::ids::object_id::ObjectId;
+use wl_server_client::objects::version::set_version;
 
 impl<T: Transport + Drop, U: Drop, G: GlobalHandler<C> + Drop, C: Drop> Backend<T, U, G, C> {
     /// Sets the version of the object that the id names. From then on the requests of that version are served, and an object

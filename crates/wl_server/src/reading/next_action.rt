@@ -2,41 +2,26 @@
 
 ghost use Rattle.std.specs.Prelude.{◌≡◌, Ok, OnErr};
 ghost use Rattle.std.specs.Result.{result_and};
-ghost use Rattle.wl_server.specs.Backend.{Calls};
-ghost use Rattle.wl_server.specs.Cutting.{CallIsCut};
-ghost use Rattle.wl_server.specs.PartStep.{Asked, over};
-ghost use Rattle.wl_server.specs.Plain.Reading.{ReadsClient, ReadsWithin};
-ghost use Rattle.wl_server.specs.Reading.{new_reading};
-ghost use Rattle.wl_server.specs.ReadingEnds.{EndsForAReason};
-ghost use Rattle.wl_server.specs.Room.{HasRoom};
-ghost use Rattle.wl_server.specs.declared.reading.action.Reading.{Reading as ReadingOf};
-ghost use Rattle.wl_server.specs.declared.runs.step.Reply.TheVariants as reply;
-ghost use Rattle.wl_server.specs.declared.runs.step.Step.TheVariants as step;
+ghost use Rattle.wl_server_model.specs.Backend.{Calls};
+ghost use Rattle.wl_server_model.specs.Cutting.{CallIsCut};
+ghost use Rattle.wl_server_model.specs.PartStep.{Asked, over};
+ghost use Rattle.wl_server_model.specs.Plain.Reading.{ReadsClient, ReadsWithin};
+ghost use Rattle.wl_server_client.specs.Reading.{new_reading};
+ghost use Rattle.wl_server_model.specs.ReadingEnds.{EndsForAReason};
+ghost use Rattle.wl_server_model.specs.Room.{HasRoom};
+ghost use Rattle.wl_server_client.specs.declared.reading.action.Reading.{Reading as ReadingOf};
+ghost use Rattle.wl_server_model.specs.declared.step.Reply.TheVariants as reply;
+ghost use Rattle.wl_server_model.specs.declared.step.Step.TheVariants as step;
 
 use crate::backend::Backend;
 use crate::client::stored::stored_mut;
-use crate::error::ActionError;
-use crate::globals::handler::GlobalHandler;
-use crate::ids::client_id::ClientId;
-use crate::reading::Surroundings;
-use crate::reading::action::{Action, Reading};
 use wl_link::Transport;
+use wl_server_client::error::ActionError;
+use wl_server_client::globals::handler::GlobalHandler;
+use wl_server_client::ids::client_id::ClientId;
+use wl_server_client::reading::Surroundings;
+use wl_server_client::reading::action::{Action, Reading};
 use wl_wire::IoFault;
-
-/// How many receives a reading makes at most, if the program sets no other number.
-pub const READ_TURNS: u32 = 64;
-
-impl Reading {
-    /// A reading that may receive 64 times (`READ_TURNS`) and has read nothing.
-    pub fn new() -> Self
-        ensures { result ≡ new_reading }
-    {
-        Reading {
-            turns_left: READ_TURNS,
-            read: 0,
-        }
-    }
-}
 
 impl<T: Transport + Drop, U: Drop, G: GlobalHandler<C> + Drop, C: Drop> Backend<T, U, G, C> {
     /// Reads the next action of the client. It is open until `finish_request` or `finish_bind` ends it.

@@ -3,22 +3,22 @@
 ghost use Rattle.std.specs.Prelude.{◌≡◌, ◌++◌, Bool, List, [], true, false, IfOk, IfErr, IsOk, is_err, length};
 ghost use Rattle.wl_link.specs.Runs.{AllSame, RunEntry, entries};
 ghost use Rattle.wl_link.specs.Script.{Script};
-ghost use Rattle.wl_server.specs.declared.runs.step.Reply.{Reply};
-ghost use Rattle.wl_server.specs.declared.runs.step.Step.{Step};
-ghost use Rattle.wl_server.specs.Backend.{Calls};
-ghost use Rattle.wl_server.specs.Histories.{Extends, ExtendsUpTo};
-ghost use Rattle.wl_server.specs.PartStep.{over_scripts};
-ghost use Rattle.wl_server.specs.Inside.Performing.{IsOfAll, IsOfGlobals, IsOfObject, IsOfReading};
-ghost use Rattle.wl_server.specs.Runs.{Performs, StopsAt};
-ghost use Rattle.wl_server.specs.Server.{ServerState};
-ghost use Rattle.wl_server.specs.Steps.{IsOfScript};
-ghost use Rattle.wl_server.specs.Outcome.Whole.{SameServer, WholeReply};
+ghost use Rattle.wl_server_model.specs.declared.step.Reply.{Reply};
+ghost use Rattle.wl_server_model.specs.declared.step.Step.{Step};
+ghost use Rattle.wl_server_model.specs.Backend.{Calls};
+ghost use Rattle.wl_server_model.specs.Histories.{Extends, ExtendsUpTo};
+ghost use Rattle.wl_server_model.specs.PartStep.{over_scripts};
+ghost use Rattle.wl_server_model.specs.Inside.Performing.{IsOfAll, IsOfGlobals, IsOfObject, IsOfReading};
+ghost use Rattle.wl_server_model.specs.Runs.{Performs, StopsAt};
+ghost use Rattle.wl_server_model.specs.Server.{ServerState};
+ghost use Rattle.wl_server_model.specs.Steps.{IsOfScript};
+ghost use Rattle.wl_server_model.specs.Outcome.Whole.{SameServer, WholeReply};
 
 use crate::backend::Backend;
-use crate::globals::handler::GlobalHandler;
 use crate::runs::script::ScriptCall;
-use crate::runs::step::{Reply, Step, Stopped};
 use wl_link::Memory;
+use wl_server_client::globals::handler::GlobalHandler;
+use wl_server_model::step::{Reply, Step, Stopped};
 
 impl<U: Drop, G: GlobalHandler<C> + Drop, C: Drop> Backend<Memory, U, G, C> {
     /// Makes the call of a step that is about one object.

@@ -3,19 +3,19 @@
 //! A *token* stands for a file descriptor.
 
 ghost use Rattle.std.specs.Prelude.{◌≡◌, Ok};
-ghost use Rattle.wl_server.specs.Backend.{Calls};
-ghost use Rattle.wl_server.specs.Moves.{ScriptMoves, nothing_taken};
-ghost use Rattle.wl_server.specs.PartStep.{lacks_move, over_scripts};
+ghost use Rattle.wl_server_model.specs.Backend.{Calls};
+ghost use Rattle.wl_server_model.specs.Moves.{ScriptMoves, nothing_taken};
+ghost use Rattle.wl_server_model.specs.PartStep.{lacks_move, over_scripts};
 ghost use Rattle.wl_server.specs.Inside.Scripting.{arrived_as, move_of, reply_to, scripted_as, step_of};
-ghost use Rattle.wl_server.specs.declared.runs.step.Reply.TheVariants as reply;
-ghost use Rattle.wl_server.specs.declared.runs.step.Step.TheVariants as step;
+ghost use Rattle.wl_server_model.specs.declared.step.Reply.TheVariants as reply;
+ghost use Rattle.wl_server_model.specs.declared.step.Step.TheVariants as step;
 
 use crate::backend::Backend;
 use crate::client::stored::stored_mut;
-use crate::error::{InvalidId, ScriptError};
-use crate::globals::handler::GlobalHandler;
-use crate::ids::client_id::ClientId;
 use wl_link::{ArriveError, Memory};
+use wl_server_client::error::{InvalidId, ScriptError};
+use wl_server_client::globals::handler::GlobalHandler;
+use wl_server_client::ids::client_id::ClientId;
 use wl_wire::{IoFault, OutOfMemory, Token};
 
 /// A call that adds something to the script of a transport.

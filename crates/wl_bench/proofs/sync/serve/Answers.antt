@@ -1,5 +1,5 @@
 use Rattle.std.proofs.Common.{ap, ◌∙◌, sym}
-use Rattle.wl_server.specs.declared.error.ActionError.TheVariants.{Io}
+use Rattle.wl_server_client.specs.declared.error.ActionError.TheVariants.{Io}
 use Rattle.wl_bench.proofs.FirstAnswer.{was_answered}
 use Rattle.wl_bench.proofs.sync.serve.Goals as goal
 

@@ -1,5 +1,5 @@
 use Rattle.std.proofs.Common.{Ok, inl, inr}
-use Rattle.wl_server.specs.Backend.{IsGrowth}
+use Rattle.wl_server_model.specs.Backend.{IsGrowth}
 use Rattle.wl_host.proofs.RowsAreThere.{no_fault, rows_are_there}
 use Rattle.wl_host.proofs.TablesGrow.{client_grows, server_grows}
 use Rattle.wl_host.specs.Calls.{CoreState, world}

@@ -1,5 +1,5 @@
 use Rattle.std.proofs.Common.{inl, inr, subst, sym}
-use Rattle.wl_server.specs.Backend.{IsGrowth}
+use Rattle.wl_server_model.specs.Backend.{IsGrowth}
 use Rattle.wl_host.proofs.NothingTakenAway.{keeps-same, nothing_taken_away}
 use Rattle.wl_host.proofs.TablesGrow.{client_grows, server_grows}
 use Rattle.wl_host.specs.Calls.{CoreState, world}

@@ -1,5 +1,5 @@
 use Rattle.std.proofs.Common.{◌≡◌, ◌<◌, nat_le, refl, sym, true, arith}
-use Rattle.wl_server.proofs.GlobalCalls.AtName.{name_lacks_memory, new_named}
+use Rattle.wl_server_model.proofs.GlobalCalls.AtName.{name_lacks_memory, new_named}
 use Rattle.wl_server.proofs.globals.create.Goals as goal
 
 pub returns-in-Err-OutOfMemory-clause-answer : goal.returns-in-Err-OutOfMemory-clause-answer

@@ -1,5 +1,5 @@
 use Rattle.std.proofs.Common.{◌∙◌, ap, not, arith}
-use Rattle.wl_server.proofs.GlobalCalls.AtName.{nothing_disabled, one_disabled}
+use Rattle.wl_server_model.proofs.GlobalCalls.AtName.{nothing_disabled, one_disabled}
 use Rattle.wl_server.proofs.globals.disable.Goals as goal
 
 pub returns-then-is_none : goal.returns-then-is_none

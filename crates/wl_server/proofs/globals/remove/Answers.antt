@@ -1,5 +1,5 @@
 use Rattle.std.proofs.Common.{◌∙◌, ap, not, arith}
-use Rattle.wl_server.proofs.GlobalCalls.AtName.{nothing_freed, one_freed}
+use Rattle.wl_server_model.proofs.GlobalCalls.AtName.{nothing_freed, one_freed}
 use Rattle.wl_server.proofs.globals.remove.Goals as goal
 
 pub returns-then-is_none : goal.returns-then-is_none

@@ -1,4 +1,4 @@
-use Rattle.wl_server.proofs.CallSteps.OverScripts.{call_or_change, one_over_script, run_of_calls, run_over_script, step_over_script}
+use Rattle.wl_server_model.proofs.CallSteps.OverScripts.{call_or_change, one_over_script, run_of_calls, run_over_script, step_over_script}
 use Rattle.wl_server.proofs.laws.calls_over_scripts_are_steps.Goals as goal
 
 pub returns : goal.returns

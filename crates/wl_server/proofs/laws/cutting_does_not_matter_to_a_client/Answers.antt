@@ -1,18 +1,18 @@
-use Rattle.wl_server.proofs.OverRuns.Cut.CuttingLaws.{histories_cut, holds_at, run_holds}
-use Rattle.wl_server.specs.PartStep.{over, around}
+use Rattle.wl_server_model.proofs.OverRuns.Cut.CuttingLaws.{histories_cut, holds_at, run_holds}
+use Rattle.wl_server_model.specs.PartStep.{over, around}
 use Rattle.wl_server.proofs.laws.cutting_does_not_matter_to_a_client.Goals as goal
 use Rattle.wl_link.proofs.Readings.CuttingLaws.{finish_law, reading_law}
 use Rattle.wl_link.proofs.Readings.AnsweringLaws.{some_answered}
 use Rattle.wl_link.proofs.Readings.ServedLaws.{served_one, told_function}
 use Rattle.wl_link.specs.Served.{AsTold, state_as}
-use Rattle.wl_server.specs.Reading.{server}
+use Rattle.wl_server_client.specs.Reading.{server}
 use Rattle.std.proofs.Common.{arith}
-use Rattle.wl_server.proofs.OverRuns.Alone.IsolationLaw.{is_isolated}
-use Rattle.wl_server.proofs.OverRuns.Alone.OwnRuns.{are_mine}
-use Rattle.wl_server.specs.Globals.{new_offer}
-use Rattle.wl_server.specs.Runs.{just_inserted, mine, offer_over}
-use Rattle.wl_server.specs.Server.{seen}
-use Rattle.wl_server.specs.Telling.{reader_part}
+use Rattle.wl_server_model.proofs.OverRuns.Alone.IsolationLaw.{is_isolated}
+use Rattle.wl_server_model.proofs.OverRuns.Alone.OwnRuns.{are_mine}
+use Rattle.wl_server_client.specs.Globals.{new_offer}
+use Rattle.wl_server_model.specs.Runs.{just_inserted, mine, offer_over}
+use Rattle.wl_server_model.specs.Server.{seen}
+use Rattle.wl_server_client.specs.Telling.{reader_part}
 
 pub returns : goal.returns
 returns g c = record {

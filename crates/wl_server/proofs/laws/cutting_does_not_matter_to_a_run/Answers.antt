@@ -1,4 +1,4 @@
-use Rattle.wl_server.proofs.OverRuns.Cut.StretchLaws.{cut_otherwise, stretch_served, within_stretch}
+use Rattle.wl_server_model.proofs.OverRuns.Cut.StretchLaws.{cut_otherwise, stretch_served, within_stretch}
 use Rattle.wl_server.proofs.laws.cutting_does_not_matter_to_a_run.Goals as goal
 
 pub returns : goal.returns

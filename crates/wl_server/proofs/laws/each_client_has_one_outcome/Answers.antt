@@ -1,7 +1,7 @@
-use Rattle.wl_server.proofs.OverRuns.Outcome.MoveLaws.{scripts_determined, transport_determined}
-use Rattle.wl_server.proofs.OverRuns.Outcome.OfferLaws.{offers_one}
-use Rattle.wl_server.proofs.OverRuns.Outcome.PartOutcome.{call_one}
-use Rattle.wl_server.proofs.OverRuns.Outcome.RunOutcome.{alone_one, client_one}
+use Rattle.wl_server_model.proofs.OverRuns.Outcome.MoveLaws.{scripts_determined, transport_determined}
+use Rattle.wl_server_model.proofs.OverRuns.Outcome.OfferLaws.{offers_one}
+use Rattle.wl_server_model.proofs.OverRuns.Outcome.PartOutcome.{call_one}
+use Rattle.wl_server_model.proofs.OverRuns.Outcome.RunOutcome.{alone_one, client_one}
 use Rattle.wl_server.proofs.laws.each_client_has_one_outcome.Goals as goal
 
 pub returns : goal.returns

@@ -1,4 +1,4 @@
-use Rattle.wl_server.proofs.OverRuns.Alone.IsolationLaw.{is_isolated}
+use Rattle.wl_server_model.proofs.OverRuns.Alone.IsolationLaw.{is_isolated}
 use Rattle.wl_server.proofs.laws.each_client_is_alone.Goals as goal
 
 pub returns : goal.returns

@@ -1,8 +1,8 @@
 use Rattle.wl_link.specs.ScriptLaws.{script_within_offer}
-use Rattle.wl_server.proofs.OverRuns.Alone.AccountLaws.{is_accounted_for}
+use Rattle.wl_server_model.proofs.OverRuns.Alone.AccountLaws.{is_accounted_for}
 use Rattle.wl_server.proofs.laws.each_client_of_a_script_is_accounted_for.Goals as goal
-use Rattle.wl_server.proofs.OverRuns.Alone.IsolationLaw.{performed}
-use Rattle.wl_server.specs.Server.{new_server}
+use Rattle.wl_server_model.proofs.OverRuns.Alone.IsolationLaw.{performed}
+use Rattle.wl_server_model.specs.Server.{new_server}
 
 pub returns : goal.returns
 returns g c = record {

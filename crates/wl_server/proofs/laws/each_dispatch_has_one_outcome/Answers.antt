@@ -1,5 +1,5 @@
-use Rattle.wl_server.proofs.OverRuns.Outcome.DispatchLaws.{dispatch_one, dispatches_one, spared_dispatch_one, spared_dispatches_one}
-use Rattle.wl_server.proofs.OverRuns.Outcome.MoveLaws.{transport_determined}
+use Rattle.wl_server_model.proofs.OverRuns.Outcome.DispatchLaws.{dispatch_one, dispatches_one, spared_dispatch_one, spared_dispatches_one}
+use Rattle.wl_server_model.proofs.OverRuns.Outcome.MoveLaws.{transport_determined}
 use Rattle.wl_server.proofs.laws.each_dispatch_has_one_outcome.Goals as goal
 
 pub returns : goal.returns

@@ -1,4 +1,4 @@
-use Rattle.wl_server.proofs.OverRuns.Ids.IdentityLaws.{each_has_own_ids}
+use Rattle.wl_server_model.proofs.OverRuns.Ids.IdentityLaws.{each_has_own_ids}
 use Rattle.wl_server.proofs.laws.each_id_names_its_own_object.Goals as goal
 
 pub returns : goal.returns

@@ -1,4 +1,4 @@
-use Rattle.wl_server.proofs.OverRuns.Noted.NotedLaws.{each_is_noted, each_note_is_of_an_end, end_same}
+use Rattle.wl_server_model.proofs.OverRuns.Noted.NotedLaws.{each_is_noted, each_note_is_of_an_end, end_same}
 use Rattle.wl_server.proofs.laws.each_object_that_leaves_is_noted_once.Goals as goal
 use Rattle.std.proofs.Common.{arith, true≢false}
 use Rattle.wl_link.proofs.Calls.Branches.{either_bool, either_option}

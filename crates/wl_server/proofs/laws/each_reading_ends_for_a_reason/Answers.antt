@@ -1,4 +1,4 @@
-use Rattle.wl_server.proofs.Plain.ReadingEnds.{reading_ends}
+use Rattle.wl_server_model.proofs.Plain.ReadingEnds.{reading_ends}
 use Rattle.wl_server.proofs.laws.each_reading_ends_for_a_reason.Goals as goal
 
 pub returns : goal.returns

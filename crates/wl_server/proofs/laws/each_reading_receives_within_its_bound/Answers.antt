@@ -1,7 +1,7 @@
-use Rattle.wl_server.specs.PartStep.{over}
-use Rattle.wl_server.proofs.Dispatches.Receiving.{dispatch_bounded, parts_bounded, keeps_to}
+use Rattle.wl_server_model.specs.PartStep.{over}
+use Rattle.wl_server_model.proofs.Dispatches.Receiving.{dispatch_bounded, parts_bounded, keeps_to}
 use Rattle.wl_server.proofs.laws.each_reading_receives_within_its_bound.Goals as goal
-use Rattle.wl_server.specs.Server.{seen}
+use Rattle.wl_server_model.specs.Server.{seen}
 
 pub returns : goal.returns
 returns g c = record {

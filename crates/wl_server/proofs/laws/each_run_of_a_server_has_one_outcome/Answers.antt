@@ -1,16 +1,16 @@
 use Rattle.wl_wire.proofs.Extension.{AnswersExtension-unique}
 use Rattle.wl_wire.proofs.Growth.{AnswersGrowth-unique}
-use Rattle.wl_server.proofs.OverRuns.Outcome.MoveLaws.{scripts_determined, transport_determined}
-use Rattle.wl_server.proofs.OverRuns.Outcome.NumberLaws.{inserts_next_one, global_is}
-use Rattle.wl_server.proofs.OverRuns.Outcome.WholeLaws.{shares_one, client_one, live_one, object_one, slots_same}
-use Rattle.wl_server.proofs.OverRuns.Outcome.WholeRuns.{performance_one, run_one}
+use Rattle.wl_server_model.proofs.OverRuns.Outcome.MoveLaws.{scripts_determined, transport_determined}
+use Rattle.wl_server_model.proofs.OverRuns.Outcome.NumberLaws.{inserts_next_one, global_is}
+use Rattle.wl_server_model.proofs.OverRuns.Outcome.WholeLaws.{shares_one, client_one, live_one, object_one, slots_same}
+use Rattle.wl_server_model.proofs.OverRuns.Outcome.WholeRuns.{performance_one, run_one}
 use Rattle.wl_server.proofs.laws.each_run_of_a_server_has_one_outcome.Goals as goal
 use Rattle.std.proofs.Common.{arith}
 use Rattle.std.specs.Prelude.{option_map, nat_le, slice_get}
 use Rattle.wl_link.specs.Store.{held}
-use Rattle.wl_server.specs.Lookups.{and_then, global_info_of, id_if, info_at, name_if}
+use Rattle.wl_server_model.specs.Lookups.{and_then, global_info_of, id_if, info_at, name_if}
 use Rattle.wl_link.proofs.Calls.NumberLaws.{full_not_absent, least_absent_one}
-use Rattle.wl_server.specs.Globals.{name_range}
+use Rattle.wl_server_client.specs.Globals.{name_range}
 
 pub returns : goal.returns
 returns g c = record {

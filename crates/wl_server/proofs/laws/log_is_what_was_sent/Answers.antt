@@ -1,4 +1,4 @@
-use Rattle.wl_server.proofs.OverRuns.Log.LogLaws.{each_log}
+use Rattle.wl_server_model.proofs.OverRuns.Log.LogLaws.{each_log}
 use Rattle.wl_server.proofs.laws.log_is_what_was_sent.Goals as goal
 
 pub returns : goal.returns

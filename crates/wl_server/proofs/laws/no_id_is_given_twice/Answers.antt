@@ -1,4 +1,4 @@
-use Rattle.wl_server.proofs.OverRuns.Ids.GivenLaws.{gives_once}
+use Rattle.wl_server_model.proofs.OverRuns.Ids.GivenLaws.{gives_once}
 use Rattle.wl_server.proofs.laws.no_id_is_given_twice.Goals as goal
 
 pub returns : goal.returns

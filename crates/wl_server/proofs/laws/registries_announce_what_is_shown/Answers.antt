@@ -1,4 +1,4 @@
-use Rattle.wl_server.proofs.OverRuns.Announced.AnnouncedLaw.{each_announces}
+use Rattle.wl_server_model.proofs.OverRuns.Announced.AnnouncedLaw.{each_announces}
 use Rattle.wl_server.proofs.laws.registries_announce_what_is_shown.Goals as goal
 
 pub returns : goal.returns

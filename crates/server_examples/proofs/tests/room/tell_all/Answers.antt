@@ -1,5 +1,5 @@
 use Rattle.std.proofs.Common.{refl}
-use Rattle.wl_server.proofs.Dispatches.Joining.{reached_then}
+use Rattle.wl_server_model.proofs.Dispatches.Joining.{reached_then}
 use Rattle.server_examples.proofs.tests.room.tell_all.Goals as goal
 
 pub returns-in_err-send_event : goal.returns-in_err-send_event

@@ -1,7 +1,7 @@
 use Rattle.std.proofs.Common.{◌≡◌, ◌∙◌, ◌++◌, ◌∷◌, ℕ, List, Option, [], ap, append-nil, append_assoc, arith, length, length-append, map, min, refl, rules, sym}
 use Rattle.std.proofs.lemmas.List.{length-map, map-append}
 use Rattle.std.specs.Prelude.{option_copied}
-use Rattle.wl_server.specs.Ids.{IdParts}
+use Rattle.wl_server_client.specs.Ids.{IdParts}
 use Rattle.wl_host.proofs.Filling.{count-next, filled-next, filled_none}
 use Rattle.wl_host.specs.Held.{flat_held}
 use Rattle.wl_host.specs.Lists.{filled}

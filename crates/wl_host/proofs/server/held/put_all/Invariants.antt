@@ -1,5 +1,5 @@
 use Rattle.std.proofs.Common.{◌≡◌, ◌++◌, ℕ, List, Option, length, map, min}
-use Rattle.wl_server.specs.Ids.{IdParts}
+use Rattle.wl_server_client.specs.Ids.{IdParts}
 use Rattle.wl_host.specs.Held.{flat_held}
 use Rattle.wl_host.specs.Lists.{filled}
 use Rattle.wl_host.proofs.server.held.put_all.Given as goal

@@ -1,5 +1,5 @@
 use Rattle.wl_host.specs.Actions.{refusal_text}
-use Rattle.wl_server.specs.Deeds.{handed}
+use Rattle.wl_server_client.specs.Deeds.{handed}
 use Rattle.wl_host.proofs.server.refusals.refuse.Goals as goal
 
 pub returns : goal.returns

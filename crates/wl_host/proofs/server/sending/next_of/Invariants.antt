@@ -1,5 +1,5 @@
 use Rattle.std.proofs.Common.{◌≡◌, ℕ, List, Option, Result, length}
-use Rattle.wl_server.specs.Ids.{ClientParts}
+use Rattle.wl_server_client.specs.Ids.{ClientParts}
 use Rattle.wl_wire.specs.declared.error.OutOfMemory.{OutOfMemory}
 use Rattle.wl_host.specs.Calls.{CoreState}
 use Rattle.wl_host.specs.Server.{AsksInTurn}

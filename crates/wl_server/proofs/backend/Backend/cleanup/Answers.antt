@@ -1,10 +1,10 @@
 use Rattle.std.proofs.Common.{◌∙◌, ap, arith, length, refl, sym}
 use Rattle.std.proofs.lemmas.List.{length-map}
 use Rattle.wl_server.proofs.CallSteps.Kept.{with_plain}
-use Rattle.wl_server.proofs.CallSteps.Numbering.{numbers_left, waiting_anew}
-use Rattle.wl_server.proofs.CleanupSteps.CleaningUp.{cleaned_up, cleanup_starved}
-use Rattle.wl_server.proofs.CleanupSteps.Taken.{none_taken}
-use Rattle.wl_server.proofs.Plain.Clients.{cleans_up}
+use Rattle.wl_server_model.proofs.CallSteps.Numbering.{numbers_left, waiting_anew}
+use Rattle.wl_server_model.proofs.CleanupSteps.CleaningUp.{cleaned_up, cleanup_starved}
+use Rattle.wl_server_model.proofs.CleanupSteps.Taken.{none_taken}
+use Rattle.wl_server_model.proofs.Plain.Clients.{cleans_up}
 use Rattle.wl_server.proofs.Touched.Gathered.{quiet_cleaned, sent_cleaned}
 use Rattle.wl_server.proofs.backend.Backend.cleanup.Goals as goal
 

@@ -5,7 +5,7 @@ use Rattle.std.proofs.lemmas.Bool.{eq-eqb, ne_eqb}
 use Rattle.wl_server.proofs.backend.Backend.client.Goals as goal
 use Rattle.std.specs.Option.{option_map_or}
 use Rattle.std.specs.Prelude.{slice_get}
-use Rattle.wl_server.specs.Server.{if_serial}
+use Rattle.wl_server_model.specs.Server.{if_serial}
 
 pub returns-in_err-get : goal.returns-in_err-get
 returns-in_err-get g c = grind (arith, common_steps, if_serial, option_map_or, slice_get, slice_get_past)

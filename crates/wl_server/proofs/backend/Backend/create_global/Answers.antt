@@ -1,15 +1,15 @@
 use Rattle.std.proofs.Common.{◌≡◌, ◌∙◌, ℕ, Err, false, refl, sym}
 use Rattle.std.proofs.lemmas.List.{with_items_is}
 use Rattle.wl_wire.specs.declared.interface.InterfaceId.{InterfaceId}
-use Rattle.wl_server.specs.declared.error.GlobalError.{GlobalError}
-use Rattle.wl_server.specs.declared.error.GlobalError.TheVariants as refused
-use Rattle.wl_server.specs.PartStep.{Asked}
-use Rattle.wl_server.specs.Steps.{lacks_growth}
-use Rattle.wl_server.specs.declared.runs.step.Reply.TheVariants as reply
-use Rattle.wl_server.specs.declared.runs.step.Step.TheVariants as step
-use Rattle.wl_server.proofs.CallSteps.Feeling.{felt_call, unfelt_call}
+use Rattle.wl_server_client.specs.declared.error.GlobalError.{GlobalError}
+use Rattle.wl_server_client.specs.declared.error.GlobalError.TheVariants as refused
+use Rattle.wl_server_model.specs.PartStep.{Asked}
+use Rattle.wl_server_model.specs.Steps.{lacks_growth}
+use Rattle.wl_server_model.specs.declared.step.Reply.TheVariants as reply
+use Rattle.wl_server_model.specs.declared.step.Step.TheVariants as step
+use Rattle.wl_server_model.proofs.CallSteps.Feeling.{felt_call, unfelt_call}
 use Rattle.wl_server.proofs.CallSteps.Kept.{kept_felt, with_globals, with_plain}
-use Rattle.wl_server.proofs.Plain.Globals.{offers_global}
+use Rattle.wl_server_model.proofs.Plain.Globals.{offers_global}
 use Rattle.wl_server.proofs.Touched.Kept.{all_touched}
 use Rattle.wl_server.proofs.backend.Backend.create_global.Goals as goal
 use Rattle.wl_server.proofs.backend.Backend.create_global.Goals.{in-OutOfMemory, in_default}

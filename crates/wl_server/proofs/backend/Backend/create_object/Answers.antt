@@ -1,8 +1,8 @@
 use Rattle.std.proofs.Common.{refl}
 use Rattle.wl_server.proofs.CallSteps.Kept.{kept_written, with_plain}
-use Rattle.wl_server.proofs.CallSteps.Numbering.{in_time_same}
+use Rattle.wl_server_client.proofs.CallSteps.Numbers.{in_time_same}
 use Rattle.wl_server.proofs.CallSteps.OneClient.{done_to, none_stored}
-use Rattle.wl_server.proofs.Plain.Objects.{creates_object}
+use Rattle.wl_server_model.proofs.Plain.Objects.{creates_object}
 use Rattle.wl_server.proofs.backend.Backend.create_object.Goals as goal
 
 pub returns-in_default : goal.returns-in_default

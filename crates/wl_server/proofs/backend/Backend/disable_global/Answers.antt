@@ -1,9 +1,9 @@
 use Rattle.std.proofs.Common.{◌∙◌, refl, sym}
 use Rattle.std.proofs.lemmas.List.{with_items_is}
 use Rattle.wl_link.proofs.Calls.Branches.{at_false, at_true}
-use Rattle.wl_server.proofs.CallSteps.Feeling.{felt_call, unfelt_call}
+use Rattle.wl_server_model.proofs.CallSteps.Feeling.{felt_call, unfelt_call}
 use Rattle.wl_server.proofs.CallSteps.Kept.{kept_felt, with_globals, with_plain}
-use Rattle.wl_server.proofs.Plain.Globals.{disables_global}
+use Rattle.wl_server_model.proofs.Plain.Globals.{disables_global}
 use Rattle.wl_server.proofs.Touched.Kept.{all_touched}
 use Rattle.wl_server.proofs.backend.Backend.disable_global.Goals as goal
 

@@ -1,9 +1,9 @@
 use Rattle.std.proofs.Common.{arith}
-use Rattle.wl_server.specs.Dispatch.{answering}
-use Rattle.wl_server.specs.PartStep.{over}
+use Rattle.wl_server_model.specs.Dispatch.{answering}
+use Rattle.wl_server_model.specs.PartStep.{over}
 use Rattle.wl_server.proofs.CallSteps.Kept.{with_plain}
-use Rattle.wl_server.proofs.Dispatches.Serving.{all_served, dispatches_all, one_more, each_none}
-use Rattle.wl_server.proofs.Plain.Dispatch.{dispatches_leave}
+use Rattle.wl_server_model.proofs.Dispatches.Serving.{all_served, dispatches_all, one_more, each_none}
+use Rattle.wl_server_model.proofs.Plain.Dispatch.{dispatches_leave}
 use Rattle.wl_server.proofs.backend.Backend.dispatch_all_clients.Goals as goal
 
 pub loop-client-init : goal.loop-client-init

@@ -1,7 +1,7 @@
 use Rattle.std.proofs.Common.{false, take}
-use Rattle.wl_server.specs.Dispatch.{answering}
-use Rattle.wl_server.specs.Inside.Dispatching.{ClientsSoFar}
-use Rattle.wl_server.specs.PartStep.{over}
+use Rattle.wl_server_model.specs.Dispatch.{answering}
+use Rattle.wl_server_model.specs.Inside.Dispatching.{ClientsSoFar}
+use Rattle.wl_server_model.specs.PartStep.{over}
 use Rattle.wl_server.proofs.backend.Backend.dispatch_all_clients.Given as goal
 
 abbrev pub invariant-loop-client : goal.invariant-loop-client

@@ -1,6 +1,6 @@
 use Rattle.wl_server.proofs.CallSteps.Kept.{with_plain}
-use Rattle.wl_server.proofs.Dispatches.Serving.{dispatches_client}
-use Rattle.wl_server.proofs.Plain.Dispatch.{dispatch_leaves}
+use Rattle.wl_server_model.proofs.Dispatches.Serving.{dispatches_client}
+use Rattle.wl_server_model.proofs.Plain.Dispatch.{dispatch_leaves}
 use Rattle.wl_server.proofs.backend.Backend.dispatch_single_client.Goals as goal
 
 pub returns : goal.returns

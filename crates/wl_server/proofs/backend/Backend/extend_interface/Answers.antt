@@ -1,9 +1,9 @@
 use Rattle.std.proofs.Common.{refl, arith, true≢false}
 use Rattle.wl_wire.specs.Table.{LongerRow, extension_of, refused_growth}
-use Rattle.wl_server.specs.Server.{seen}
-use Rattle.wl_server.specs.Steps.{lacks_growth}
-use Rattle.wl_server.proofs.CallSteps.Feeling.{makes_unfelt}
-use Rattle.wl_server.proofs.OverRuns.Alone.AccountLaws.{growth_lacked, is_growth}
+use Rattle.wl_server_model.specs.Server.{seen}
+use Rattle.wl_server_model.specs.Steps.{lacks_growth}
+use Rattle.wl_server_model.proofs.CallSteps.Feeling.{makes_unfelt}
+use Rattle.wl_server_model.proofs.OverRuns.Alone.AccountLaws.{growth_lacked, is_growth}
 use Rattle.wl_server.proofs.backend.Backend.extend_interface.Goals as goal
 
 pub returns-clause-call : goal.returns-clause-call

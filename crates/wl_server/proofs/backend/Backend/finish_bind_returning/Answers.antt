@@ -1,9 +1,9 @@
 use Rattle.std.proofs.Common.{false, refl, ap}
-use Rattle.wl_server.proofs.CallSteps.Numbering.{in_time_same}
-use Rattle.wl_server.proofs.OverRuns.Cut.CuttingLaws.{histories_cut}
+use Rattle.wl_server_client.proofs.CallSteps.Numbers.{in_time_same}
+use Rattle.wl_server_model.proofs.OverRuns.Cut.CuttingLaws.{histories_cut}
 use Rattle.wl_server.proofs.CallSteps.OneClient.{done_to, none_stored}
-use Rattle.wl_server.proofs.Plain.Actions.{ends_bind, bind_returns}
-use Rattle.wl_server.specs.Server.{Stored}
+use Rattle.wl_server_model.proofs.Plain.Actions.{ends_bind, bind_returns}
+use Rattle.wl_server_client.specs.Stored.{Stored}
 use Rattle.wl_server.proofs.CallSteps.Kept.{kept_written, with_data}
 use Rattle.wl_server.proofs.backend.Backend.finish_bind_returning.Goals as goal
 

@@ -1,8 +1,8 @@
 use Rattle.std.proofs.Common.{refl, ap}
-use Rattle.wl_server.proofs.OverRuns.Cut.CuttingLaws.{histories_cut}
+use Rattle.wl_server_model.proofs.OverRuns.Cut.CuttingLaws.{histories_cut}
 use Rattle.wl_server.proofs.CallSteps.OneClient.{done_to, none_stored}
-use Rattle.wl_server.proofs.Plain.Actions.{ends_open_request, request_returns}
-use Rattle.wl_server.specs.Server.{Stored}
+use Rattle.wl_server_model.proofs.Plain.Actions.{ends_open_request, request_returns}
+use Rattle.wl_server_client.specs.Stored.{Stored}
 use Rattle.wl_server.proofs.CallSteps.Kept.{kept_written, with_data}
 use Rattle.wl_server.proofs.backend.Backend.finish_request_returning.Goals as goal
 

@@ -1,9 +1,10 @@
 use Rattle.std.proofs.Common.{arith, refl}
-use Rattle.wl_server.proofs.CallSteps.Feeling.{felt_call}
+use Rattle.wl_server_model.proofs.CallSteps.Feeling.{felt_call}
 use Rattle.wl_server.proofs.CallSteps.Kept.{kept_felt, kept_written, with_plain}
-use Rattle.wl_server.proofs.CallSteps.Numbering.{all_same, in_time_same}
+use Rattle.wl_server_model.proofs.CallSteps.Numbering.{all_same}
+use Rattle.wl_server_client.proofs.CallSteps.Numbers.{in_time_same}
 use Rattle.wl_server.proofs.CallSteps.OneClient.{done_to, none_stored}
-use Rattle.wl_server.proofs.Plain.Clients.{flushes_clients}
+use Rattle.wl_server_model.proofs.Plain.Clients.{flushes_clients}
 use Rattle.wl_server.proofs.backend.Backend.flush.Goals as goal
 
 pub returns-in_default : goal.returns-in_default

@@ -1,6 +1,6 @@
 use Rattle.std.proofs.Common.{refl}
-use Rattle.wl_server.proofs.Dispatches.Joining.{reached_none}
-use Rattle.wl_server.proofs.Dispatches.Serving.{handles_by}
+use Rattle.wl_server_model.proofs.Dispatches.Joining.{reached_none}
+use Rattle.wl_server_model.proofs.Dispatches.Serving.{handles_by}
 use Rattle.wl_server.proofs.backend.Backend.handle.Goals as goal
 
 pub returns-in-Ok : goal.returns-in-Ok

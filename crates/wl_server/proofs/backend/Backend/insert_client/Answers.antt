@@ -1,7 +1,7 @@
 use Rattle.wl_server.proofs.CallSteps.Kept.{with_plain}
-use Rattle.wl_server.proofs.ObjectCalls.Inserting.{inserted, insertion_starved, least_within, not_inserted}
-use Rattle.wl_server.proofs.CleanupSteps.Taken.{taken_put}
-use Rattle.wl_server.proofs.Plain.Clients.{inserts_client}
+use Rattle.wl_server_model.proofs.ObjectCalls.Inserting.{inserted, insertion_starved, least_within, not_inserted}
+use Rattle.wl_server_model.proofs.CleanupSteps.Taken.{taken_put}
+use Rattle.wl_server_model.proofs.Plain.Clients.{inserts_client}
 use Rattle.wl_server.proofs.backend.Backend.insert_client.Goals as goal
 
 pub returns-in_default : goal.returns-in_default

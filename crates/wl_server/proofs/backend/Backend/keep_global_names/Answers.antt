@@ -1,5 +1,5 @@
 use Rattle.std.proofs.Common.{refl}
-use Rattle.wl_server.proofs.CallSteps.Feeling.{unfelt_call}
+use Rattle.wl_server_model.proofs.CallSteps.Feeling.{unfelt_call}
 use Rattle.wl_server.proofs.backend.Backend.keep_global_names.Goals as goal
 
 pub returns-clause-call : goal.returns-clause-call

@@ -1,6 +1,6 @@
 use Rattle.std.proofs.Common.{arith, refl}
-use Rattle.wl_server.proofs.CallSteps.Numbering.{no_numbers}
-use Rattle.wl_server.proofs.CleanupSteps.Taken.{none_taken}
+use Rattle.wl_server_model.proofs.CallSteps.Numbering.{no_numbers}
+use Rattle.wl_server_model.proofs.CleanupSteps.Taken.{none_taken}
 use Rattle.wl_server.proofs.Touched.Kept.{none_touched}
 use Rattle.wl_server.proofs.backend.Backend.new.Goals as goal
 

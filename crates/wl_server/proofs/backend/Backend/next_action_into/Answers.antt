@@ -1,10 +1,10 @@
-use Rattle.wl_server.proofs.OverRuns.Cut.CuttingLaws.{histories_cut}
-use Rattle.wl_server.proofs.Plain.Reading.{next_action_ends, next_action_reads}
+use Rattle.wl_server_model.proofs.OverRuns.Cut.CuttingLaws.{histories_cut}
+use Rattle.wl_server_model.proofs.Plain.Reading.{next_action_ends, next_action_reads}
 use Rattle.wl_server.proofs.backend.Backend.next_action_into.Goals as goal
 use Rattle.std.proofs.Common.{arith}
-use Rattle.wl_server.specs.Reading.{action_content, new_reading}
-use Rattle.wl_server.specs.Server.{seen}
-use Rattle.wl_server.proofs.OverRuns.Cut.RoomLaws.{reads_for_room}
+use Rattle.wl_server_client.specs.Reading.{action_content, new_reading}
+use Rattle.wl_server_model.specs.Server.{seen}
+use Rattle.wl_server_model.proofs.OverRuns.Cut.RoomLaws.{reads_for_room}
 
 pub returns : goal.returns
 returns g c =

@@ -1,6 +1,6 @@
 use Rattle.std.proofs.Common.{Some, arith, inr, refl}
-use Rattle.wl_server.specs.Server.{stored_at}
-use Rattle.wl_server.proofs.OverRuns.Outcome.NumberLaws.{client_is_as_told}
+use Rattle.wl_server_model.specs.Server.{stored_at}
+use Rattle.wl_server_model.proofs.OverRuns.Outcome.NumberLaws.{client_is_as_told}
 use Rattle.wl_server.proofs.backend.Backend.next_client_id.Goals as goal
 
 pub returns-then-self : goal.returns-then-self

@@ -1,12 +1,12 @@
 use Rattle.std.proofs.Common.{is_some, refl, arith}
 use Rattle.std.proofs.lemmas.Grind.{common_steps}
 use Rattle.std.specs.Option.{option_map}
-use Rattle.wl_server.specs.Errors.{PostsError}
-use Rattle.wl_server.specs.Posted.{PostsOn}
+use Rattle.wl_server_client.specs.Errors.{PostsError}
+use Rattle.wl_server_client.specs.Posted.{PostsOn}
 use Rattle.wl_server.proofs.CallSteps.Kept.{kept_written}
 use Rattle.wl_server.proofs.CallSteps.OneClient.{done_to, none_stored}
-use Rattle.wl_server.proofs.ObjectCalls.Told.{at_slot}
-use Rattle.wl_server.proofs.Plain.Clients.{kills_for_error}
+use Rattle.wl_server_model.proofs.ObjectCalls.Told.{at_slot}
+use Rattle.wl_server_model.proofs.Plain.Clients.{kills_for_error}
 use Rattle.wl_server.proofs.backend.Backend.post_error.Goals as goal
 
 exactly_too : {A B E : Type 0} → (A → B) → E → A → record { call : A; plain : B; exactly : E }

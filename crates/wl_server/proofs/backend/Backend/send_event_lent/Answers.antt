@@ -1,7 +1,7 @@
 use Rattle.std.proofs.Common.{refl}
 use Rattle.wl_server.proofs.CallSteps.Kept.{kept_written, with_plain}
 use Rattle.wl_server.proofs.CallSteps.OneClient.{done_to, none_stored}
-use Rattle.wl_server.proofs.Plain.Events.{emits_event}
+use Rattle.wl_server_model.proofs.Plain.Events.{emits_event}
 use Rattle.wl_server.proofs.backend.Backend.send_event_lent.Goals as goal
 
 pub returns-in_default : goal.returns-in_default

@@ -1,6 +1,6 @@
 use Rattle.std.proofs.Common.{arith}
 use Rattle.std.proofs.lemmas.Grind.{common_steps}
-use Rattle.wl_server.proofs.Dispatches.Serving.{all_end, so_far_joins, so_far_none}
+use Rattle.wl_server_model.proofs.Dispatches.Serving.{all_end, so_far_joins, so_far_none}
 use Rattle.wl_server.proofs.backend.Backend.serve.Goals as goal
 
 pub loop-fault-init : goal.loop-fault-init

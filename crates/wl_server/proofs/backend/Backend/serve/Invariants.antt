@@ -1,7 +1,7 @@
-use Rattle.wl_server.specs.Dispatch.{answering}
-use Rattle.wl_server.specs.Inside.Dispatching.{RoundsSoFar}
-use Rattle.wl_server.specs.PartStep.{over}
-use Rattle.wl_server.specs.Reading.{new_reading}
+use Rattle.wl_server_model.specs.Dispatch.{answering}
+use Rattle.wl_server_model.specs.Inside.Dispatching.{RoundsSoFar}
+use Rattle.wl_server_model.specs.PartStep.{over}
+use Rattle.wl_server_client.specs.Reading.{new_reading}
 use Rattle.wl_server.proofs.backend.Backend.serve.Given as goal
 
 abbrev pub invariant-loop-fault : goal.invariant-loop-fault

@@ -1,7 +1,7 @@
 use Rattle.std.proofs.Common.{arith, None, Some, ap, refl}
-use Rattle.wl_server.specs.Dispatch.{answering}
-use Rattle.wl_server.specs.PartStep.{over}
-use Rattle.wl_server.proofs.Dispatches.Serving.{serves_handled, serves_last}
+use Rattle.wl_server_model.specs.Dispatch.{answering}
+use Rattle.wl_server_model.specs.PartStep.{over}
+use Rattle.wl_server_model.proofs.Dispatches.Serving.{serves_handled, serves_last}
 use Rattle.wl_server.proofs.backend.Backend.serve_action.Goals as goal
 
 pub returns-in-Err : goal.returns-in-Err

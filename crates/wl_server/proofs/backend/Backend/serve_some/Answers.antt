@@ -1,6 +1,6 @@
 use Rattle.std.proofs.Common.{arith}
 use Rattle.std.proofs.lemmas.Grind.{common_steps}
-use Rattle.wl_server.proofs.Dispatches.Serving.{so_far_more, so_far_none, some_end, some_rounds}
+use Rattle.wl_server_model.proofs.Dispatches.Serving.{so_far_more, so_far_none, some_end, some_rounds}
 use Rattle.wl_server.proofs.backend.Backend.serve_some.Goals as goal
 
 pub loop-fault-init : goal.loop-fault-init

@@ -1,7 +1,7 @@
 use Rattle.std.proofs.Common.{◌≡◌}
-use Rattle.wl_server.specs.Dispatch.{answering}
-use Rattle.wl_server.specs.Inside.Dispatching.{RoundsSoFar, waiting_of}
-use Rattle.wl_server.specs.PartStep.{over}
+use Rattle.wl_server_model.specs.Dispatch.{answering}
+use Rattle.wl_server_model.specs.Inside.Dispatching.{RoundsSoFar, waiting_of}
+use Rattle.wl_server_model.specs.PartStep.{over}
 use Rattle.wl_server.proofs.backend.Backend.serve_some.Given as goal
 
 abbrev pub invariant-loop-fault : goal.invariant-loop-fault

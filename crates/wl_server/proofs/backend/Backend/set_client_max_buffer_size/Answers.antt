@@ -1,16 +1,16 @@
 use Rattle.std.proofs.Common.{◌≡◌, ℕ, Some, false, refl}
 use Rattle.wl_link.specs.Link.{LimitSet, LinkState}
-use Rattle.wl_server.specs.Part.{with_link}
-use Rattle.wl_server.specs.PartStep.{Quietly}
-use Rattle.wl_server.specs.Ids.{ClientParts}
-use Rattle.wl_server.specs.Inside.Client.{Does}
-use Rattle.wl_server.specs.Server.{Stored, no_times}
-use Rattle.wl_server.proofs.CallSteps.Doing.{does_quietly}
+use Rattle.wl_server_client.specs.Part.{with_link}
+use Rattle.wl_server_model.specs.PartStep.{Quietly}
+use Rattle.wl_server_client.specs.Ids.{ClientParts}
+use Rattle.wl_server_client.specs.Inside.Client.{Does}
+use Rattle.wl_server_client.specs.Stored.{Stored, no_times}
+use Rattle.wl_server_client.proofs.CallSteps.Doing.{does_quietly}
 use Rattle.wl_server.proofs.CallSteps.Kept.{kept_written, with_plain}
-use Rattle.wl_server.proofs.CallSteps.Numbering.{in_time_none}
+use Rattle.wl_server_client.proofs.CallSteps.Numbers.{in_time_none}
 use Rattle.wl_server.proofs.CallSteps.OneClient.{done_to, none_stored}
-use Rattle.wl_server.proofs.CallSteps.Slots.{Kind}
-use Rattle.wl_server.proofs.Plain.Clients.{sets_limit}
+use Rattle.wl_server_model.proofs.CallSteps.Slots.{Kind}
+use Rattle.wl_server_model.proofs.Plain.Clients.{sets_limit}
 use Rattle.wl_server.proofs.backend.Backend.set_client_max_buffer_size.Goals as goal
 
 abbrev limits : {T U C : Type 0} → ℕ → Kind T U C

@@ -1,10 +1,10 @@
 use Rattle.std.proofs.Common.{false, refl}
-use Rattle.wl_server.specs.Server.{no_times}
+use Rattle.wl_server_client.specs.Stored.{no_times}
 use Rattle.wl_server.proofs.CallSteps.Kept.{kept_written, with_plain}
-use Rattle.wl_server.proofs.CallSteps.Numbering.{in_time_none}
+use Rattle.wl_server_client.proofs.CallSteps.Numbers.{in_time_none}
 use Rattle.wl_server.proofs.CallSteps.OneClient.{done_to, none_stored}
-use Rattle.wl_server.proofs.ObjectCalls.Choosing.{version_does}
-use Rattle.wl_server.proofs.Plain.Chosen.{sets_object_version}
+use Rattle.wl_server_model.proofs.ObjectCalls.Choosing.{version_does}
+use Rattle.wl_server_model.proofs.Plain.Chosen.{sets_object_version}
 use Rattle.wl_server.proofs.backend.Backend.set_object_version.Goals as goal
 
 pub returns-in_default : goal.returns-in_default

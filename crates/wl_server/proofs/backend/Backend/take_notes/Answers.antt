@@ -1,9 +1,9 @@
 use Rattle.std.proofs.Common.{◌∙◌, Vec, ap}
-use Rattle.wl_server.proofs.CleanupSteps.TakingNotes.{notes_starved, notes_taken}
+use Rattle.wl_server_model.proofs.CleanupSteps.TakingNotes.{notes_starved, notes_taken}
 use Rattle.wl_server.proofs.CallSteps.Kept.{with_plain}
-use Rattle.wl_server.proofs.CleanupSteps.GatheredSlots.{kept_gathered}
+use Rattle.wl_server.proofs.Touched.GatheredSlots.{kept_gathered}
 use Rattle.wl_server.proofs.Touched.Gathered.{emptied_kept}
-use Rattle.wl_server.proofs.Plain.Clients.{takes_notes}
+use Rattle.wl_server_model.proofs.Plain.Clients.{takes_notes}
 use Rattle.wl_server.proofs.backend.Backend.take_notes.Goals as goal
 
 pub returns-in-Ok : goal.returns-in-Ok

@@ -2,18 +2,20 @@ use Rattle.std.proofs.Common.{◌≡◌, ◌∙◌, Option, Some, option_map, sy
 use Rattle.std.proofs.Math.Path.{fun_ext}
 use Rattle.std.specs.Prelude.{slice_set}
 use Rattle.std.specs.Option.{option_map_or}
-use Rattle.wl_server.proofs.CallSteps.Numbering.{numbered_at, numbers_stay}
-use Rattle.wl_server.proofs.OverRuns.Alone.AccountLaws.{is_change}
-use Rattle.wl_server.specs.Backend.{BackendState, IsChange}
-use Rattle.wl_server.specs.Ids.{ClientParts}
-use Rattle.wl_server.specs.Lending.{over_transport, server_over, state_over}
-use Rattle.wl_server.specs.NoteOrder.{AllNumbered}
-use Rattle.wl_server.specs.PartStep.{World, over}
-use Rattle.wl_server.specs.Server.{ServerState, Stored, client_at}
+use Rattle.wl_server_model.proofs.CallSteps.Numbering.{numbered_at, numbers_stay}
+use Rattle.wl_server_model.proofs.OverRuns.Alone.AccountLaws.{is_change}
+use Rattle.wl_server_model.specs.Backend.{BackendState, IsChange}
+use Rattle.wl_server_client.specs.Ids.{ClientParts}
+use Rattle.wl_server_client.specs.Lending.{over_transport}
+use Rattle.wl_server.specs.Lending.{server_over, state_over}
+use Rattle.wl_server_model.specs.NoteOrder.{AllNumbered}
+use Rattle.wl_server_model.specs.PartStep.{World, over}
+use Rattle.wl_server_model.specs.Server.{ServerState, client_at}
+use Rattle.wl_server_client.specs.Stored.{Stored}
 use Rattle.wl_server.proofs.CallSteps.OneClient.{changed}
-use Rattle.wl_server.proofs.CallSteps.Slots.{slot_of_client}
-use Rattle.wl_server.proofs.CleanupSteps.Taken.{slots_set}
-use Rattle.wl_server.proofs.Plain.Transport.{leaves_transport}
+use Rattle.wl_server_model.proofs.CallSteps.Slots.{slot_of_client}
+use Rattle.wl_server_model.proofs.CleanupSteps.Taken.{slots_set}
+use Rattle.wl_server.proofs.CallSteps.Transport.{leaves_transport}
 use Rattle.wl_server.specs.Inside.Touched.{HasSent, IsQuiet}
 use Rattle.wl_server.proofs.Touched.Kept.{out_set}
 use Rattle.wl_server.proofs.backend.Backend.transport_mut.Goals as goal

@@ -1,8 +1,8 @@
 use Rattle.std.proofs.Common.{refl}
 use Rattle.wl_server.proofs.CallSteps.Kept.{kept_written, with_plain}
-use Rattle.wl_server.proofs.CallSteps.Numbering.{in_time_none}
-use Rattle.wl_server.proofs.ObjectCalls.LendingData.{lends_none, lends_stored}
-use Rattle.wl_server.proofs.Plain.Objects.{sets_what_is_left}
+use Rattle.wl_server_client.proofs.CallSteps.Numbers.{in_time_none}
+use Rattle.wl_server.proofs.CallSteps.LendingData.{lends_none, lends_stored}
+use Rattle.wl_server_model.proofs.Plain.Objects.{sets_what_is_left}
 use Rattle.wl_server.proofs.backend.Backend.with_object_data.Goals as goal
 
 pub invariant_of-self : goal.invariant_of-self

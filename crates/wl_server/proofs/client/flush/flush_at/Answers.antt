@@ -1,5 +1,5 @@
 use Rattle.std.proofs.Common.{refl}
-use Rattle.wl_server.proofs.CleanupSteps.Outgoing.{flushes_where, not_flushed, other_killed, same_killed}
+use Rattle.wl_server_model.proofs.CleanupSteps.Outgoing.{flushes_where, not_flushed, other_killed, same_killed}
 use Rattle.wl_server.proofs.Touched.Flushed.{quiet_flushed, sent_flushed}
 use Rattle.wl_server.proofs.client.flush.flush_at.Goals as goal
 

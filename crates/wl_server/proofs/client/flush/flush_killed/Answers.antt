@@ -1,9 +1,9 @@
 use Rattle.std.proofs.Common.{◌∙◌, sym, refl}
 use Rattle.std.proofs.lemmas.Option.{slice_get_read}
-use Rattle.wl_server.specs.NoteOrder.{IsNumbered, times_of}
-use Rattle.wl_server.proofs.CleanupSteps.Gathering.{map_set}
-use Rattle.wl_server.proofs.CallSteps.Numbering.{each_stays}
-use Rattle.wl_server.proofs.CallSteps.Feeling.{none_felt, one_more_felt}
+use Rattle.wl_server_client.specs.NoteTimes.{IsNumbered, times_of}
+use Rattle.wl_server_model.proofs.CleanupSteps.Gathering.{map_set}
+use Rattle.wl_server_model.proofs.CallSteps.Numbering.{each_stays}
+use Rattle.wl_server_model.proofs.CallSteps.Feeling.{none_felt, one_more_felt}
 use Rattle.wl_server.proofs.client.flush.flush_killed.Goals as goal
 
 pub loop-slot-init : goal.loop-slot-init

@@ -1,7 +1,8 @@
 use Rattle.std.proofs.Common.{◌≡◌, length, map}
-use Rattle.wl_server.specs.Inside.Leaving.{FlushesKilled}
-use Rattle.wl_server.specs.Inside.Places.{AllFeel}
-use Rattle.wl_server.specs.NoteOrder.{AllNumbered, times_of}
+use Rattle.wl_server_model.specs.Inside.Leaving.{FlushesKilled}
+use Rattle.wl_server_model.specs.Inside.Places.{AllFeel}
+use Rattle.wl_server_model.specs.NoteOrder.{AllNumbered}
+use Rattle.wl_server_client.specs.NoteTimes.{times_of}
 use Rattle.wl_server.proofs.client.flush.flush_killed.Given as goal
 
 abbrev pub invariant-loop-slot : goal.invariant-loop-slot

@@ -3,10 +3,10 @@ use Rattle.std.specs.Prelude.{slice_set}
 use Rattle.std.proofs.lemmas.List.{length-set}
 use Rattle.std.proofs.lemmas.Option.{slice_get_read}
 use Rattle.wl_server.specs.Inside.Touched.{HasSent, IsQuiet}
-use Rattle.wl_server.specs.NoteOrder.{IsNumbered, times_of}
-use Rattle.wl_server.proofs.CallSteps.Feeling.{none_felt, one_more_felt}
-use Rattle.wl_server.proofs.CallSteps.Numbering.{each_stays}
-use Rattle.wl_server.proofs.CleanupSteps.Gathering.{map_set}
+use Rattle.wl_server_client.specs.NoteTimes.{IsNumbered, times_of}
+use Rattle.wl_server_model.proofs.CallSteps.Feeling.{none_felt, one_more_felt}
+use Rattle.wl_server_model.proofs.CallSteps.Numbering.{each_stays}
+use Rattle.wl_server_model.proofs.CleanupSteps.Gathering.{map_set}
 use Rattle.wl_server.proofs.Touched.Flushed.{felt_on}
 use Rattle.wl_server.proofs.Touched.Kept.{out_set, out_taken}
 use Rattle.wl_server.proofs.client.flush.flush_live.Goals as goal

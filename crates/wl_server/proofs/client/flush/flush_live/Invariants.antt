@@ -1,8 +1,9 @@
 use Rattle.std.proofs.Common.{◌≡◌, ◌-◌, ◌≤◌, List, ℕ, length, map}
-use Rattle.wl_server.specs.Felt.{FlushesLive}
-use Rattle.wl_server.specs.Inside.Places.{AllFeel}
+use Rattle.wl_server_client.specs.Felt.{FlushesLive}
+use Rattle.wl_server_model.specs.Inside.Places.{AllFeel}
 use Rattle.wl_server.specs.Inside.Touched.{AllQuiet, AllSent}
-use Rattle.wl_server.specs.NoteOrder.{AllNumbered, times_of}
+use Rattle.wl_server_model.specs.NoteOrder.{AllNumbered}
+use Rattle.wl_server_client.specs.NoteTimes.{times_of}
 use Rattle.wl_server.proofs.client.flush.flush_live.Given as goal
 
 abbrev pub invariant-loop-slot : goal.invariant-loop-slot

@@ -1,9 +1,9 @@
 use Rattle.std.proofs.Common.{arith, refl, true≢false}
 use Rattle.std.proofs.lemmas.Grind.{common_steps}
 use Rattle.std.proofs.lemmas.Option.{slice_get_read}
-use Rattle.wl_server.proofs.CallSteps.Slots.{stored_is, stored_past}
-use Rattle.wl_server.proofs.ObjectCalls.Inserting.{slot_of}
-use Rattle.wl_server.proofs.CleanupSteps.Taken.{one_more_taken, taken_less}
+use Rattle.wl_server_model.proofs.CallSteps.Slots.{stored_is, stored_past}
+use Rattle.wl_server_model.proofs.ObjectCalls.Inserting.{slot_of}
+use Rattle.wl_server_model.proofs.CleanupSteps.Taken.{one_more_taken, taken_less}
 use Rattle.wl_server.proofs.client.insert.free_slot.Goals as goal
 
 pub loop-slot-preserved : goal.loop-slot-preserved

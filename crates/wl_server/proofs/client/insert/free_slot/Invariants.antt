@@ -1,5 +1,5 @@
 use Rattle.std.proofs.Common.{◌≡◌, length}
-use Rattle.wl_server.specs.Inside.Inserting.{AreTaken}
+use Rattle.wl_server_model.specs.Inside.Inserting.{AreTaken}
 use Rattle.wl_server.proofs.client.insert.free_slot.Given as goal
 
 abbrev pub invariant-loop-slot : goal.invariant-loop-slot

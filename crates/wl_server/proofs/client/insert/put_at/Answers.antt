@@ -1,5 +1,5 @@
 use Rattle.std.proofs.Common.{arith}
-use Rattle.wl_server.proofs.ObjectCalls.Inserting.{put_behind}
+use Rattle.wl_server_model.proofs.ObjectCalls.Inserting.{put_behind}
 use Rattle.wl_server.proofs.client.insert.put_at.Goals as goal
 
 pub returns-else-slot-len-clause-put : goal.returns-else-slot-len-clause-put

@@ -1,11 +1,12 @@
 use Rattle.std.proofs.lemmas.Grind.{common_steps}
 use Rattle.std.proofs.Common.{◌≡◌, Option, List, Some, refl, subst, sym, arith, map}
-use Rattle.wl_server.specs.Inside.Inserting.{IsPut}
-use Rattle.wl_server.specs.Server.{Stored, NoteTimes, no_times}
-use Rattle.wl_server.proofs.CallSteps.Numbering.{numbered_put, all_but, times_same, times_stored, times_there}
+use Rattle.wl_server_model.specs.Inside.Inserting.{IsPut}
+use Rattle.wl_server_client.specs.Stored.{Stored, NoteTimes, no_times}
+use Rattle.wl_server_model.proofs.CallSteps.Numbering.{numbered_put, all_but, times_same, times_stored, times_there}
 use Rattle.wl_server.proofs.Touched.Kept.{put_touched, stay_touched}
 use Rattle.wl_server.proofs.client.insert.put_new.Goals as goal
-use Rattle.wl_server.specs.NoteOrder.{NotesInTime, times_at, times_of}
+use Rattle.wl_server_client.specs.NoteTimes.{NotesInTime, times_of}
+use Rattle.wl_server_model.specs.NoteOrder.{times_at}
 
 moved : {T U C : Type 0} (xs ys after : List (Option (Stored T U C))) (n m : _) (s : Stored T U C) → xs ≡ ys → n ≡ m → IsPut xs n s after
     → IsPut ys m s after

@@ -1,5 +1,5 @@
 use Rattle.std.proofs.Common.{arith}
-use Rattle.wl_server.proofs.ObjectCalls.Inserting.{put_within}
+use Rattle.wl_server_model.proofs.ObjectCalls.Inserting.{put_within}
 use Rattle.wl_server.proofs.client.insert.put_within.Goals as goal
 
 pub returns-clause-put : goal.returns-clause-put

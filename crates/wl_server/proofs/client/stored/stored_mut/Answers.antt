@@ -1,7 +1,7 @@
 use Rattle.std.proofs.Common.{◌∙◌, ℕ, Some, is_some, ap, sym}
 use Rattle.std.specs.Vec.{with_item}
-use Rattle.wl_server.proofs.CallSteps.Lent.{read_same}
-use Rattle.wl_server.proofs.CallSteps.Slots.{slot_reads}
+use Rattle.wl_server_model.proofs.CallSteps.Lent.{read_same}
+use Rattle.wl_server_model.proofs.CallSteps.Slots.{slot_reads}
 use Rattle.wl_server.proofs.Touched.Kept.{looked_up}
 use Rattle.wl_server.proofs.client.stored.stored_mut.Goals as goal
 

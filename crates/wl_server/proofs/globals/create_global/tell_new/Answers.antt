@@ -1,10 +1,10 @@
 use Rattle.std.proofs.Common.{◌≡◌, ◌∙◌, ap, arith, length, refl}
 use Rattle.std.proofs.lemmas.Option.{slice_get-get_or}
-use Rattle.wl_server.specs.Globals.{shown_as}
-use Rattle.wl_server.specs.Inside.News.{Announced}
-use Rattle.wl_server.specs.NoteOrder.{IsNumbered}
-use Rattle.wl_server.proofs.CallSteps.Numbering.{next_in_time, each_stays, turn_still}
-use Rattle.wl_server.proofs.CallSteps.Feeling.{none_felt, one_more_felt}
+use Rattle.wl_server_client.specs.Globals.{shown_as}
+use Rattle.wl_server_client.specs.Inside.News.{Announced}
+use Rattle.wl_server_client.specs.NoteTimes.{IsNumbered}
+use Rattle.wl_server_model.proofs.CallSteps.Numbering.{next_in_time, each_stays, turn_still}
+use Rattle.wl_server_model.proofs.CallSteps.Feeling.{none_felt, one_more_felt}
 use Rattle.wl_server.proofs.globals.create_global.tell_new.Goals as goal
 
 pub loop-slot-init : goal.loop-slot-init

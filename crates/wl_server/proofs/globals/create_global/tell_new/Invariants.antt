@@ -1,8 +1,9 @@
 use Rattle.std.proofs.Common.{◌≡◌, length, map}
-use Rattle.wl_server.specs.Globals.{shown_as}
-use Rattle.wl_server.specs.Inside.News.{HearsNew}
-use Rattle.wl_server.specs.Inside.Places.{AllFeel}
-use Rattle.wl_server.specs.NoteOrder.{AllNumbered, InTimeBelow, times_of}
+use Rattle.wl_server_client.specs.Globals.{shown_as}
+use Rattle.wl_server_client.specs.Inside.News.{HearsNew}
+use Rattle.wl_server_model.specs.Inside.Places.{AllFeel}
+use Rattle.wl_server_model.specs.NoteOrder.{AllNumbered, InTimeBelow}
+use Rattle.wl_server_client.specs.NoteTimes.{times_of}
 use Rattle.wl_server.proofs.globals.create_global.tell_new.Given as goal
 
 abbrev pub invariant-loop-slot : goal.invariant-loop-slot

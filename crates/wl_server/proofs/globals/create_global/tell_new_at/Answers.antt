@@ -1,9 +1,9 @@
 use Rattle.std.proofs.Common.{◌∙◌, ap, refl, sym}
-use Rattle.wl_server.specs.Globals.{Shown}
-use Rattle.wl_server.specs.Inside.News.{HearsNew}
-use Rattle.wl_server.specs.Server.{Stored, no_times}
-use Rattle.wl_server.proofs.CallSteps.Feeling.{place_felt}
-use Rattle.wl_server.proofs.Readings.Notes.{killed_hears, seen_hears, unseen_hears}
+use Rattle.wl_server_client.specs.Globals.{Shown}
+use Rattle.wl_server_client.specs.Inside.News.{HearsNew}
+use Rattle.wl_server_client.specs.Stored.{Stored, no_times}
+use Rattle.wl_server_model.proofs.CallSteps.Feeling.{place_felt}
+use Rattle.wl_server_client.proofs.Readings.Notes.{killed_hears, seen_hears, unseen_hears}
 use Rattle.wl_server.proofs.globals.create_global.tell_new_at.Goals as goal
 
 pub returns-then-not-can_view-clause-felt : goal.returns-then-not-can_view-clause-felt

@@ -1,7 +1,8 @@
 use Rattle.std.proofs.Common.{◌≡◌, length, map}
-use Rattle.wl_server.specs.Felt.{Hears, removals}
-use Rattle.wl_server.specs.Inside.Places.{AllFeel}
-use Rattle.wl_server.specs.NoteOrder.{AllNumbered, InTimeBelow, times_of}
+use Rattle.wl_server_client.specs.Felt.{Hears, removals}
+use Rattle.wl_server_model.specs.Inside.Places.{AllFeel}
+use Rattle.wl_server_model.specs.NoteOrder.{AllNumbered, InTimeBelow}
+use Rattle.wl_server_client.specs.NoteTimes.{times_of}
 use Rattle.wl_server.proofs.globals.remove_global.tell_loss.Given as goal
 
 abbrev pub invariant-loop-slot : goal.invariant-loop-slot

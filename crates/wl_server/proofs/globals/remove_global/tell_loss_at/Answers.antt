@@ -1,10 +1,10 @@
 use Rattle.std.proofs.Common.{map, refl, subst}
 use Rattle.wl_wire.specs.Message.{WireMessage}
-use Rattle.wl_server.specs.Inside.Puts.{Puts}
-use Rattle.wl_server.specs.Telling.{by_object}
-use Rattle.wl_server.proofs.Readings.Notes.{killed_hears, live_hears}
+use Rattle.wl_server_client.specs.Inside.Puts.{Puts}
+use Rattle.wl_server_client.specs.Telling.{by_object}
+use Rattle.wl_server_client.proofs.Readings.Notes.{killed_hears, live_hears}
 use Rattle.wl_server.proofs.globals.remove_global.tell_loss_at.Goals as goal
-use Rattle.wl_server.specs.Server.{no_times}
+use Rattle.wl_server_client.specs.Stored.{no_times}
 
 pub returns-in-Some-clause-felt : goal.returns-in-Some-clause-felt
 returns-in-Some-clause-felt g c = λ slot.

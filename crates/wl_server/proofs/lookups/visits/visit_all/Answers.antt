@@ -1,5 +1,5 @@
 use Rattle.std.proofs.Common.{of_calls, subst}
-use Rattle.wl_server.specs.Ids.{IdParts}
+use Rattle.wl_server_client.specs.Ids.{IdParts}
 use Rattle.wl_server.proofs.lookups.visits.visit_all.Goals as goal
 
 pub loop-number-preserved : goal.loop-number-preserved

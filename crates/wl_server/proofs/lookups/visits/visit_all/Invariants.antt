@@ -1,7 +1,7 @@
 use Rattle.std.proofs.Common.{map}
 use Rattle.std.specs.List.{FoldsTo}
-use Rattle.wl_server.specs.Part.{id_at}
-use Rattle.wl_server.specs.Inside.Walks.{ids_of}
+use Rattle.wl_server_client.specs.Part.{id_at}
+use Rattle.wl_server_model.specs.Inside.Walks.{ids_of}
 use Rattle.wl_server.proofs.lookups.visits.visit_all.Given as goal
 
 abbrev pub invariant-loop-number : goal.invariant-loop-number

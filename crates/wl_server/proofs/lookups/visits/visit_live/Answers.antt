@@ -1,6 +1,6 @@
 use Rattle.std.proofs.Common.{arith, refl, of_calls}
 use Rattle.std.proofs.lemmas.List.{nil_from_length}
-use Rattle.wl_server.proofs.CallSteps.Visiting.{live_first}
+use Rattle.wl_server_model.proofs.CallSteps.Visiting.{live_first}
 use Rattle.wl_server.proofs.lookups.visits.visit_live.Goals as goal
 use Rattle.wl_server.proofs.lookups.visits.visit_live.Goals.{in-Some-live_at, in_default-live_at}
 

@@ -1,6 +1,6 @@
 use Rattle.std.proofs.Common.{◌≡◌, ◌+◌, length}
 use Rattle.std.specs.List.{FoldsTo}
-use Rattle.wl_server.specs.Lookups.{live_from}
+use Rattle.wl_server_model.specs.Lookups.{live_from}
 use Rattle.wl_server.proofs.lookups.visits.visit_live.Given as goal
 
 abbrev pub invariant-loop-place : goal.invariant-loop-place

@@ -1,9 +1,9 @@
 use Rattle.std.proofs.Common.{◌∙◌, ◌≤◌, ◌++◌, length, append-nil, arith, ap, sym}
-use Rattle.wl_server.specs.NoteOrder.{times_at}
-use Rattle.wl_server.specs.Inside.Leaving.{collected, given_at}
-use Rattle.wl_server.proofs.CallSteps.Numbering.{all_take_leave, none_waits, numbered_staying, takes_both, takes_none}
-use Rattle.wl_server.proofs.CleanupSteps.Idle.{none_flushed, none_leaves, none_noted}
-use Rattle.wl_server.proofs.CleanupSteps.Rooms.{flushed_counts, flushed_order, gathered_ends, gathered_given}
+use Rattle.wl_server_model.specs.NoteOrder.{times_at}
+use Rattle.wl_server_model.specs.Inside.Leaving.{collected, given_at}
+use Rattle.wl_server_model.proofs.CallSteps.Numbering.{all_take_leave, none_waits, numbered_staying, takes_both, takes_none}
+use Rattle.wl_server_model.proofs.CleanupSteps.Idle.{none_flushed, none_leaves, none_noted}
+use Rattle.wl_server_model.proofs.CleanupSteps.Rooms.{flushed_counts, flushed_order, gathered_ends, gathered_given}
 use Rattle.wl_server.proofs.notes.cleanup.clean_up.Goals as goal
 use Rattle.std.proofs.lemmas.List.{nil_from_length}
 

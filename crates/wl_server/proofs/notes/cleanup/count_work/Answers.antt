@@ -1,10 +1,10 @@
 use Rattle.std.proofs.Common.{true, arith, map, refl}
 use Rattle.std.proofs.lemmas.Grind.{common_steps}
 use Rattle.std.proofs.lemmas.Option.{slice_get_read}
-use Rattle.wl_server.specs.Inside.Gathering.{count_leaving}
-use Rattle.wl_server.specs.Inside.Leaving.{ends_at, given_at}
-use Rattle.wl_server.specs.Inside.NoteOrder.{count_places}
-use Rattle.wl_server.specs.NoteOrder.{times_of}
+use Rattle.wl_server_model.specs.Inside.Gathering.{count_leaving}
+use Rattle.wl_server_model.specs.Inside.Leaving.{ends_at, given_at}
+use Rattle.wl_server_model.specs.Inside.NoteOrder.{count_places}
+use Rattle.wl_server_client.specs.NoteTimes.{times_of}
 use Rattle.wl_server.specs.Inside.Touched.{IsQuiet}
 use Rattle.std.proofs.lemmas.List.{drop_all}
 use Rattle.wl_server.proofs.Touched.Counted.{quiet_ends, quiet_given, at_least, at_most, counted, counts_collected, counts_notes, counts_places, passed}

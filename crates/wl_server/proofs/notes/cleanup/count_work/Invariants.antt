@@ -1,9 +1,9 @@
 use Rattle.std.proofs.Common.{◌≡◌, ◌<◌, ◌≤◌, ◌+◌, ◌-◌, true, drop, length, map}
-use Rattle.wl_server.specs.Inside.Gathering.{count_leaving}
-use Rattle.wl_server.specs.Inside.Leaving.{collected, ends_at, given_at}
+use Rattle.wl_server_model.specs.Inside.Gathering.{count_leaving}
+use Rattle.wl_server_model.specs.Inside.Leaving.{collected, ends_at, given_at}
 use Rattle.wl_server.specs.Inside.Touched.{AllQuiet}
-use Rattle.wl_server.specs.NoteOrder.{times_of}
-use Rattle.wl_server.specs.Inside.NoteOrder.{count_places}
+use Rattle.wl_server_client.specs.NoteTimes.{times_of}
+use Rattle.wl_server_model.specs.Inside.NoteOrder.{count_places}
 use Rattle.wl_server.proofs.notes.cleanup.count_work.Given as goal
 
 abbrev pub invariant-loop-slot : goal.invariant-loop-slot

@@ -1,8 +1,8 @@
 use Rattle.std.proofs.Common.{◌∙◌, length, arith, sym}
 use Rattle.std.proofs.lemmas.List.{length-set}
 use Rattle.std.proofs.lemmas.Option.{slice_get_read}
-use Rattle.wl_server.specs.Inside.Leaving.{ends_at, given_at}
-use Rattle.wl_server.proofs.CleanupSteps.Outgoing.{leave_ends, leave_one, leave_room}
+use Rattle.wl_server_model.specs.Inside.Leaving.{ends_at, given_at}
+use Rattle.wl_server_model.proofs.CleanupSteps.Outgoing.{leave_ends, leave_one, leave_room}
 use Rattle.wl_server.proofs.notes.cleanup.leave_all.Goals as goal
 
 pub leave_at-requires-clause-notes : goal.leave_at-requires-clause-notes

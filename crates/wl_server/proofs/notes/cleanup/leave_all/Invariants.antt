@@ -1,6 +1,6 @@
 use Rattle.std.proofs.Common.{◌≡◌, length}
 use Rattle.std.specs.Vec.{vec_capacity}
-use Rattle.wl_server.proofs.CleanupSteps.Outgoing.{Leave}
+use Rattle.wl_server_model.proofs.CleanupSteps.Outgoing.{Leave}
 use Rattle.wl_server.proofs.notes.cleanup.leave_all.Given as goal
 
 abbrev pub invariant-loop-slot : goal.invariant-loop-slot

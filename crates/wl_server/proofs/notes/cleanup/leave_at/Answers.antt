@@ -1,10 +1,11 @@
 use Rattle.std.proofs.Common.{◌≡◌, ◌∙◌, true, ◌++◌, length, map, arith, ap, sym}
 use Rattle.std.specs.FinMap.{entries}
 use Rattle.std.proofs.lemmas.Option.{same_Some}
-use Rattle.wl_server.specs.Ids.{ClientParts}
-use Rattle.wl_server.specs.Inside.Leaving.{with_data, ends_at, ends_of}
-use Rattle.wl_server.specs.Server.{Stored, note_of}
-use Rattle.wl_server.proofs.CleanupSteps.Outgoing.{ends_killed, ends_length}
+use Rattle.wl_server_client.specs.Ids.{ClientParts}
+use Rattle.wl_server_client.specs.Inside.Leaving.{with_data, ends_of}
+use Rattle.wl_server_model.specs.Inside.Leaving.{ends_at}
+use Rattle.wl_server_client.specs.Stored.{Stored, note_of}
+use Rattle.wl_server_model.proofs.CleanupSteps.Outgoing.{ends_killed, ends_length}
 use Rattle.wl_server.proofs.notes.cleanup.leave_at.Goals as goal
 
 pub end_objects-requires : goal.end_objects-requires

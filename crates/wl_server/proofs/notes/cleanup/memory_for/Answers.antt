@@ -1,11 +1,11 @@
 use Rattle.std.proofs.Common.{◌≡◌, length, true, map, arith}
 use Rattle.std.specs.Vec.{vec_capacity, vec_len}
-use Rattle.wl_server.specs.Inside.Gathering.{count_leaving}
-use Rattle.wl_server.specs.Inside.Leaving.{collected, ends_at, given_at}
-use Rattle.wl_server.specs.NoteOrder.{times_of}
-use Rattle.wl_server.specs.Inside.NoteOrder.{count_places}
-use Rattle.wl_server.proofs.CleanupSteps.Asking.{none_ends, none_leaving, none_of}
-use Rattle.wl_server.proofs.CleanupSteps.Ordering.{none_order}
+use Rattle.wl_server_model.specs.Inside.Gathering.{count_leaving}
+use Rattle.wl_server_model.specs.Inside.Leaving.{collected, given_at}
+use Rattle.wl_server_client.specs.NoteTimes.{times_of}
+use Rattle.wl_server_model.specs.Inside.NoteOrder.{count_places}
+use Rattle.wl_server_model.proofs.CleanupSteps.Asking.{none_ends, none_leaving, none_of}
+use Rattle.wl_server_model.proofs.CleanupSteps.Ordering.{none_order}
 use Rattle.wl_server.proofs.notes.cleanup.memory_for.Goals as goal
 
 pub returns-then-count-eq0-clause-notes : goal.returns-then-count-eq0-clause-notes

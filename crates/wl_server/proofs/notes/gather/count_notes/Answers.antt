@@ -1,10 +1,10 @@
 use Rattle.std.proofs.Common.{map, arith, refl}
 use Rattle.std.proofs.lemmas.Grind.{common_steps}
 use Rattle.std.proofs.lemmas.Option.{slice_get_read}
-use Rattle.wl_server.specs.Inside.Gathering.{count_leaving}
-use Rattle.wl_server.specs.Inside.NoteOrder.{count_places}
+use Rattle.wl_server_model.specs.Inside.Gathering.{count_leaving}
+use Rattle.wl_server_model.specs.Inside.NoteOrder.{count_places}
 use Rattle.wl_server.specs.Inside.Touched.{IsQuiet}
-use Rattle.wl_server.specs.NoteOrder.{times_of}
+use Rattle.wl_server_client.specs.NoteTimes.{times_of}
 use Rattle.wl_server.proofs.Touched.Counted.{at_least, at_most, counted, counts_notes, counts_places, passed}
 use Rattle.wl_server.proofs.Touched.Kept.{out_taken}
 use Rattle.wl_server.proofs.notes.gather.count_notes.Goals as goal

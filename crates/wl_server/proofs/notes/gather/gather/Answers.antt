@@ -1,13 +1,14 @@
 use Rattle.std.proofs.Common.{◌∙◌, [], arith, sym, append-nil, refl, ap, length, map}
 use Rattle.std.proofs.lemmas.Option.{slice_get_read}
-use Rattle.wl_server.proofs.CallSteps.Numbering.{each_stays, take_set, takes_both, takes_none, times_stored}
-use Rattle.wl_server.proofs.CleanupSteps.Gathering.{gathers_at, count_at}
-use Rattle.wl_server.proofs.CleanupSteps.Ordering.{along_more, none_numbered, place_left, place_some, place_within, places_among, places_moved}
+use Rattle.wl_server_model.proofs.CallSteps.Numbering.{each_stays, take_set, takes_both, takes_none, times_stored}
+use Rattle.wl_server_model.proofs.CleanupSteps.Gathering.{gathers_at, count_at}
+use Rattle.wl_server_model.proofs.CleanupSteps.Ordering.{along_more, none_numbered, place_left, place_some, place_within, places_among, places_moved}
 use Rattle.wl_server.proofs.notes.gather.gather.Goals as goal
 use Rattle.std.proofs.lemmas.List.{drop_all}
-use Rattle.wl_server.specs.Inside.NoteOrder.{AreNumbered}
-use Rattle.wl_server.specs.NoteOrder.{IsNumbered, all_places, places_of, times_of, to_gather, times_at}
-use Rattle.wl_server.specs.Server.{NoteTimes, note_of}
+use Rattle.wl_server_client.specs.Inside.NoteTimes.{AreNumbered}
+use Rattle.wl_server_client.specs.NoteTimes.{IsNumbered, places_of, times_of, to_gather}
+use Rattle.wl_server_model.specs.NoteOrder.{all_places, times_at}
+use Rattle.wl_server_client.specs.Stored.{NoteTimes, note_of}
 
 pub index_mut-requires : goal.index_mut-requires
 index_mut-requires g c =

@@ -1,10 +1,11 @@
 use Rattle.std.proofs.Common.{◌≡◌, ℕ, drop, map, take}
 use Rattle.std.specs.Vec.{vec_capacity}
-use Rattle.wl_server.specs.Inside.Gathering.{Gathers}
-use Rattle.wl_server.specs.NoteOrder.{AllNumbered, AllTakeFirst, Along, times_of}
-use Rattle.wl_server.specs.Inside.NoteOrder.{AreNumbered}
-use Rattle.wl_server.specs.Server.{stored_at}
-use Rattle.wl_server.proofs.CleanupSteps.Ordering.{Left}
+use Rattle.wl_server_model.specs.Inside.Gathering.{Gathers}
+use Rattle.wl_server_model.specs.NoteOrder.{AllNumbered, AllTakeFirst, Along}
+use Rattle.wl_server_client.specs.NoteTimes.{times_of}
+use Rattle.wl_server_client.specs.Inside.NoteTimes.{AreNumbered}
+use Rattle.wl_server_model.specs.Server.{stored_at}
+use Rattle.wl_server_model.proofs.CleanupSteps.Ordering.{Left}
 use Rattle.wl_server.proofs.notes.gather.gather.Given as goal
 
 abbrev pub invariant-loop-place : goal.invariant-loop-place

@@ -1,12 +1,13 @@
 use Rattle.std.proofs.Common.{false, [], map, refl, sym, append-nil, arith}
 use Rattle.std.specs.Vec.{vec_capacity, vec_len}
 use Rattle.std.proofs.lemmas.Grind.{common_steps}
-use Rattle.wl_server.specs.Inside.Gathering.{count_leaving}
-use Rattle.wl_server.specs.NoteOrder.{times_of, times_at}
-use Rattle.wl_server.specs.Inside.NoteOrder.{count_places}
-use Rattle.wl_server.proofs.CallSteps.Numbering.{takes_none}
-use Rattle.wl_server.proofs.CleanupSteps.Asking.{none_leaving, none_of, on_err, room_of}
-use Rattle.wl_server.proofs.CleanupSteps.Ordering.{none_order}
+use Rattle.wl_server_model.specs.Inside.Gathering.{count_leaving}
+use Rattle.wl_server_client.specs.NoteTimes.{times_of}
+use Rattle.wl_server_model.specs.NoteOrder.{times_at}
+use Rattle.wl_server_model.specs.Inside.NoteOrder.{count_places}
+use Rattle.wl_server_model.proofs.CallSteps.Numbering.{takes_none}
+use Rattle.wl_server_model.proofs.CleanupSteps.Asking.{none_leaving, none_of, on_err, room_of}
+use Rattle.wl_server_model.proofs.CleanupSteps.Ordering.{none_order}
 use Rattle.wl_server.proofs.notes.gather.gather_made.Goals as goal
 
 pub order_of-requires-clause-quiet : goal.order_of-requires-clause-quiet

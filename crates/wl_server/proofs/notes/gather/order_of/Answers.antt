@@ -1,7 +1,8 @@
 use Rattle.std.proofs.Common.{◌∙◌, arith, refl, ap, ◌++◌, map}
 use Rattle.std.proofs.lemmas.Option.{slice_get_read}
-use Rattle.wl_server.specs.NoteOrder.{all_places, times_of, places_at}
-use Rattle.wl_server.proofs.CleanupSteps.Ordering.{placed_all, placed_more, placed_so_far, placed_whole, places_moved}
+use Rattle.wl_server_model.specs.NoteOrder.{all_places, places_at}
+use Rattle.wl_server_client.specs.NoteTimes.{times_of}
+use Rattle.wl_server_model.proofs.CleanupSteps.Ordering.{placed_all, placed_more, placed_so_far, placed_whole, places_moved}
 use Rattle.wl_server.proofs.Touched.Counted.{pass_numbers, pass_placed}
 use Rattle.wl_server.proofs.notes.gather.order_of.Goals as goal
 

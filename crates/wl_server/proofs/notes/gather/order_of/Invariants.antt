@@ -1,6 +1,7 @@
 use Rattle.std.proofs.Common.{◌≡◌, ◌≤◌, ◌-◌, length, ◌++◌, drop, map}
-use Rattle.wl_server.specs.NoteOrder.{all_places, times_of}
-use Rattle.wl_server.proofs.CleanupSteps.Ordering.{Placed}
+use Rattle.wl_server_model.specs.NoteOrder.{all_places}
+use Rattle.wl_server_client.specs.NoteTimes.{times_of}
+use Rattle.wl_server_model.proofs.CleanupSteps.Ordering.{Placed}
 use Rattle.wl_server.proofs.notes.gather.order_of.Given as goal
 
 abbrev pub invariant-loop-slot : goal.invariant-loop-slot

@@ -1,5 +1,5 @@
 use Rattle.std.proofs.Common.{refl}
-use Rattle.wl_server.proofs.Dispatches.Joining.{reached_both, reached_by}
+use Rattle.wl_server_model.proofs.Dispatches.Joining.{reached_both, reached_by}
 use Rattle.server_examples.proofs.tests.room.Room.act.Goals as goal
 
 pub returns-in_err-tell_all-in-Member-Int-default : goal.returns-in_err-tell_all-in-Member-Int-default

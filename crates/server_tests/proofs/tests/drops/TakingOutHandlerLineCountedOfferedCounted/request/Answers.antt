@@ -1,5 +1,5 @@
 use Rattle.std.proofs.Common.{refl}
-use Rattle.wl_server.proofs.Dispatches.Joining.{reached_by, reached_then}
+use Rattle.wl_server_model.proofs.Dispatches.Joining.{reached_by, reached_then}
 use Rattle.server_tests.proofs.tests.drops.TakingOutHandlerLineCountedOfferedCounted.request.Goals as goal
 
 pub returns-clause-reached : goal.returns-clause-reached

@@ -1,6 +1,6 @@
 use Rattle.std.proofs.Common.{◌∙◌, ◌<◌, ◌^◌, ap, arith, refl, rules, sym}
 use Rattle.std.proofs.lemmas.Grind.{common_steps}
-use Rattle.wl_server.specs.Ids.{ClientParts}
+use Rattle.wl_server_client.specs.Ids.{ClientParts}
 use Rattle.wl_host.proofs.Inserting.{as_told, none_passed, seats_put}
 use Rattle.wl_host.specs.declared.server.ledger.Ledger.{Ledger}
 use Rattle.wl_host.proofs.server.seats.Seats.insert.Goals as goal

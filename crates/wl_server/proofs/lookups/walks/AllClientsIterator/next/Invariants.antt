@@ -1,5 +1,5 @@
 use Rattle.std.proofs.Common.{◌≡◌, ◌+◌, ◌≤◌, length}
-use Rattle.wl_server.specs.Lookups.{live_from}
+use Rattle.wl_server_model.specs.Lookups.{live_from}
 use Rattle.wl_server.proofs.lookups.walks.AllClientsIterator.next.Given as goal
 
 -- only places without a live client were passed over

@@ -1,8 +1,8 @@
 use Rattle.std.proofs.Common.{◌≡◌, [], arith, ap, refl, sym, subst, ◌∙◌}
 use Rattle.std.proofs.lemmas.Bool.{false≢true}
 use Rattle.wl_link.proofs.OverRuns.RunLaws.{begins, empty_of, ends, more, stops}
-use Rattle.wl_server.specs.PartStep.{over_scripts}
-use Rattle.wl_server.specs.Steps.{StepOf}
+use Rattle.wl_server_model.specs.PartStep.{over_scripts}
+use Rattle.wl_server_model.specs.Steps.{StepOf}
 use Rattle.wl_server.proofs.runs.replay.Backend+Memory+U+G+C.perform_all.Goals as goal
 
 pub loop-step-init : goal.loop-step-init

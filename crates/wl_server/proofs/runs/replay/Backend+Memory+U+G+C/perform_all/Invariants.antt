@@ -1,8 +1,8 @@
 use Rattle.std.proofs.Common.{◌≡◌, ◌+◌, ◌≤◌, false, length}
 use Rattle.std.specs.Prelude.{vec_len, vec_capacity}
 use Rattle.wl_link.proofs.OverRuns.RunLaws.{MadeSoFar}
-use Rattle.wl_server.specs.PartStep.{over_scripts}
-use Rattle.wl_server.specs.Steps.{StepOf}
+use Rattle.wl_server_model.specs.PartStep.{over_scripts}
+use Rattle.wl_server_model.specs.Steps.{StepOf}
 use Rattle.wl_server.proofs.runs.replay.Backend+Memory+U+G+C.perform_all.Given as goal
 
 abbrev pub invariant-loop-step : goal.invariant-loop-step

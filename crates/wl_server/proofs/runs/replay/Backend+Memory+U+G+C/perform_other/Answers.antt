@@ -1,4 +1,4 @@
-use Rattle.wl_server.proofs.CallSteps.OverScripts.{over_script}
+use Rattle.wl_server_model.proofs.CallSteps.OverScripts.{over_script}
 use Rattle.wl_server.proofs.runs.replay.Backend+Memory+U+G+C.perform_other.Goals as goal
 
 pub returns-in-CreateGlobal : goal.returns-in-CreateGlobal

@@ -1,4 +1,4 @@
-use Rattle.wl_server.proofs.CallSteps.OverScripts.{over_script}
+use Rattle.wl_server_model.proofs.CallSteps.OverScripts.{over_script}
 use Rattle.wl_server.proofs.runs.replay.Backend+Memory+U+G+C.perform_shared.Goals as goal
 
 pub returns-in-InsertClient : goal.returns-in-InsertClient

@@ -2,11 +2,11 @@ use Rattle.std.proofs.Common.{ℕ, ◌∙◌, ap, length, subst, sym, arith}
 use Rattle.std.proofs.lemmas.Bool.{false≢true}
 use Rattle.wl_link.proofs.OverRuns.RunLaws.{joins}
 use Rattle.wl_link.specs.Runs.{entries}
-use Rattle.wl_server.proofs.OverRuns.Alone.HistoryLaws.{extends, extends_up_to}
-use Rattle.wl_server.proofs.OverRuns.Outcome.MoveLaws.{scripts_determined}
-use Rattle.wl_server.specs.PartStep.{over_scripts}
-use Rattle.wl_server.specs.Runs.{StopsAt}
-use Rattle.wl_server.proofs.OverRuns.Outcome.WholeRuns.{performance_one}
+use Rattle.wl_server_model.proofs.OverRuns.Alone.HistoryLaws.{extends, extends_up_to}
+use Rattle.wl_server_model.proofs.OverRuns.Outcome.MoveLaws.{scripts_determined}
+use Rattle.wl_server_model.specs.PartStep.{over_scripts}
+use Rattle.wl_server_model.specs.Runs.{StopsAt}
+use Rattle.wl_server_model.proofs.OverRuns.Outcome.WholeRuns.{performance_one}
 use Rattle.wl_server.proofs.runs.replay.Backend+Memory+U+G+C.replay.Goals as goal
 
 pub returns-then-self-clause-stopped : goal.returns-then-self-clause-stopped

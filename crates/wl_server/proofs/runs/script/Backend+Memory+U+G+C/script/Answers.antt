@@ -1,19 +1,21 @@
 use Rattle.std.proofs.Common.{◌≡◌, Bool, true, Err, Result, List, refl, subst, ap}
 use Rattle.wl_link.specs.Script.{Script}
-use Rattle.wl_server.specs.declared.error.ScriptError.{ScriptError}
-use Rattle.wl_server.specs.declared.error.ScriptError.TheVariants as refused
+use Rattle.wl_server_client.specs.declared.error.ScriptError.{ScriptError}
+use Rattle.wl_server_client.specs.declared.error.ScriptError.TheVariants as refused
 use Rattle.wl_server.specs.declared.runs.script.ScriptCall.{ScriptCall}
 use Rattle.wl_server.specs.declared.runs.script.ScriptCall.TheVariants as call
-use Rattle.wl_server.specs.Deeds.{Deed}
-use Rattle.wl_server.specs.Ids.{ClientParts, same_client}
-use Rattle.wl_server.specs.Moves.{ScriptMoves, nothing_taken}
-use Rattle.wl_server.specs.PartStep.{OfClient, PartStep, lacks_move, over_scripts}
+use Rattle.wl_server_client.specs.Deeds.{Deed}
+use Rattle.wl_server_client.specs.Ids.{ClientParts, same_client}
+use Rattle.wl_server_model.specs.Moves.{ScriptMoves, nothing_taken}
+use Rattle.wl_server_model.specs.PartStep.{OfClient, PartStep, lacks_move, over_scripts}
 use Rattle.wl_server.specs.Inside.Scripting.{move_of, reply_to, step_of}
-use Rattle.wl_server.specs.Server.{Seen, ServerState, Stored, no_times}
-use Rattle.wl_server.proofs.CallSteps.Numbering.{in_time_same, numbered_at, numbers_stay}
+use Rattle.wl_server_model.specs.Server.{Seen, ServerState}
+use Rattle.wl_server_client.specs.Stored.{Stored, no_times}
+use Rattle.wl_server_client.proofs.CallSteps.Numbers.{in_time_same}
+use Rattle.wl_server_model.proofs.CallSteps.Numbering.{numbered_at, numbers_stay}
 use Rattle.wl_server.proofs.CallSteps.OneClient.{is_own, done_to, held_by, none_stored}
-use Rattle.wl_server.proofs.CallSteps.Moved.{moved, moves}
-use Rattle.wl_server.proofs.CleanupSteps.Taken.{slots_set}
+use Rattle.wl_server_model.proofs.CallSteps.Moved.{moved, moves}
+use Rattle.wl_server_model.proofs.CleanupSteps.Taken.{slots_set}
 use Rattle.wl_server.proofs.runs.script.Backend+Memory+U+G+C.script.Goals as goal
 
 own : (T U G C : Type 0) (id : ClientParts) (x : ScriptCall) (answer : Result (Unit {0}) ScriptError)

@@ -1,12 +1,13 @@
 use Rattle.std.proofs.Common.{◌∙◌, Ok, Err, List, [], false, refl, ap}
 use Rattle.wl_link.specs.Exchange.{Queue}
 use Rattle.wl_link.specs.Script.{Script}
-use Rattle.wl_server.specs.Moves.{Moved, TakeSent, taken}
-use Rattle.wl_server.specs.Server.{Stored, no_times}
-use Rattle.wl_server.proofs.CallSteps.Numbering.{in_time_same, numbered_at, numbers_stay}
+use Rattle.wl_server_model.specs.Moves.{Moved, TakeSent, taken}
+use Rattle.wl_server_client.specs.Stored.{Stored, no_times}
+use Rattle.wl_server_client.proofs.CallSteps.Numbers.{in_time_same}
+use Rattle.wl_server_model.proofs.CallSteps.Numbering.{numbered_at, numbers_stay}
 use Rattle.wl_server.proofs.CallSteps.OneClient.{done_to, none_stored}
-use Rattle.wl_server.proofs.CallSteps.Moved.{moved, moves}
-use Rattle.wl_server.proofs.CleanupSteps.Taken.{slots_set}
+use Rattle.wl_server_model.proofs.CallSteps.Moved.{moved, moves}
+use Rattle.wl_server_model.proofs.CleanupSteps.Taken.{slots_set}
 use Rattle.wl_server.proofs.runs.script.Backend+Memory+U+G+C.take_sent.Goals as goal
 
 pub returns-in_default : goal.returns-in_default

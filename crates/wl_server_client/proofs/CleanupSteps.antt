@@ -1,0 +1,2 @@
+-- The objects of a client that leaves are noted.
+pub mod Ending

@@ -1,0 +1,5 @@
+pub mod CallSteps
+pub mod CleanupSteps
+pub mod GlobalCalls
+pub mod ObjectCalls
+pub mod Readings

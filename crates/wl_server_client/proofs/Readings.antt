@@ -1,0 +1,10 @@
+-- How messages that are handled join to a reading, and how an action ends.
+pub mod Notes
+pub mod Texts
+pub mod Finishing
+pub mod Handling
+pub mod Limits
+pub mod Requesting
+pub mod OneMessage
+pub mod Words
+pub mod DataGiven

@@ -1,0 +1,21 @@
+-- What the functions here promise each other, and `wl_server`; no clause of a call that programs make names these.
+pub mod Conversion
+pub mod ReadingLoop
+pub mod Responses
+pub mod Syncing
+pub mod Words
+pub mod InPlace
+pub mod Client
+pub mod Puts
+pub mod Creation
+pub mod Destruction
+pub mod Carried
+pub mod Gathering
+pub mod Leaving
+pub mod Opening
+pub mod Finishing
+pub mod News
+pub mod EventChecks
+pub mod Ending
+pub mod Choosing
+pub mod NoteTimes

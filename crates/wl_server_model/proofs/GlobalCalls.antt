@@ -1,0 +1,2 @@
+-- Globals, and what registries are told of them.
+pub mod AtName
