@@ -141,7 +141,7 @@ typedef uint32_t nb_status;
 enum {
     NB_OK = 0,
     NB_NO_SESSION = 1,    /* the place is empty */
-    NB_IN_USE = 2,        /* the place has a session already, or queues */
+    NB_IN_USE = 2,        /* the place has a session already, or queues; nb_client_tell_messages: it comes too late */
     NB_OUT_OF_MEMORY = 3, /* malloc refused */
     NB_WOULD_BLOCK = 4,   /* nothing more is there now */
     NB_TOO_SMALL = 5,     /* the memory that was lent is too small; what is needed is told, and nothing is lost */
@@ -581,6 +581,33 @@ nb_status nb_server_merge_interfaces(nb_server *place, const uint8_t *text, size
                                      const nb_message_row *messages, size_t message_count,
                                      const nb_argument_row *arguments, size_t argument_count,
                                      nb_extension_fault *fault);
+
+/* Takes one whole interface into the table, and writes the number that it has there. nb_server_join, below, takes an
+ * nb_table. Make it for each description of an interface that a program brings, as each `struct wl_interface` of
+ * libwayland is one: it tells which row of the table that is.
+ *
+ * If the table has a row of the interface's name, and at each opcode that both have the messages are the same, it is
+ * that row: what the row lacks is appended, and its version rises if that of the interface is greater. If the name is
+ * new, it is a new row, the last one. Two messages are the same if they have one name, one `since`, arguments of the
+ * same kinds, the same of which may be null, and if these name the same interfaces, or none. is_destructor is not
+ * compared. So this is stricter than nb_server_merge_interfaces: code that was made for the interface meets no null and
+ * no object that it does not allow.
+ *
+ * In the rows the number of an interface is that of the table: so first make this call for those that the messages
+ * name. Where interfaces name one another, make it for one of them without messages first, with the version 0: that
+ * gives its number, and the call with all its messages gives the same one.
+ *
+ * Nothing of the table changes but by what is appended, and after an error nothing does. The rows are of one interface:
+ * NB_FAULT_ROW if they are of none or of several. NB_FAULT_CONTRADICTS tells of a row that differs at which message, a
+ * request before an event. The other faults are of what is new to the table; wl_display, wl_registry and wl_callback
+ * take no more: NB_FAULT_UNKNOWN_INTERFACE. The index of `fault` is always 0.
+ *
+ * `number` is written after NB_OK, `fault` after NB_BAD_TABLE and NB_OUT_OF_MEMORY, the statuses. */
+nb_status nb_server_join_interface(nb_server *place, const uint8_t *text, size_t text_length,
+                                   const nb_interface_row *interfaces, size_t interface_count,
+                                   const nb_message_row *messages, size_t message_count,
+                                   const nb_argument_row *arguments, size_t argument_count, uint32_t *number,
+                                   nb_extension_fault *fault);
 
 /* Writes 1 if malloc refused in the last call that asked the core, also where the call did its work all the same (a
  * client that could not be told something is killed then). Else 0. A call that does not ask the core leaves it: the calls
@@ -1026,6 +1053,23 @@ nb_status nb_client_merge_interfaces(nb_client *place, const uint8_t *text, size
                                      const nb_argument_row *arguments, size_t argument_count,
                                      nb_extension_fault *fault);
 
+/* Takes one whole interface into the table, as nb_server_join_interface. But a row that differs does not refuse it: it
+ * is another interface of that name, in a row of its own, whose name has an apostrophe behind it (thing'), or two, and
+ * so on. It is the first of these rows that agrees, or a new one. So NB_FAULT_CONTRADICTS never comes. The server knows
+ * no such names: bind such an interface by its own name, and by this number.
+ *
+ * Without messages an interface agrees with the first row of its name, which may be another one's. So if the call with
+ * all its messages answers another number, what named the first one in between names that other interface. */
+nb_status nb_client_join_interface(nb_client *place, const uint8_t *text, size_t text_length,
+                                   const nb_interface_row *interfaces, size_t interface_count,
+                                   const nb_message_row *messages, size_t message_count,
+                                   const nb_argument_row *arguments, size_t argument_count, uint32_t *number,
+                                   nb_extension_fault *fault);
+
+/* Writes how many descriptors an event brings: the one of this opcode, of the interface with this number. Statuses:
+ * NB_UNKNOWN_INTERFACE; NB_UNKNOWN_OPCODE. */
+nb_status nb_client_event_descriptors(nb_client *place, uint32_t interface, uint32_t opcode, uint32_t *count);
+
 /* Writes 1 if malloc refused in the last call that asked the core, as nb_server_memory_refused, and else 0. It says nothing
  * of the text for a null that nb_client_next_event refused (nb_client_refuse_nulls). */
 nb_status nb_client_memory_refused(nb_client *place, uint32_t *is_refused);
@@ -1053,6 +1097,16 @@ nb_status nb_client_set_room(nb_client *place, uint64_t room);
  * this setting or without it, if its interface has it; if not, it is passed over, too. Set it before anything is
  * received. */
 nb_status nb_client_pass_over_unknown_senders(nb_client *place, uint32_t passes);
+
+/* Sets whether messages are told, by nb_client_next_told: they are if `is_on` is not 0. At first they are not. With 0
+ * what waits to be told is dropped.
+ *
+ * They are told from the first one on, since a message is read by those before it. So set it before nb_client_received
+ * and nb_client_sent answer NB_OK for the first time; what nb_client_send_request has asked for by then is told.
+ *
+ * Statuses: NB_IN_USE (they are not told, and something was received or sent); NB_OUT_OF_MEMORY. Nothing changes then,
+ * nor if they are told already. */
+nb_status nb_client_tell_messages(nb_client *place, uint32_t is_on);
 
 /* The display, which is object 1. */
 nb_status nb_client_display(nb_client *place, nb_object_id *display);
@@ -1108,6 +1162,30 @@ nb_status nb_client_finish_event(nb_client *place);
  * Statuses: NB_NOT_OPEN; NB_UNEXPECTED_DATA (it made no object; it is still open); NB_OUT_OF_MEMORY. */
 nb_status nb_client_finish_event_with(nb_client *place, uint64_t data, uint32_t *is_kept);
 
+/* Tells the next message that the session has read or written: each once, those of each side in order. What was read
+ * before this call, nb_client_next_event, nb_client_to_send or nb_client_sent comes before what was written before it.
+ * It is told once it is read; or once it is where nb_client_to_send finds it, after nb_client_flush. Ask until
+ * NB_WOULD_BLOCK: what is not asked for is kept. So after nb_client_next_event has answered NB_OK the last event that
+ * is told is the one that it handed out, and those before it, since the last time, it handed to nobody: events of the
+ * display, and those for objects that are not there or that you have destroyed. What a bind makes is read by the table's
+ * first row of its name: events of an object whose interface is a further row of that name may be told otherwise than
+ * they were handed out. Of a session that has failed, requests that it did not send may be told, too, with the descriptor
+ * -1 where nb_client_next_dropped gave it up.
+ *
+ * A message is read, and its arguments are written, as by nb_server_next_told. Without memory for what is to be told
+ * nb_client_received, nb_client_next_event, nb_client_to_send and nb_client_sent answer NB_OUT_OF_MEMORY, and do
+ * nothing else.
+ *
+ * Statuses:
+ *
+ *   - NB_INVALID_ID: messages are not told.
+ *   - NB_WOULD_BLOCK: there is no more now.
+ *   - NB_TOO_SMALL: `arguments` and `bytes` of `told` say what is needed, and the message is kept until a call has
+ *     room.
+ *   - NB_OUT_OF_MEMORY: ask again later. Nothing is lost. */
+nb_status nb_client_next_told(nb_client *place, nb_told *told, nb_argument *arguments, size_t argument_room,
+                              uint8_t *bytes, size_t byte_room);
+
 /* Sends a request: it waits until the host sends it. If the request makes an object, the argument of its new id is null
  * (nb_placeholder), `has_data` is 1, and `created` is its id; else that is null. wl_registry.bind has the arguments
  * name, interface's name, version and new id, and `has_child` is 1 with the interface and version of the object. A
@@ -1160,12 +1238,14 @@ nb_status nb_client_reclaim(nb_client *place, const nb_object_id *object);
  * again later). */
 nb_status nb_client_flush(nb_client *place);
 
-/* Copies what is to be sent next, as nb_server_to_send. Statuses: NB_TOO_SMALL. */
+/* Copies what is to be sent next, as nb_server_to_send. Statuses: NB_TOO_SMALL; NB_OUT_OF_MEMORY (only if messages are
+ * told, nb_client_tell_messages: there was no memory for those that are to be sent, and nothing is copied. Call again). */
 nb_status nb_client_to_send(nb_client *place, uint8_t *bytes, size_t byte_room, int32_t *descriptors,
                             size_t descriptor_room, nb_counts *counts);
 
 /* sendmsg took this many bytes, and with the first of them all descriptors: close them. A greater count counts as all
- * that waits. No other call may come between nb_client_to_send and this one. */
+ * that waits. No other call may come between nb_client_to_send and this one. Statuses: NB_OUT_OF_MEMORY (only if
+ * messages are told: nothing is done; call again until it is NB_OK). */
 nb_status nb_client_sent(nb_client *place, uint32_t count);
 
 /* How much waits, ready or not, as nb_server_waiting tells it: in `received` what no event was read of. Once the session
@@ -1537,6 +1617,15 @@ static inline nb_status nb_server_merge(nb_server *place, const nb_table *table,
                                       table->argument_count, fault);
 }
 
+/* nb_server_join_interface with a table of one interface. */
+static inline nb_status nb_server_join(nb_server *place, const nb_table *table, uint32_t *number,
+                                       nb_extension_fault *fault)
+{
+    return nb_server_join_interface(place, table->text, table->text_length, table->interfaces, table->interface_count,
+                                    table->messages, table->message_count, table->arguments, table->argument_count,
+                                    number, fault);
+}
+
 /* nb_client_connect with a table. */
 static inline nb_status nb_client_start(nb_client *place, const nb_table *table, nb_table_fault *fault)
 {
@@ -1558,6 +1647,15 @@ static inline nb_status nb_client_merge(nb_client *place, const nb_table *table,
     return nb_client_merge_interfaces(place, table->text, table->text_length, table->interfaces,
                                       table->interface_count, table->messages, table->message_count, table->arguments,
                                       table->argument_count, fault);
+}
+
+/* nb_client_join_interface with a table of one interface. */
+static inline nb_status nb_client_join(nb_client *place, const nb_table *table, uint32_t *number,
+                                       nb_extension_fault *fault)
+{
+    return nb_client_join_interface(place, table->text, table->text_length, table->interfaces, table->interface_count,
+                                    table->messages, table->message_count, table->arguments, table->argument_count,
+                                    number, fault);
 }
 
 /* nb_policy_new with a table. */

@@ -493,6 +493,72 @@ static void ends(void)
     OK(nb_client_end(&session));
 }
 
+/* Whether the next message that is told is one that was read, of this object, with this opcode and so many arguments. */
+static int tells(uint32_t is_event, uint32_t interface, uint32_t number, uint32_t opcode, uint32_t count)
+{
+    nb_told told;
+    OK(nb_client_next_told(&session, &told, arguments, 16, bytes, sizeof bytes));
+    return told.kind == NB_MESSAGE && told.is_event == is_event && told.interface == interface && told.number == number &&
+           told.opcode == opcode && told.arguments == count && told.is_last == 0;
+}
+
+static nb_status tells_in(size_t room, nb_told *told)
+{
+    return nb_client_next_told(&session, told, arguments, room, bytes, sizeof bytes);
+}
+
+/* Each message is told once, those that no event hands out, too; but only of a session that is new. */
+static void messages(void)
+{
+    const nb_argument placeholder = nb_placeholder();
+    const nb_argument bind[] = { nb_uint(1), nb_string(0, 4), nb_uint(3), nb_placeholder() };
+    const nb_argument give[] = { nb_string(0, 2), nb_array(2, 3), nb_descriptor(50) };
+    nb_told told;
+    connect_session();
+    IS(tells_in(16, &told), NB_INVALID_ID);
+    IS(nb_client_tell_messages(&session, 1), NB_IN_USE);
+    OK(nb_client_end(&session));
+    OK(nb_client_start(&session, &quad, &fault));
+    OK(nb_client_tell_messages(&session, 1));
+    OK(nb_client_pass_over_unknown_senders(&session, 1));
+    OK(nb_client_display(&session, &display));
+    registry = ask(&display, 1, 60, &placeholder, 1, "");
+    object = ask(&registry, 0, 70, bind, 4, "quad");
+    IS(tells_in(16, &told), NB_WOULD_BLOCK);
+    OK(nb_client_flush(&session));
+    HOLDS(tells(0, NB_INTERFACE_DISPLAY, 1, 1, 1));
+    HOLDS(arguments[0].kind == NB_NEW_ID && arguments[0].object.number == 2);
+    IS(tells_in(2, &told), NB_TOO_SMALL);
+    HOLDS(told.kind == NB_MESSAGE && told.arguments == 4 && told.bytes == 8);
+    HOLDS(tells(0, NB_INTERFACE_REGISTRY, 2, 0, 4));
+    HOLDS(strcmp((const char *)bytes + arguments[1].at, "quad") == 0 && arguments[3].object.number == 3 &&
+          arguments[3].object.interface == NB_QUAD);
+    IS(tells_in(16, &told), NB_WOULD_BLOCK);
+    OK(nb_client_sent(&session, 1000));
+    put(9, 0, "u", 1);
+    put(1, 1, "u", 4);
+    put(3, NB_QUAD_EVENT_MOVED, "u", (uint32_t)-9);
+    OK(come(NULL, 0));
+    IS(tells_in(16, &told), NB_WOULD_BLOCK);
+    ask(&object, NB_QUAD_REQUEST_GIVE, 0, give, 3, "abxyz");
+    OK(next_event());
+    OK(nb_client_finish_event(&session));
+    OK(nb_client_flush(&session));
+    OK(tells_in(16, &told));
+    HOLDS(told.kind == NB_UNKNOWN_MESSAGE && told.is_event == 1 && told.number == 9 && told.opcode == 0);
+    HOLDS(tells(1, NB_INTERFACE_DISPLAY, 1, 1, 1));
+    HOLDS(arguments[0].kind == NB_UINT && arguments[0].value == 4);
+    HOLDS(tells(1, NB_QUAD, 3, NB_QUAD_EVENT_MOVED, 1));
+    HOLDS(arguments[0].kind == NB_INT && arguments[0].value == -9);
+    HOLDS(tells(0, NB_QUAD, 3, NB_QUAD_REQUEST_GIVE, 3));
+    HOLDS(strcmp((const char *)bytes + arguments[0].at, "ab") == 0 && arguments[2].kind == NB_DESCRIPTOR &&
+          arguments[2].value == 50);
+    IS(tells_in(16, &told), NB_WOULD_BLOCK);
+    OK(nb_client_tell_messages(&session, 0));
+    IS(tells_in(16, &told), NB_INVALID_ID);
+    OK(nb_client_end(&session));
+}
+
 /* A conversation of both sessions, in pieces of every size: what one sends the other one receives. */
 static void both(size_t piece)
 {
@@ -576,6 +642,7 @@ int main(void)
     by_number();
     unknown_senders();
     freed();
+    messages();
     ends();
     both(1);
     both(7);

@@ -3,6 +3,7 @@
 #include "tests.h"
 
 static nb_client session;
+static nb_extension_fault why;
 
 #define NONE(call) IS(call, NB_NO_SESSION)
 
@@ -23,6 +24,7 @@ static void server_calls(void)
     nb_told told;
     NONE(nb_server_end(&server));
     NONE(nb_server_extend(&server, &quad, &fault));
+    NONE(nb_server_join(&server, &quad, &number, &why));
     NONE(nb_server_memory_refused(&server, &number));
     NONE(nb_server_set_default_max_buffer_size(&server, 1));
     NONE(nb_server_refuse_nulls(&server, 1));
@@ -92,13 +94,17 @@ static void client_calls(void)
     nb_request request = { { 1, { 0, 0 }, 4, 9 }, 0, 0, 0, 0, 0, 0, 0 };
     nb_error error;
     nb_waiting waiting;
+    nb_told told;
     NONE(nb_client_end(&session));
     NONE(nb_client_extend(&session, &quad, &fault));
+    NONE(nb_client_join(&session, &quad, &number, &why));
+    NONE(nb_client_event_descriptors(&session, NB_INTERFACE_CALLBACK, 0, &number));
     NONE(nb_client_memory_refused(&session, &number));
     NONE(nb_client_set_max_buffer_size(&session, 1, 1));
     NONE(nb_client_refuse_nulls(&session, 1));
     NONE(nb_client_set_room(&session, 1));
     NONE(nb_client_pass_over_unknown_senders(&session, 1));
+    NONE(nb_client_tell_messages(&session, 1));
     NONE(nb_client_display(&session, &object));
     NONE(nb_client_received(&session, bytes, 8, descriptors, 1));
     NONE(nb_client_received_end(&session));
@@ -108,6 +114,7 @@ static void client_calls(void)
     NONE(nb_client_next_event(&session, &event, arguments, 16, bytes, sizeof bytes));
     NONE(nb_client_finish_event(&session));
     NONE(nb_client_finish_event_with(&session, 1, &number));
+    NONE(nb_client_next_told(&session, &told, arguments, 16, bytes, sizeof bytes));
     NONE(nb_client_send_request(&session, &request, arguments, 0, bytes, 0, &object));
     NONE(nb_client_object_for_protocol_id(&session, 1, &object));
     NONE(nb_client_object_info(&session, &object, &info));

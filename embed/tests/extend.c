@@ -1,5 +1,5 @@
 /* A table that whole rows extend: two versions of one protocol in one session, whichever comes first, and rows that
- * contradict. Each test is made of a server's session and of a client's. */
+ * contradict; and single interfaces that join it. Each test is made of a server's session and of a client's. */
 #include "rows.h"
 #include "tests.h"
 
@@ -388,19 +388,217 @@ static void fixed_interfaces(void)
     end();
 }
 
+/* ---- one whole interface */
+
+static uint32_t number;
+
+static nb_status join(const row_list *rows)
+{
+    nb_table table = table_of(rows);
+    why = (nb_extension_fault){ 90, 91, 92, 93, 94 };
+    number = 95;
+    return is_client ? nb_client_join(&session, &table, &number, &why) : nb_server_join(&server, &table, &number, &why);
+}
+
+/* It is this row, and no fault is written. */
+#define IS_ROW(rows, expected)                                                                                         \
+    do {                                                                                                               \
+        OK(join(rows));                                                                                                \
+        HOLDS(number == (expected) && is_fault(90, 91, 92, 93, 94));                                                   \
+    } while (0)
+
+/* It is refused, and no number is written. */
+#define REFUSED(rows, ...)                                                                                             \
+    do {                                                                                                               \
+        IS(join(rows), NB_BAD_TABLE);                                                                                  \
+        HOLDS(number == 95 && is_fault(__VA_ARGS__));                                                                  \
+    } while (0)
+
+/* The first interface of the rows, whose messages come first. */
+static row_list first_of(row_list rows)
+{
+    rows.interface_count = 1;
+    return rows;
+}
+
+static row_list note_of(uint32_t version, uint32_t events)
+{
+    row_list rows = { 0 };
+    interface_row(&rows, "note", version);
+    if (events > 0)
+        event_row(&rows, "read", 1, "");
+    return rows;
+}
+
+/* A program has two modules, of which the second knows the second version; each message names what joined before. */
+static void interfaces_join(void)
+{
+    const row_list none = { 0 }, first = first_version(), second = first_of(second_version());
+    const row_list bare = note_of(0, 0), note = note_of(2, 1);
+    OK(start(&none));
+    IS_ROW(&first, PAD);
+    REFUSED(&second, 0, NB_FAULT_UNKNOWN_INTERFACE, 0, 0, 0); /* it names one that is not there */
+    IS_ROW(&bare, NOTE);
+    for (int i = 0; i < 2; i++) {
+        IS_ROW(&second, PAD);
+        IS_ROW(&note, NOTE);
+        IS_ROW(&first, PAD); /* shorter */
+    }
+    if (is_client)
+        client_speaks_the_second();
+    else
+        speaks_the_second();
+    end();
+}
+
+/* A server refuses what differs from the row of its name. A client has another row for it, the same each time. */
+static void differs(const pad_parts *parts, uint32_t is_event)
+{
+    const row_list usual_rows = pad_of(2, &usual), lone = first_of(usual_rows), other = first_of(pad_of(7, parts));
+    OK(start(&usual_rows));
+    for (int i = 0; i < 2; i++)
+        if (is_client)
+            IS_ROW(&other, NOTE + 1);
+        else
+            REFUSED(&other, 0, NB_FAULT_CONTRADICTS, is_event, 1, 2);
+    IS_ROW(&lone, PAD);
+    if (!is_client)
+        HOLDS(version_of(PAD) == 2 && version_of(NOTE + 1) == 0);
+    end();
+}
+
+static void differences(void)
+{
+    pad_parts parts = usual;
+    parts.name = "layer";
+    differs(&parts, 0);
+    parts = usual;
+    parts.kinds = "isunoa";
+    differs(&parts, 0);
+    parts = usual;
+    parts.kinds = "isunoahi";
+    differs(&parts, 0);
+    parts = usual;
+    parts.kinds = "usunoah";
+    differs(&parts, 0);
+    parts = usual;
+    parts.kinds = "i?sunoah"; /* a null string */
+    differs(&parts, 0);
+    parts = usual;
+    parts.kinds = "isun?oah"; /* a null object */
+    differs(&parts, 0);
+    parts = usual;
+    parts.since = 1;
+    differs(&parts, 0);
+    parts = usual;
+    parts.peer = PAD;
+    differs(&parts, 0);
+    parts = usual;
+    parts.peer = NB_INTERFACE_ANY;
+    differs(&parts, 0);
+    parts = usual;
+    parts.maker = PAD;
+    differs(&parts, 0);
+    parts = usual;
+    parts.event = "sold";
+    differs(&parts, 1);
+    parts = usual;
+    parts.event_kinds = "ui";
+    differs(&parts, 1);
+    parts = usual;
+    parts.event_since = 2;
+    differs(&parts, 1);
+    parts = usual;
+    parts.name = "lax";
+    parts.event = "sold";
+    differs(&parts, 0);
+}
+
+static row_list thing(uint32_t version, const char *kinds, const char *event_kinds)
+{
+    row_list rows = { 0 };
+    interface_row(&rows, "thing", version);
+    request_row(&rows, "draw", 1, kinds);
+    if (event_kinds)
+        event_row(&rows, "dry", 1, event_kinds);
+    return rows;
+}
+
+/* Several of one name: each agrees with the first row that does not differ, and lengthens that alone. */
+static void others_of_one_name(void)
+{
+    uint32_t count = 9;
+    const row_list none = { 0 }, one = thing(1, "i", NULL), two = thing(2, "s", NULL), three = thing(3, "u", NULL);
+    const row_list longer = thing(4, "s", "h"), other = thing(4, "s", "hh");
+    row_list ends = two;
+    ends.messages[0].is_destructor = 1; /* that is not compared */
+    OK(start(&none));
+    IS_ROW(&one, PAD);
+    IS_ROW(&two, PAD + 1);
+    IS_ROW(&three, PAD + 2);
+    IS_ROW(&ends, PAD + 1);
+    IS(nb_client_event_descriptors(&session, PAD + 1, 0, &count), NB_UNKNOWN_OPCODE);
+    IS_ROW(&longer, PAD + 1);
+    IS_ROW(&other, PAD + 3);
+    IS_ROW(&three, PAD + 2);
+    IS_ROW(&one, PAD);
+    HOLDS(count == 9);
+    OK(nb_client_event_descriptors(&session, PAD + 1, 0, &count));
+    HOLDS(count == 1);
+    OK(nb_client_event_descriptors(&session, PAD + 3, 0, &count));
+    HOLDS(count == 2);
+    IS(nb_client_event_descriptors(&session, PAD, 0, &count), NB_UNKNOWN_OPCODE);
+    IS(nb_client_event_descriptors(&session, PAD + 4, 0, &count), NB_UNKNOWN_INTERFACE);
+    IS(nb_client_event_descriptors(&session, UINT32_MAX, UINT32_MAX, &count), NB_UNKNOWN_INTERFACE);
+    HOLDS(count == 2);
+    OK(nb_client_event_descriptors(&session, NB_INTERFACE_CALLBACK, 0, &count));
+    HOLDS(count == 0);
+    end();
+}
+
+static void faults_of_one(void)
+{
+    const row_list none = { 0 }, first = first_version(), two = second_version();
+    OK(start(&first));
+    REFUSED(&none, 0, NB_FAULT_ROW, 0, 0, 0);
+    REFUSED(&two, 0, NB_FAULT_ROW, 0, 0, 0);
+    row_list outside = first;
+    outside.messages[1].name_at = 511;
+    REFUSED(&outside, 0, NB_FAULT_ROW, 0, 0, 0);
+    row_list bad = { 0 };
+    interface_row(&bad, "bad", 1);
+    request_row(&bad, "make", 1, "n", NB_INTERFACE_ANY);
+    REFUSED(&bad, 0, NB_FAULT_MISSING_CHILD, 0, 0, 0);
+    row_list callback = { 0 };
+    interface_row(&callback, "wl_callback", 1);
+    event_row(&callback, "done", 1, "u");
+    IS_ROW(&callback, NB_INTERFACE_CALLBACK);
+    callback.interfaces[0].version = 2;
+    REFUSED(&callback, 0, NB_FAULT_UNKNOWN_INTERFACE, 0, 0, 0);
+    if (!is_client)
+        HOLDS(version_of(PAD) == 1 && version_of(NOTE) == 0);
+    end();
+}
+
 int main(void)
 {
     const row_list none = { 0 };
     for (is_client = 0; is_client < 2; is_client++) {
         IS(merge(&none), NB_NO_SESSION);
         HOLDS(is_fault(90, 91, 92, 93, 94));
+        IS(join(&none), NB_NO_SESSION);
+        HOLDS(number == 95 && is_fault(90, 91, 92, 93, 94));
         two_versions();
         contradictions();
         the_second_row();
         what_is_not_compared();
         faults();
         fixed_interfaces();
+        interfaces_join();
+        differences();
+        faults_of_one();
     }
+    others_of_one_name();
     is_client = 0;
     objects_that_are_there();
     return tell();

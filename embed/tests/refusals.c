@@ -132,11 +132,13 @@ static void use(void)
     nb_object_info info;
     nb_event event;
     nb_error error;
+    nb_told told;
     uint64_t data;
     uint32_t is_kept;
     int notes = 0;
     if (see(nb_client_start(&session, &quad, &fault)) != NB_OK)
         return;
+    see(nb_client_tell_messages(&session, 1));
     see(nb_client_display(&session, &display));
     nb_argument with[] = { nb_placeholder(), nb_string(0, 4), nb_uint(3), nb_placeholder() };
     nb_request request = { display, 1, 1, 1, 0, 0, 0, 0 };
@@ -160,6 +162,8 @@ static void use(void)
     see(nb_client_flush(&session));
     see(nb_client_to_send(&session, bytes, sizeof bytes, descriptors, NB_MOST_DESCRIPTORS, &counts));
     see(nb_client_sent(&session, counts.bytes));
+    while (see(nb_client_next_told(&session, &told, arguments, 16, bytes, sizeof bytes)) == NB_OK)
+        ;
     put(1, 0, "uus", 2, 7, "wrong");
     see(nb_client_received(&session, wire, wire_length, NULL, 0));
     wire_length = 0;
@@ -301,11 +305,55 @@ static void extend_in_turn(int is_client)
            refused);
 }
 
+/* Interfaces join it one by one: a new one, one that is longer, one that a client has another row for. */
+static nb_status join(int is_client, const row_list *rows, uint32_t *number, nb_extension_fault *why)
+{
+    nb_table table = table_of(rows);
+    return is_client ? nb_client_join(&session, &table, number, why) : nb_server_join(&server, &table, number, why);
+}
+
+static void join_in_turn(int is_client)
+{
+    const row_list first = pads(1, 1);
+    const nb_table table = table_of(&first);
+    row_list joining[3] = { pads(4, 3), pads(4, 3), pads(4, 3) };
+    long refused = 0, all = 0;
+    joining[1].text[joining[1].interfaces[0].name_at] = 'r'; /* "rad" is new */
+    joining[2].messages[0].since = 2;
+    for (int i = 0; i < 3; i++)
+        joining[i].interface_count = 1;
+    for (is_refused = 1; is_refused; all++) {
+        nb_extension_fault why = { 0 };
+        left = is_refused = 0;
+        OK(is_client ? nb_client_start(&session, &table, &fault) : nb_server_start(&server, &table, &fault));
+        left = all + 1;
+        for (uint32_t i = 0; i < 2 + (uint32_t)is_client; i++) {
+            uint32_t number = 9;
+            nb_status status = join(is_client, &joining[i], &number, &why);
+            if (status == NB_OUT_OF_MEMORY) {
+                refused++;
+                left = 0;
+                HOLDS(is_refused && number == 9 && why.fault == NB_FAULT_OUT_OF_MEMORY && why.interface == 0);
+                status = join(is_client, &joining[i], &number, &why);
+            }
+            OK(status);
+            HOLDS(number == (i == 0 ? NB_INTERFACE_FIRST : NB_INTERFACE_FIRST + 2 + i));
+        }
+        left = 0;
+        OK(is_client ? nb_client_end(&session) : nb_server_end(&server));
+    }
+    HOLDS(refused > 30);
+    printf("interfaces that join: %ld allocations, each refused once; out of memory was answered %ld times\n", all - 1,
+           refused);
+}
+
 int main(void)
 {
     asked_again();
     extend_in_turn(0);
     extend_in_turn(1);
+    join_in_turn(0);
+    join_in_turn(1);
     refuse_each(serve, "a server");
     refuse_each(use, "a client");
     return tell();

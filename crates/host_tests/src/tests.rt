@@ -6,6 +6,7 @@ mod args;
 mod chosen;
 mod client;
 mod client_acts;
+mod client_messages;
 mod drills;
 mod guards;
 mod messages;

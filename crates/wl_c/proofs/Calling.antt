@@ -3,11 +3,11 @@
 -- In each lemma the place held `w`, which was taken out and lent to the call as `x`. The call made `y` of it, which was put back.
 use Rattle.std.proofs.Common.{◌≡◌, ℕ, subst}
 use Rattle.std.specs.Prelude.{Bool, Option, Some, Result}
-use Rattle.wl_c.specs.Calls.{Added, Did, Extended, Gave, GaveFlag, Written, WrittenExtension, WrittenFault, flagged}
-use Rattle.wl_host.specs.Status.{code_of}
-use Rattle.wl_host.specs.declared.extending.ExtensionFault.{ExtensionFault}
-use Rattle.wl_host.specs.declared.rows.TableFault.{TableFault}
-use Rattle.wl_host.specs.declared.status.Status.{Status}
+use Rattle.wl_c.specs.Calls.{Added, Did, Extended, Gave, GaveFlag, Joined, Written, WrittenExtension, WrittenFault, WrittenNumber, flagged}
+use Rattle.wl_flat.specs.Status.{code_of}
+use Rattle.wl_flat.specs.declared.extending.ExtensionFault.{ExtensionFault}
+use Rattle.wl_flat.specs.declared.rows.TableFault.{TableFault}
+use Rattle.wl_flat.specs.declared.status.Status.{Status}
 
 -- what holds of `x` and `y` holds of what is in the place
 pub moved : {S : Type 0} (P : S → S → Type 0) {before after : Option S} {w x y s t : S} →
@@ -43,4 +43,9 @@ added R {answer = answer} took lent put told call =
 pub extended : {S : Type 0} (R : S → Result (Unit {0}) ExtensionFault → S → Type 0) {before after : Option S} {w x y : S} {code : ℕ} {old new : ExtensionFault} {answer : Result (Unit {0}) ExtensionFault} →
     before ≡ Some w → x ≡ w → after ≡ Some y → WrittenExtension answer code old new → R x answer y → Extended before code old new after R
 extended R {answer = answer} took lent put told call =
+    λ s t is_s is_t. (answer, told, moved (λ u v. R u answer v) took lent put is_s is_t call)
+
+pub joined : {S : Type 0} (R : S → Result ℕ ExtensionFault → S → Type 0) {before after : Option S} {w x y : S} {code number number' : ℕ} {fault fault' : ExtensionFault} {answer : Result ℕ ExtensionFault} →
+    before ≡ Some w → x ≡ w → after ≡ Some y → WrittenNumber answer code number number' fault fault' → R x answer y → Joined before code number number' fault fault' after R
+joined R {answer = answer} took lent put told call =
     λ s t is_s is_t. (answer, told, moved (λ u v. R u answer v) took lent put is_s is_t call)

@@ -2,10 +2,10 @@
 -- the number that it answers, and of what it writes.
 use Rattle.std.specs.Prelude.{◌≡◌, ◌==◌, ℕ, Bool, if◌then◌else◌, Option, Some, Result, Ok, Err}
 use Rattle.wl_c.specs.Flags.{flag}
-use Rattle.wl_host.specs.Status.{code_of}
-use Rattle.wl_host.specs.declared.extending.ExtensionFault.{ExtensionFault}
-use Rattle.wl_host.specs.declared.rows.TableFault.{TableFault}
-use Rattle.wl_host.specs.declared.status.Status.{Status}
+use Rattle.wl_flat.specs.Status.{code_of}
+use Rattle.wl_flat.specs.declared.extending.ExtensionFault.{ExtensionFault}
+use Rattle.wl_flat.specs.declared.rows.TableFault.{TableFault}
+use Rattle.wl_flat.specs.declared.status.Status.{Status}
 
 -- ---- how an answer goes out
 
@@ -80,3 +80,15 @@ WrittenExtension (Err refused) code old new = (code ≡ extension_code refused) 
 abbrev pub Extended : {S : Type 0} → Option S → ℕ → ExtensionFault → ExtensionFault → Option S → (S → Result (Unit {0}) ExtensionFault → S → Type 0) → Type 0
 Extended {S} before code old new after R =
     (s t : S) → before ≡ Some s → after ≡ Some t → (answer : Result (Unit {0}) ExtensionFault) × WrittenExtension answer code old new × R s answer t
+
+-- ---- one whole interface
+
+-- its number is written, and the number of the status is 0; or it is refused, and why is written
+abbrev pub WrittenNumber : Result ℕ ExtensionFault → ℕ → ℕ → ℕ → ExtensionFault → ExtensionFault → Type 0
+WrittenNumber (Ok joined) code number number' fault fault' = (code ≡ 0) × (number' ≡ joined) × (fault' ≡ fault)
+WrittenNumber (Err refused) code number number' fault fault' = (code ≡ extension_code refused) × (number' ≡ number) × (fault' ≡ refused)
+
+-- an interface was to join the table of the session, so that this holds
+abbrev pub Joined : {S : Type 0} → Option S → ℕ → ℕ → ℕ → ExtensionFault → ExtensionFault → Option S → (S → Result ℕ ExtensionFault → S → Type 0) → Type 0
+Joined {S} before code number number' fault fault' after R =
+    (s t : S) → before ≡ Some s → after ≡ Some t → (answer : Result ℕ ExtensionFault) × WrittenNumber answer code number number' fault fault' × R s answer t

@@ -1,7 +1,7 @@
 -- What an export of the queues says of a call that answers that it was done, or why not.
 use Rattle.std.specs.Prelude.{◌≡◌, ℕ, Option, Some, Result, Ok, Err}
-use Rattle.wl_host.specs.Status.{code_of}
-use Rattle.wl_host.specs.declared.status.Status.{Status}
+use Rattle.wl_flat.specs.Status.{code_of}
+use Rattle.wl_flat.specs.declared.status.Status.{Status}
 
 -- the number of such an answer
 abbrev pub number_of : Result (Unit {0}) Status → ℕ

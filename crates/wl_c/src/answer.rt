@@ -1,7 +1,7 @@
 //! How the answer of a session's call goes out to C.
 
 ghost use Rattle.std.specs.Prelude.{◌≡◌, ◌≢◌};
-ghost use Rattle.wl_c.specs.Calls.{Written, WrittenExtension, WrittenFault, fault_code, flagged};
+ghost use Rattle.wl_c.specs.Calls.{Written, WrittenExtension, WrittenFault, WrittenNumber, fault_code, flagged};
 ghost use Rattle.wl_c.specs.Queues.{number_of};
 
 use wl_host::{ExtensionFault, Status, TableFault, fault};
@@ -73,6 +73,25 @@ pub fn write_extended(answer: Result<(), ExtensionFault>, out: &mut ExtensionFau
                 Status::BadTable.code()
             }
         }
+    }
+}
+
+/// Writes the number of an interface that joined a table, or why it was refused, and answers the number of the status.
+pub fn write_joined(
+    answer: Result<u32, ExtensionFault>,
+    number: &mut u32,
+    fault: &mut ExtensionFault,
+) -> u32
+    ensures answered { WrittenNumber answer result number.old number.new fault.old fault.new }
+    ensures unnumbered { result ≢ 0 → number.new ≡ number.old }
+    ensures unfaulted { result ≡ 0 → fault.new ≡ fault.old }
+{
+    match answer {
+        Ok(joined) => {
+            *number = joined;
+            Status::Ok.code()
+        }
+        Err(refused) => write_extended(Err(refused), fault),
     }
 }
 

@@ -1,7 +1,7 @@
 //! A new session in a box of its own.
 
 ghost use Rattle.std.specs.Prelude.{Err, IfErr, IfOk, Ok, ◌≡◌, ◌⊎◌};
-ghost use Rattle.wl_host.specs.Rows.{fault_of};
+ghost use Rattle.wl_flat.specs.Rows.{fault_of};
 ghost use Rattle.wl_wire.specs.declared.protocol.TableError.TheVariants as error;
 
 use std::alloc::Global;

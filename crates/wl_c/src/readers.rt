@@ -3,8 +3,8 @@
 ghost use Rattle.std.specs.Prelude.{◌≡◌, ◌≢◌};
 ghost use Rattle.wl_c.specs.Calls.{Written, flagged};
 ghost use Rattle.wl_c.specs.Queues.{number_of};
-ghost use Rattle.wl_host.specs.Nulls.{sets};
-ghost use Rattle.wl_host.specs.Readers.{answer_of, begin_answer, cancel_answer, end_answer, ended_answer, prepare_answer, readers_after};
+ghost use Rattle.wl_flat.specs.Nulls.{sets};
+ghost use Rattle.wl_flat.specs.Readers.{answer_of, begin_answer, cancel_answer, end_answer, ended_answer, prepare_answer, readers_after};
 ghost use Rattle.wl_queues.specs.Readers.{begun, cancelled, ended_by, prepared_by};
 
 use crate::answer::{number_of, write_answer, write_flag};

@@ -8,6 +8,7 @@
 //! | `create_object`, `object_data`, .. | `objects` |
 //! | `create_object_at`, `set_object_version`, `object_by_number`, `held_objects` | `chosen` |
 //! | `create_global`, `global_name`, .. | `globals` |
+//! | `join_interface` | `joining` |
 //! | `set_object_limit` | `limits` |
 //! | `violation` | `violations` |
 //! | `hand_out_registries`, `announce_global`, `withdraw_global` | `registries` |
@@ -19,6 +20,7 @@ mod actions;
 mod chosen;
 mod clients;
 mod globals;
+mod joining;
 mod kept;
 mod limits;
 mod objects;

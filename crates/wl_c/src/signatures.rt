@@ -1,9 +1,9 @@
 //! Signatures of messages.
 
 ghost use Rattle.std.specs.Prelude.{◌≡◌};
-ghost use Rattle.wl_host.specs.Signatures.{ReadsSignature};
-ghost use Rattle.wl_host.specs.Status.{code_of};
-ghost use Rattle.wl_host.specs.declared.status.Status.{Status};
+ghost use Rattle.wl_flat.specs.Signatures.{ReadsSignature};
+ghost use Rattle.wl_flat.specs.Status.{code_of};
+ghost use Rattle.wl_flat.specs.declared.status.Status.{Status};
 
 use wl_host::{ArgumentRow, MessageRow, read_signature};
 

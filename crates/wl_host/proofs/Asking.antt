@@ -12,16 +12,16 @@ use Rattle.wl_server_model.specs.Plain.{FlushedAs, OtherClientsStay, client_in}
 use Rattle.wl_server_model.specs.Server.{Seen, seen}
 use Rattle.wl_wire.specs.declared.error.IoFault.{IoFault}
 use Rattle.wl_wire.specs.declared.error.OutOfMemory.{OutOfMemory}
-use Rattle.wl_host.proofs.Draining.{link_drained}
+use Rattle.wl_flat.proofs.Draining.{link_drained}
 use Rattle.wl_host.specs.Calls.{CoreState}
-use Rattle.wl_host.specs.Descriptors.{Conserves}
+use Rattle.wl_flat.specs.Descriptors.{Conserves}
 use Rattle.wl_host.specs.Flushing.{FlushesClient, said_of}
 use Rattle.wl_host.specs.Seats.{SeatsState, added, is_among, ledger_at, listed}
 use Rattle.wl_host.specs.Server.{Asks, AsksClient, AsksInTurn, FoundHasBytes, IsDrained, NextWritable, NoneAskedHasBytes, SeatHasNoBytes, ServerState, asked, has_bytes, kept_by_server, told_of}
-use Rattle.wl_host.specs.declared.flat.FlatClientId.{FlatClientId}
+use Rattle.wl_flat.specs.declared.flat.FlatClientId.{FlatClientId}
 use Rattle.wl_host.specs.declared.server.HostClient.{HostClient}
 use Rattle.wl_host.specs.declared.server.ledger.Ledger.{Ledger}
-use Rattle.wl_host.specs.declared.status.Status.{Status}
+use Rattle.wl_flat.specs.declared.status.Status.{Status}
 
 -- a client that is stored is asked by a flush of its own
 flushes_stored : (b a : ServerState) (id : ClientParts) (m : MailboxState) (one : Result (Option ClientParts) OutOfMemory) (s : Status)

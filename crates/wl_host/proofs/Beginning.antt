@@ -11,17 +11,18 @@ use Rattle.wl_server_model.specs.Lookups.{transport_of}
 use Rattle.wl_server_client.specs.Part.{Part}
 use Rattle.wl_host.specs.Calls.{InsertsClient, new_mailbox}
 use Rattle.wl_host.specs.Clients.{inserted}
-use Rattle.wl_host.specs.Flat.{client_of, flat_client}
+use Rattle.wl_flat.specs.Flat.{client_of, flat_client}
 use Rattle.wl_host.specs.Hearing.{is_told}
 use Rattle.wl_host.specs.Seats.{SeatsState, if_serial, ledger_at, ledger_of, new_ledger, padded, seated}
 use Rattle.wl_host.specs.Server.{ServerState}
-use Rattle.wl_host.specs.Told.{first_telling, new_telling}
-use Rattle.wl_host.specs.ToldRuns.{Watches, new_watched}
-use Rattle.wl_host.specs.declared.flat.FlatClientId.{FlatClientId}
-use Rattle.wl_host.specs.declared.flat.FlatGlobalId.{FlatGlobalId}
+use Rattle.wl_flat.specs.Told.{first_telling, new_telling}
+use Rattle.wl_host.specs.Watching.{Watches}
+use Rattle.wl_flat.specs.ToldRuns.{new_watched}
+use Rattle.wl_flat.specs.declared.flat.FlatClientId.{FlatClientId}
+use Rattle.wl_flat.specs.declared.flat.FlatGlobalId.{FlatGlobalId}
 use Rattle.wl_host.specs.declared.server.HostClient.{HostClient}
 use Rattle.wl_host.specs.declared.server.ledger.Ledger.{Ledger}
-use Rattle.wl_host.specs.declared.telling.Telling.{Telling}
+use Rattle.wl_flat.specs.declared.telling.Telling.{Telling}
 
 -- ---- its ledger
 

@@ -13,14 +13,14 @@ use Rattle.wl_host.specs.Allowed.{LendsAllowedAction}
 use Rattle.wl_host.specs.Hearing.{LedgerTells}
 use Rattle.wl_host.specs.Killed.{StaysSettled}
 use Rattle.wl_host.specs.Seats.{ledger_of}
-use Rattle.wl_host.specs.Sending.{Copied}
+use Rattle.wl_flat.specs.Sending.{Copied}
 use Rattle.wl_host.specs.Server.{ServerState}
 use Rattle.wl_host.specs.Tellings.{CatchesUpOf, CatchesUpWith, CopiesTold, NextTold, ReadsTold, SendsTold, TellsNothing, with_seat}
-use Rattle.wl_host.specs.Told.{LentTold}
-use Rattle.wl_host.specs.declared.flat.FlatArgument.{FlatArgument}
+use Rattle.wl_flat.specs.Told.{LentTold}
+use Rattle.wl_flat.specs.declared.flat.FlatArgument.{FlatArgument}
 use Rattle.wl_host.specs.declared.server.ledger.Ledger.{Ledger}
-use Rattle.wl_host.specs.declared.status.Status.{Status}
-use Rattle.wl_host.specs.declared.status.Status.TheVariants as status
+use Rattle.wl_flat.specs.declared.status.Status.{Status}
+use Rattle.wl_flat.specs.declared.status.Status.TheVariants as status
 
 -- all but what is kept of clients is as it was
 abbrev pub IsBeside : ServerState → ServerState → Type 0

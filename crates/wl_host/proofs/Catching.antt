@@ -11,23 +11,25 @@ use Rattle.wl_follow.specs.declared.side.Side.TheVariants.{Client}
 use Rattle.wl_host.proofs.Conserving.{conserves_caught, conserves_sent}
 use Rattle.wl_host.proofs.Ledgers.{conserves_ledger}
 use Rattle.wl_host.proofs.Lending.{same_seats}
-use Rattle.wl_host.proofs.Queues.{conserves_out}
+use Rattle.wl_flat.proofs.Queues.{conserves_out}
 use Rattle.wl_host.proofs.Watching.{ledger_put}
 use Rattle.wl_host.specs.Actions.{HandsNothing, Lent, NextAction}
-use Rattle.wl_host.specs.Descriptors.{Conserves, Descriptors}
-use Rattle.wl_host.specs.Flat.{none_told}
+use Rattle.wl_flat.specs.Descriptors.{Conserves, Descriptors}
+use Rattle.wl_flat.specs.Flat.{none_told}
 use Rattle.wl_host.specs.Hearing.{LedgerCatchesUp, LedgerTells, is_told}
 use Rattle.wl_host.specs.Seats.{SeatsState, kept_by_ledger, ledger_of}
-use Rattle.wl_host.specs.Sending.{Copied, came_out, copied, counts_of}
-use Rattle.wl_host.specs.Server.{Sent, SentBy, ServerState, is_done, kept_by_server, sent_by, sent_with, to_send, to_send_of}
+use Rattle.wl_flat.specs.Sending.{Copied, came_out, copied, counts_of}
+use Rattle.wl_host.specs.Server.{Sent, SentBy, ServerState, kept_by_server, sent_by, sent_with, to_send, to_send_of}
+use Rattle.wl_flat.specs.Status.{is_done}
 use Rattle.wl_host.specs.Tellings.{CatchesUpOf, CatchesUpWith, CopiesTold, NextTold, ReadsTold, SendsTold, TellsNextOf, TellsNothing, sent_told, unread_of, with_seat}
-use Rattle.wl_host.specs.Told.{CatchesUp, LentTold, TellsNextTo, waiting_in}
-use Rattle.wl_host.specs.declared.flat.Counts.{Counts}
-use Rattle.wl_host.specs.declared.flat.FlatArgument.{FlatArgument}
+use Rattle.wl_flat.specs.Told.{CatchesUp, LentTold, TellsNextTo, waiting_in}
+use Rattle.wl_flat.specs.declared.flat.Counts.{Counts}
+use Rattle.wl_flat.specs.declared.flat.FlatArgument.{FlatArgument}
 use Rattle.wl_host.specs.declared.server.ledger.Ledger.{Ledger}
-use Rattle.wl_host.specs.declared.status.Status.{Status}
-use Rattle.wl_host.specs.declared.status.Status.TheVariants as status
-use Rattle.wl_host.specs.declared.telling.Telling.{Telling}
+use Rattle.wl_flat.specs.declared.status.Status.{Status}
+use Rattle.wl_flat.specs.declared.status.Status.TheVariants as status
+use Rattle.wl_flat.specs.declared.telling.Telling.{Telling}
+use Rattle.wl_flat.proofs.Sending.{copied_is}
 
 -- ---- catching up
 
@@ -166,15 +168,6 @@ caught_to_send b a id r bytes ds h = caught_same (λ l m. to_send_of l m bytes d
 caught_sent_with : (b a : ServerState) (id : ClientParts) (r : Result (Unit {0}) OutOfMemory) (count : ℕ) → CatchesUpWith b id r a
     → sent_with a id count ≡ sent_with b id count
 caught_sent_with b a id r count h = caught_same (λ l m. sent_by l m count) (λ m q. came_out count m q) (λ l m. refl) b a id r h
-
--- what is copied, part by part
-copied_is : (x : Copied) (s : Status) (bytes : List ℕ) (ds : List ℤ) (counts : Counts) → s ≡ x.status → bytes ≡ x.bytes → ds ≡ x.descriptors → counts ≡ x.counts
-    → (let y : Copied = record { status = s; bytes = bytes; descriptors = ds; counts = counts } in y) ≡ x
-copied_is x s bytes ds counts a b c d =
-    ap (λ (v : Status). let y : Copied = record { status = v; bytes = bytes; descriptors = ds; counts = counts } in y) a
-    ∙ ap (λ (v : List ℕ). let y : Copied = record { status = x.status; bytes = v; descriptors = ds; counts = counts } in y) b
-    ∙ ap (λ (v : List ℤ). let y : Copied = record { status = x.status; bytes = x.bytes; descriptors = v; counts = counts } in y) c
-    ∙ ap (λ (v : Counts). let y : Copied = record { status = x.status; bytes = x.bytes; descriptors = x.descriptors; counts = v } in y) d
 
 pub copies_caught : (b a : ServerState) (i j : ClientParts) (bytes : List ℕ) (ds : List ℤ) (s : Status) (bytes' : List ℕ) (ds' : List ℤ) (counts : Counts)
     → i ≡ j → CatchesUpWith b i (Ok tt) a → s ≡ (to_send a j bytes ds).status → bytes' ≡ (to_send a j bytes ds).bytes

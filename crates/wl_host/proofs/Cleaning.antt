@@ -14,8 +14,8 @@ use Rattle.wl_host.specs.Seats.{SeatsState, gone_all}
 use Rattle.wl_host.specs.Cleaning.{CleansUp, DropsNotes}
 use Rattle.wl_host.specs.Notes.{Fetches}
 use Rattle.wl_host.specs.Server.{ServerState, TakesOut}
-use Rattle.wl_host.specs.declared.status.Status.{Status}
-use Rattle.wl_host.specs.declared.status.Status.TheVariants as status
+use Rattle.wl_flat.specs.declared.status.Status.{Status}
+use Rattle.wl_flat.specs.declared.status.Status.TheVariants as status
 
 pub cleaned : (b : ServerState) (core : CoreState) (out : Vec (ClientParts × MailboxState) Global) (seats : SeatsState) → Calls world b.core step.Cleanup (reply.Cleanup (Ok out)) core
     → seats ≡ gone_all b.seats out.items → b.may_clean_up ≡ true → TakesOut b (Ok tt) (record b { core = core; seats = seats; may_clean_up = false; may_have_notes = true })

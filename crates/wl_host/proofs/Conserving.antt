@@ -9,24 +9,24 @@ use Rattle.wl_server_client.specs.Ids.{ClientParts}
 use Rattle.wl_server_model.specs.Lookups.{transport_of, waiting_of}
 use Rattle.wl_server_client.specs.declared.notes.Note.{Note}
 use Rattle.wl_host.proofs.Keeping.{conserves_gone_all, conserves_handed_out, conserves_passed_next}
-use Rattle.wl_host.proofs.Ledgers.{conserves_ledger, conserves_taken_out}
-use Rattle.wl_host.proofs.Queues.{conserves_nothing, conserves_put_in}
+use Rattle.wl_host.proofs.Ledgers.{conserves_ledger}
+use Rattle.wl_flat.proofs.Queues.{conserves_taken_out, conserves_nothing, conserves_put_in}
 use Rattle.wl_host.specs.Cleaning.{CleansUp, DropsNotes, DropsUnlessKept}
-use Rattle.wl_host.specs.Descriptors.{Conserves, Descriptors, kept_in, occurrences, put_in}
+use Rattle.wl_flat.specs.Descriptors.{Conserves, Descriptors, kept_in, occurrences, put_in}
 use Rattle.wl_host.specs.Hearing.{LedgerCatchesUp, ledger_after, with_heard}
 use Rattle.wl_host.specs.Notes.{Fetches, NextNote, noted, noted_if, text_of}
 use Rattle.wl_host.specs.Seats.{SeatsState, kept_by_ledger, gone_all, kept_by_seats, ledger_of, left_by_first, listed}
-use Rattle.wl_host.specs.Sending.{came_out, mailbox_after, queue_after, sent_of}
+use Rattle.wl_flat.specs.Sending.{came_out, mailbox_after, queue_after, sent_of}
 use Rattle.wl_host.specs.Server.{handed_if, is_too_small, IsNotStored, NextDropped, Received, ReceivedBy, Sent, SentBy, ServerState, TakesOut, asked_again, gone_with_first, handed, handed_out, kept_by_server, next_gone, or_would_block, sent_to_first, sent_by, sent_with, went_in}
 use Rattle.wl_host.specs.Tellings.{CatchesUpOf, CatchesUpWith, unread_of}
-use Rattle.wl_host.specs.Told.{CatchesUp, waiting_in}
-use Rattle.wl_host.specs.declared.flat.FlatNote.{FlatNote}
-use Rattle.wl_host.specs.declared.flat.Gone.{Gone}
+use Rattle.wl_flat.specs.Told.{CatchesUp, waiting_in}
+use Rattle.wl_flat.specs.declared.flat.FlatNote.{FlatNote}
+use Rattle.wl_flat.specs.declared.flat.Gone.{Gone}
 use Rattle.wl_host.specs.declared.server.ledger.Departed.{Departed}
 use Rattle.wl_host.specs.declared.server.ledger.Ledger.{Ledger}
-use Rattle.wl_host.specs.declared.status.Status.{Status}
-use Rattle.wl_host.specs.declared.status.Status.TheVariants as status
-use Rattle.wl_host.specs.declared.telling.Telling.{Telling}
+use Rattle.wl_flat.specs.declared.status.Status.{Status}
+use Rattle.wl_flat.specs.declared.status.Status.TheVariants as status
+use Rattle.wl_flat.specs.declared.telling.Telling.{Telling}
 
 -- what is kept beside the core stays
 pub conserves_beside : (b a : ServerState) → a.seats ≡ b.seats → Conserves kept_by_server b [] [] a

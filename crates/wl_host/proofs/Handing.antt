@@ -14,22 +14,22 @@ use Rattle.wl_server_client.specs.declared.error.EventError.{EventError}
 use Rattle.wl_server_client.specs.declared.error.EventError.TheVariants as event_error
 use Rattle.wl_server_client.specs.declared.reading.action.Action.{Action}
 use Rattle.wl_host.proofs.Ledgers.{conserves_ledger, slot_of_client}
-use Rattle.wl_host.proofs.Queues.{conserves_nothing, conserves_out, conserves_put_in, conserves_without}
+use Rattle.wl_flat.proofs.Queues.{conserves_nothing, conserves_out, conserves_put_in, conserves_without}
 use Rattle.wl_host.specs.Actions.{EndsBind, HandsFrom, HandsNothing, HandsOut, HandsWhole, KeepsAction, Lent, NextAction, NextActionOf, args_of, descriptors_with, fits, is_killed_by, marked_if, with_kept}
-use Rattle.wl_host.specs.Arguments.{descriptors_given, descriptors_out, queue_after, queue_after_all, descriptor_in}
+use Rattle.wl_flat.specs.Arguments.{descriptors_given, descriptors_out, queue_after, queue_after_all, descriptor_in}
 use Rattle.wl_host.specs.Calls.{CoreState, status_by}
-use Rattle.wl_host.specs.Descriptors.{Conserves, Descriptors, kept_in}
+use Rattle.wl_flat.specs.Descriptors.{Conserves, Descriptors, kept_in}
 use Rattle.wl_host.specs.Events.{Passed, SendsEvent, SendsEventOf, SendsFrom, queue_with}
-use Rattle.wl_host.specs.Flat.{client_of, no_action}
+use Rattle.wl_flat.specs.Flat.{client_of, no_action}
 use Rattle.wl_host.specs.Inside.Actions.{AnswersNext, NextOf, is_killed_in, status_of_next}
 use Rattle.wl_host.specs.Seats.{SeatsState, kept_by_ledger, kept_by_seats, ledger_of, listed, with_ledger}
 use Rattle.wl_host.specs.Server.{ServerState, kept_by_server, went_in}
-use Rattle.wl_host.specs.Status.{of_event}
-use Rattle.wl_host.specs.declared.flat.FlatAction.{FlatAction}
-use Rattle.wl_host.specs.declared.flat.FlatArgument.{FlatArgument}
+use Rattle.wl_flat.specs.Status.{of_event}
+use Rattle.wl_flat.specs.declared.flat.FlatAction.{FlatAction}
+use Rattle.wl_flat.specs.declared.flat.FlatArgument.{FlatArgument}
 use Rattle.wl_host.specs.declared.server.ledger.Ledger.{Ledger}
-use Rattle.wl_host.specs.declared.status.Status.{Status}
-use Rattle.wl_host.specs.declared.status.Status.TheVariants as status
+use Rattle.wl_flat.specs.declared.status.Status.{Status}
+use Rattle.wl_flat.specs.declared.status.Status.TheVariants as status
 
 -- ---- ledgers
 

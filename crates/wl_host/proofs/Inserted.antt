@@ -10,18 +10,19 @@ use Rattle.std.specs.List.{sum_by}
 use Rattle.wl_server_client.specs.Ids.{ClientParts}
 use Rattle.wl_link.specs.Mailbox.{MailboxState}
 use Rattle.wl_server_client.specs.declared.error.InsertClientError.{InsertClientError}
-use Rattle.wl_host.proofs.Queues.{conserves_given_up}
-use Rattle.wl_host.specs.Calls.{CoreState, InsertsClient, flattened, new_mailbox}
-use Rattle.wl_host.specs.Flat.{flat_client}
-use Rattle.wl_host.specs.Status.{of_insert}
+use Rattle.wl_flat.proofs.Queues.{conserves_given_up}
+use Rattle.wl_host.specs.Calls.{CoreState, InsertsClient, new_mailbox}
+use Rattle.wl_flat.specs.Status.{flattened, of_insert}
+use Rattle.wl_flat.specs.Flat.{flat_client}
 use Rattle.wl_host.specs.Visibility.{IsViewer}
-use Rattle.wl_host.specs.declared.flat.FlatClientId.{FlatClientId}
-use Rattle.wl_host.specs.declared.flat.FlatGlobalId.{FlatGlobalId}
+use Rattle.wl_flat.specs.declared.flat.FlatClientId.{FlatClientId}
+use Rattle.wl_flat.specs.declared.flat.FlatGlobalId.{FlatGlobalId}
 use Rattle.wl_host.specs.declared.server.HostClient.{HostClient}
-use Rattle.wl_host.specs.declared.status.Status.{Status}
-use Rattle.wl_host.specs.declared.telling.Telling.{Telling}
-use Rattle.wl_host.specs.Descriptors.{Conserves, given_up, kept_in}
-use Rattle.wl_host.specs.Seats.{InsertsInto, SeatsState, departed, departed_of, empty_mailbox, kept_by_departed, kept_by_seat, kept_by_seats, ledger_at, left_by, new_ledger, padded, seated}
+use Rattle.wl_flat.specs.declared.status.Status.{Status}
+use Rattle.wl_flat.specs.declared.telling.Telling.{Telling}
+use Rattle.wl_flat.specs.Descriptors.{Conserves, given_up, kept_in}
+use Rattle.wl_host.specs.Seats.{InsertsInto, SeatsState, departed, departed_of, kept_by_departed, kept_by_seat, kept_by_seats, ledger_at, left_by, new_ledger, padded, seated}
+use Rattle.wl_flat.specs.Sending.{empty_mailbox}
 use Rattle.wl_host.specs.Server.{ServerState, kept_by_server}
 use Rattle.wl_host.specs.declared.server.ledger.Ledger.{Ledger}
 

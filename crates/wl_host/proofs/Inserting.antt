@@ -14,14 +14,14 @@ use Rattle.wl_server_model.specs.declared.step.Reply.TheVariants as reply
 use Rattle.wl_server_model.specs.declared.step.Step.TheVariants as step
 use Rattle.wl_host.proofs.Seating.{seats_seated}
 use Rattle.wl_host.specs.Calls.{CoreState, world}
-use Rattle.wl_host.specs.Descriptors.{Descriptors}
+use Rattle.wl_flat.specs.Descriptors.{Descriptors}
 use Rattle.wl_host.specs.Inside.Seats.{AreSeats, HasRoomAt, SameButRoom}
 use Rattle.wl_host.specs.Seats.{HasNonePassed, new_ledger, padded}
 use Rattle.wl_host.specs.declared.server.HostClient.{HostClient}
 use Rattle.wl_host.specs.declared.server.ledger.Departed.{Departed}
 use Rattle.wl_host.specs.declared.server.ledger.Ledger.{Ledger}
 use Rattle.wl_host.specs.declared.server.seats.Seats.TheInside.{Inside}
-use Rattle.wl_host.specs.declared.telling.Telling.{Telling}
+use Rattle.wl_flat.specs.declared.telling.Telling.{Telling}
 
 -- the client gets the id that was told beforehand
 pub as_told : (b a : CoreState) (m : MailboxState) (client : HostClient) (id next : ClientParts) → Calls world b (step.InsertClient m client) (reply.InsertClient (Ok id)) a

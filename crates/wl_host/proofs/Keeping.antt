@@ -5,12 +5,12 @@ use Rattle.std.specs.List.{slice_get, sum_by}
 use Rattle.std.specs.Prelude.{option_to_list}
 use Rattle.wl_link.specs.Mailbox.{MailboxState}
 use Rattle.wl_server_client.specs.Ids.{ClientParts}
-use Rattle.wl_host.proofs.Ledgers.{conserves_taken_out, slot_of_client, slot_of_ledger, sum_replaced}
-use Rattle.wl_host.proofs.Queues.{conserves_given_up, conserves_nothing, conserves_out}
-use Rattle.wl_host.specs.Descriptors.{Conserves, Descriptors, given_up, kept_in, occurrences}
+use Rattle.wl_flat.proofs.Queues.{conserves_taken_out, conserves_given_up, conserves_nothing, conserves_out}
+use Rattle.wl_host.proofs.Ledgers.{slot_of_client, slot_of_ledger, sum_replaced}
+use Rattle.wl_flat.specs.Descriptors.{Conserves, Descriptors, given_up, kept_in, occurrences}
 use Rattle.wl_host.specs.Seats.{AllEmpty, LeftPassesOut, LedgerPassesOut, PassesNext, SeatsState, departed, gone_all, gone_from, gone_with, kept_by_departed, kept_by_ledger, kept_by_seat, kept_by_seats, ledger_of, left_by_first, left_of, without_first}
 use Rattle.wl_host.specs.Server.{sent_to_first}
-use Rattle.wl_host.specs.Sending.{all_taken_out, descriptors_of, some_of}
+use Rattle.wl_flat.specs.Sending.{all_taken_out, descriptors_of, some_of}
 use Rattle.wl_host.specs.declared.server.ledger.Departed.{Departed}
 use Rattle.wl_host.specs.declared.server.ledger.Ledger.{Ledger}
 

@@ -8,14 +8,11 @@ use Rattle.std.proofs.lemmas.Option.{get_or_from_slice_get, slice_get-get_or, sl
 use Rattle.std.specs.List.{slice_get, slice_index_or, sum_by}
 use Rattle.std.specs.Option.{option_map_or}
 use Rattle.std.specs.Prelude.{IfNone, MatchOption, option_to_list, replicate, slice_set, ◌==◌, if◌then◌else◌}
-use Rattle.wl_wire.specs.declared.argument.Token.{Token}
 use Rattle.wl_server_client.specs.Ids.{ClientParts}
 use Rattle.wl_host.proofs.Slots.{among_added}
-use Rattle.wl_host.proofs.Queues.{conserves_nothing, conserves_out, conserves_without}
-use Rattle.wl_host.specs.Descriptors.{Conserves, Descriptors, kept_in, without}
+use Rattle.wl_flat.specs.Descriptors.{Conserves, Descriptors}
 use Rattle.wl_host.specs.Inside.Seats.{AreMarked, IsMarked, PassesOutOf, taken}
 use Rattle.wl_host.specs.Seats.{HasNonePassed, LedgerPassesOut, PassesOut, SeatHasNonePassed, SeatPassesOut, SeatsState, added, if_serial, is_among, kept_by_ledger, kept_by_seat, kept_by_seats, ledger_at, ledger_of, padded, with_ledger}
-use Rattle.wl_host.specs.Sending.{all_taken_out, descriptors_of, some_of}
 use Rattle.wl_host.specs.declared.server.ledger.Ledger.{Ledger}
 
 -- ---- lists
@@ -227,17 +224,6 @@ pub taken_less : (ledgers : List (Option Ledger)) (id : ClientParts) (l : Ledger
 taken_less ledgers id l e = let r = sum_replaced taken ledgers id.slot (Some l) None (slot_of_client id ledgers l e) in omega (arith, r)
 
 -- ---- descriptors
-
-some_of_cons : (x : Option ℤ) (xs : List (Option ℤ)) → some_of (x ∷ xs) ≡ option_to_list x ++ some_of xs
-some_of_cons None xs = refl
-some_of_cons (Some x) xs = refl
-
--- they are taken out one after another
-pub conserves_taken_out : (q : Descriptors) (ts : List Token) → Conserves kept_in q [] (some_of (descriptors_of q ts)) (all_taken_out q ts)
-conserves_taken_out q [] = conserves_nothing q
-conserves_taken_out q (t ∷ ts) =
-    let h = conserves_out (conserves_without q t) (conserves_taken_out (without q t) ts) in
-    rw some_of_cons h
 
 -- a ledger is replaced
 pub conserves_ledger : (s : SeatsState) (id : ClientParts) (l k : Ledger) (i o : List ℤ) → ledger_of id s.ledgers ≡ Some l → Conserves kept_by_ledger l i o k

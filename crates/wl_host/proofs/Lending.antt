@@ -14,11 +14,11 @@ use Rattle.wl_host.specs.Calls.{CoreState}
 use Rattle.wl_host.specs.Hearing.{TakesIn, ledger_after}
 use Rattle.wl_host.specs.Seats.{SeatsState, ledger_of, listed, with_ledger}
 use Rattle.wl_host.specs.Server.{Received, Sent, ServerState, asked_again}
-use Rattle.wl_host.specs.Sending.{mailbox_after}
+use Rattle.wl_flat.specs.Sending.{mailbox_after}
 use Rattle.wl_host.specs.declared.server.HostClient.{HostClient}
 use Rattle.wl_host.specs.declared.server.ledger.Ledger.{Ledger}
-use Rattle.wl_host.specs.declared.status.Status.{Status}
-use Rattle.wl_host.specs.declared.status.Status.TheVariants as status
+use Rattle.wl_flat.specs.declared.status.Status.{Status}
+use Rattle.wl_flat.specs.declared.status.Status.TheVariants as status
 
 -- the ledger is as it was
 pub same_seats : (s : SeatsState) (id : ClientParts) (l : Ledger) → ledger_of id s.ledgers ≡ Some l → with_ledger s id l ≡ s

@@ -11,12 +11,12 @@ use Rattle.wl_server_client.specs.declared.notes.Note.{Note}
 use Rattle.wl_server_model.specs.declared.step.Reply.TheVariants as reply
 use Rattle.wl_server_model.specs.declared.step.Step.TheVariants as step
 use Rattle.wl_host.specs.Calls.{CoreState, world}
-use Rattle.wl_host.specs.Flat.{over_front}
+use Rattle.wl_flat.specs.Flat.{over_front}
 use Rattle.wl_host.specs.Notes.{Fetches, NextNote, Noted, flat_note, noted, noted_if, text_of, with_text}
 use Rattle.wl_host.specs.Server.{ServerState}
-use Rattle.wl_host.specs.declared.flat.FlatNote.{FlatNote}
-use Rattle.wl_host.specs.declared.status.Status.{Status}
-use Rattle.wl_host.specs.declared.status.Status.TheVariants as status
+use Rattle.wl_flat.specs.declared.flat.FlatNote.{FlatNote}
+use Rattle.wl_flat.specs.declared.status.Status.{Status}
+use Rattle.wl_flat.specs.declared.status.Status.TheVariants as status
 
 none_of : {X : Type 0} (xs : List X) → length xs ≡ 0 → xs ≡ []
 none_of [] e = refl

@@ -1,33 +1,28 @@
 -- What a session hands out while it refuses nulls that the table forbids has none.
-use Rattle.std.proofs.Common.{◌≡◌, ◌∙◌, ℕ, ℤ, Bool, true, false, List, [], Option, None, Some, Result, Ok, Err, inl, inr, refl, ap, arith, subst, sym}
+use Rattle.std.proofs.Common.{◌≡◌, ◌∙◌, ℕ, ℤ, Bool, true, false, List, Option, None, Result, Ok, Err, inl, inr, refl, ap, subst, sym}
 use Rattle.std.proofs.lemmas.Bool.{false≢true}
-use Rattle.std.proofs.lemmas.Bool.Decides.{nat_tests}
-use Rattle.std.specs.Prelude.{MatchBool, MatchOption}
-use Rattle.wl_wire.specs.MessageRows.{event_row, request_row}
+use Rattle.std.specs.Prelude.{MatchBool}
+use Rattle.wl_wire.specs.MessageRows.{request_row}
 use Rattle.wl_wire.specs.declared.error.IoFault.TheVariants as fault
 use Rattle.wl_link.proofs.Calls.Branches.{either_bool, either_option}
-use Rattle.wl_client.specs.Requests.{SessionMessage}
 use Rattle.wl_server_client.specs.Deeds.{Handed, handed}
 use Rattle.wl_server_client.specs.Deeds as deeds
 use Rattle.wl_server_client.specs.Ids.{ClientParts}
 use Rattle.wl_server_client.specs.declared.error.ActionError.{ActionError}
 use Rattle.wl_server_client.specs.declared.error.ActionError.TheVariants as action_error
 use Rattle.wl_server_client.specs.declared.reading.action.Action.{Action}
-use Rattle.wl_host.proofs.ClientReading.{something_read}
-use Rattle.wl_host.proofs.TellingNulls.{tells_null}
+use Rattle.wl_flat.proofs.TellingNulls.{tells_null, none_if_allowed, is_not_kept}
 use Rattle.wl_host.specs.Actions.{HandsOut, Lent, NextAction, ReadsAllowed, ReadsIfAllowed, ReadsNext, Refuses, args_of, fits, is_killed_by, marked_if, null_in, with_kept}
-use Rattle.wl_host.specs.Allowed.{IsAllowedAction, IsAllowedEvent, LendsAllowedAction, LendsAllowedEvent}
+use Rattle.wl_host.specs.Allowed.{IsAllowedAction, LendsAllowedAction}
 use Rattle.wl_host.specs.Calls.{CoreState}
-use Rattle.wl_host.specs.Client.{ClientCore, HandsAllowed, HandsEvent, HandsNext, HostedClient, LentForEvent, ReadsUnlessKept, RefusesEvent, fits as fits_event, null_in as null_of_event}
-use Rattle.wl_host.specs.Flat.{flat_proxy, flat_resource}
-use Rattle.wl_host.specs.Nulls.{is_refused, signature_of}
+use Rattle.wl_flat.specs.Flat.{flat_resource}
+use Rattle.wl_flat.specs.Nulls.{is_refused, signature_of}
 use Rattle.wl_host.specs.Seats.{ledger_of}
 use Rattle.wl_host.specs.Server.{ServerState}
-use Rattle.wl_host.specs.Status.{of_action}
-use Rattle.wl_host.specs.declared.flat.FlatArgument.{FlatArgument}
+use Rattle.wl_flat.specs.Status.{of_action}
+use Rattle.wl_flat.specs.declared.flat.FlatArgument.{FlatArgument}
 use Rattle.wl_host.specs.declared.server.ledger.Ledger.{Ledger}
-use Rattle.wl_host.specs.declared.status.Status.{Status}
-use Rattle.wl_host.specs.declared.status.Status.TheVariants as status
+use Rattle.wl_flat.specs.declared.status.Status.TheVariants as status
 
 -- ---- what is read
 
@@ -53,10 +48,6 @@ module _ (before mid : CoreState) (id : ClientParts) (kept : Option Action) (act
   allowed_read true left none h null is =
       let e : is_refused true (null_in mid (handed action)) ≡ false = ap (is_refused true) (sym null) ∙ is in
       (Ok action, mid, h, rw e (refl, none, refl))
-
--- a message that is not refused has no such null
-none_if_allowed : (n : ℕ) → is_refused true n ≡ false → n ≡ 0
-none_if_allowed n h = grind (arith, nat_tests, is_refused)
 
 -- ---- actions
 
@@ -98,17 +89,9 @@ is_no_action (action_error.Io fault.OutOfMemory) is = cc
 is_no_action (action_error.Io (fault.Other n)) is = cc
 is_no_action action_error.ActionOpen is = cc
 
--- there was no room
-is_not_kept : status.Ok ≡ status.TooSmall → ⊥
-is_not_kept is = cc
-
 -- the client is not stored
 is_no_client : status.Ok ≡ status.InvalidId → ⊥
 is_no_client is = cc
-
--- the session has failed
-has_not_failed : status.Ok ≡ status.Failed → ⊥
-has_not_failed is = cc
 
 abbrev HasNone : CoreState → List FlatArgument → List ℕ → Lent → Type 0
 HasNone core arguments bytes lent = LendsAllowedAction core arguments bytes lent × (lent.out.forbidden_null ≡ 0)
@@ -137,51 +120,3 @@ action_allowed before after id arguments bytes lent out on h =
           let same : after.core ≡ core = ap (λ (s : ServerState). s.core) now ∙ same_core (is_killed_by read) _ in
           subst (λ (c : CoreState). HasNone c arguments bytes lent) (sym same) (hands_none core (with_kept l left) l' read arguments bytes lent out found hands)
     ]
-
--- ---- events
-
-allowed_event : (core : ClientCore) (event : SessionMessage) → null_of_event core event ≡ 0 → IsAllowedEvent core event
-allowed_event core event none =
-    (tells_null flat_proxy (signature_of (event_row core.session.table event.sender.interface event.opcode)) event.args).none.0 none
-
-abbrev HasNoneFor : HostedClient → ClientCore → LentForEvent → LentForEvent → Type 0
-HasNoneFor before core lent lent' = LendsAllowedEvent before core lent lent' × (lent'.out.forbidden_null ≡ 0)
-
-module _ (before after : HostedClient) (core : ClientCore) (event : SessionMessage) (lent lent' : LentForEvent) (out : List ℤ) where
-  abbrev s : HostedClient
-  s = record before { core = core }
-
-  whole : is_refused true (null_of_event core event) ≡ false → HandsEvent s event lent status.Ok out after lent' → HasNoneFor before after.core lent lent'
-  whole is h =
-      elim (either_bool (fits_event event.args lent.arguments lent.bytes) h) [
-        | inl given ↦
-            let none = none_if_allowed (null_of_event core event) is in
-            let same : after.core ≡ core = ap (λ (t : HostedClient). t.core) given.3 in
-            subst (λ (c : ClientCore). HasNoneFor before c lent lent') (sym same)
-            ((event, given.2, allowed_event core event none), ap (λ (t : LentForEvent). t.out.forbidden_null) given.2 ∙ none)
-        | inr kept ↦ absurd (is_not_kept kept.0)
-      ]
-
-  if_whole : (b : Bool) → is_refused true (null_of_event core event) ≡ b
-      → MatchBool b (RefusesEvent s event lent status.Ok out after lent') (HandsEvent s event lent status.Ok out after lent')
-      → HasNoneFor before after.core lent lent'
-  if_whole true is h = absurd (has_not_failed h.0)
-  if_whole false is h = whole is h
-
-some_event : (event : SessionMessage) → None ≡ Some event → ⊥
-some_event event is = cc
-
-pub event_allowed : (before after : HostedClient) (lent lent' : LentForEvent) (out : List ℤ) → before.refuses_nulls ≡ true → HandsNext before lent status.Ok out after lent'
-    → HasNoneFor before after.core lent lent'
-event_allowed before after lent lent' out on (s, kept, core, reads, hands) = by kept reads hands
-  where
-    by : (kept : Option SessionMessage) → ReadsUnlessKept before.kept before.core s kept core
-        → MatchOption kept ((status.Ok ≡ s) × (out ≡ []) × (lent' ≡ lent) × (after ≡ record before { core = core }))
-        (λ event. HandsAllowed before.refuses_nulls (record before { core = core }) event lent status.Ok out after lent')
-        → HasNoneFor before after.core lent lent'
-    by None reads h =
-        let read = something_read before.core core before.kept None (subst (λ (t : Status). ReadsUnlessKept before.kept before.core t None core) (sym h.0) reads) in
-        absurd (some_event read.0 read.1)
-    by (Some event) reads h =
-        if_whole before after core event lent lent' out (is_refused true (null_of_event core event)) refl
-        (subst (λ r. HandsAllowed r (record before { core = core }) event lent status.Ok out after lent') on h)

@@ -22,36 +22,37 @@ use Rattle.wl_server_model.specs.Plain.{action_in, killed_in}
 use Rattle.wl_server_client.specs.Reading.{action_content}
 use Rattle.wl_wire.specs.Table.{Extension, LongerRow, NewRows}
 use Rattle.wl_wire.specs.declared.error.OutOfMemory.{OutOfMemory}
+use Rattle.wl_host.proofs.JoinsOnce.{rows_once}
 use Rattle.wl_host.proofs.Killing.{says_killed}
 use Rattle.wl_host.proofs.Marking.{KillsNobody, action_kills, cleanup_leaves_none, creates_at_kills, creates_kills, finish_bind_kills, finish_request_kills, flush_kills, insert_kills, growth_kills, mailbox_kills, notes_kill, refused_global_kills, set_data_kills, set_version_kills}
 use Rattle.wl_host.specs.Actions.{EndsBind, EndsRequest, Lent, NextAction, ReadsAllowed, ReadsIfAllowed, ReadsNext, ended, is_killed_by, marked_if, null_in}
-use Rattle.wl_host.specs.Calls.{CoreState, CreatesGlobal, CreatesObject, InsertsClient, SetsObjectData, flattened, interface_of, world}
+use Rattle.wl_host.specs.Calls.{CoreState, CreatesGlobal, CreatesObject, InsertsClient, SetsObjectData, interface_of, world}
+use Rattle.wl_flat.specs.Status.{flattened, of_global}
 use Rattle.wl_host.specs.Chosen.{CreatesObjectAt, SetsObjectVersion}
 use Rattle.wl_host.specs.Cleaning.{CleansUp, DropsNotes, DropsUnlessKept}
 use Rattle.wl_host.specs.Clients.{SetsRoom, inserted}
-use Rattle.wl_host.specs.Extending.{Lengthens, Parts, Takes, parts_of, told_at, told_of_new}
+use Rattle.wl_flat.specs.Extending.{Lengthens, Parts, Takes, parts_of, told_at, told_of_new}
 use Rattle.wl_host.specs.Events.{Passed, PostsError, SendsEvent}
-use Rattle.wl_host.specs.Flat.{client_of, flat_global}
+use Rattle.wl_flat.specs.Flat.{client_of, flat_global}
 use Rattle.wl_host.specs.Flushing.{FlushesClient}
 use Rattle.wl_host.specs.Killed.{IsSettled, KnowsEnd, StaysSettled}
 use Rattle.wl_host.specs.Notes.{Fetches, NextNote, noted, noted_if, text_of}
-use Rattle.wl_host.specs.Nulls.{is_refused}
-use Rattle.wl_host.specs.Rows.{fault_of}
+use Rattle.wl_flat.specs.Nulls.{is_refused}
+use Rattle.wl_flat.specs.Rows.{fault_of}
 use Rattle.wl_host.specs.Seats.{SeatsState, added, gone_all, ledger_at, ledger_of}
-use Rattle.wl_host.specs.Status.{of_global}
 use Rattle.wl_host.specs.Server.{Asks, AsksInTurn, Ends, NextWritable, Received, ReceivedBy, Sent, SentBy, ServerState, TakesOut}
-use Rattle.wl_host.specs.Tables.{AddsInterfaces, ExtendsInterfaces, IsNewServer}
-use Rattle.wl_host.specs.declared.flat.FlatArgument.{FlatArgument}
-use Rattle.wl_host.specs.declared.flat.FlatClientId.{FlatClientId}
-use Rattle.wl_host.specs.declared.flat.FlatGlobalId.{FlatGlobalId}
-use Rattle.wl_host.specs.declared.flat.FlatNote.{FlatNote}
-use Rattle.wl_host.specs.declared.flat.FlatObjectId.{FlatObjectId}
-use Rattle.wl_host.specs.declared.extending.ExtensionFault.{ExtensionFault}
-use Rattle.wl_host.specs.declared.rows.Rows.{Rows}
-use Rattle.wl_host.specs.declared.rows.TableFault.{TableFault}
+use Rattle.wl_host.specs.Tables.{AddsInterfaces, ExtendsInterfaces, IsNewServer, JoinsServer}
+use Rattle.wl_flat.specs.declared.flat.FlatArgument.{FlatArgument}
+use Rattle.wl_flat.specs.declared.flat.FlatClientId.{FlatClientId}
+use Rattle.wl_flat.specs.declared.flat.FlatGlobalId.{FlatGlobalId}
+use Rattle.wl_flat.specs.declared.flat.FlatNote.{FlatNote}
+use Rattle.wl_flat.specs.declared.flat.FlatObjectId.{FlatObjectId}
+use Rattle.wl_flat.specs.declared.extending.ExtensionFault.{ExtensionFault}
+use Rattle.wl_flat.specs.declared.rows.Rows.{Rows}
+use Rattle.wl_flat.specs.declared.rows.TableFault.{TableFault}
 use Rattle.wl_host.specs.declared.server.ledger.Ledger.{Ledger}
-use Rattle.wl_host.specs.declared.status.Status.{Status}
-use Rattle.wl_host.specs.declared.status.Status.TheVariants as status
+use Rattle.wl_flat.specs.declared.status.Status.{Status}
+use Rattle.wl_flat.specs.declared.status.Status.TheVariants as status
 
 -- ---- what a call comes to
 
@@ -232,6 +233,15 @@ extends_settled b a rows result h e =
         ]
       ]
       | inr refused ↦ kills_same b.core a.core refused.3
+    ])
+    (ap (λ (s : ServerState). s.may_clean_up) e)
+
+pub joins_settled : (b a : ServerState) (rows : Rows) (result : Result ℕ ExtensionFault) → JoinsServer rows b.core result a.core → a ≡ record b { core = a.core }
+    → StaysSettled b a
+joins_settled b a rows result h e =
+    stays_by b a (elim (rows_once (IsGrowth world) b.core.server.offer.table rows b.core a.core result h) [
+      | inl same ↦ kills_same b.core a.core same
+      | inr grown ↦ growth_kills b.core a.core grown.0 grown.1 grown.2
     ])
     (ap (λ (s : ServerState). s.may_clean_up) e)
 

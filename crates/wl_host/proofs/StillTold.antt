@@ -12,14 +12,14 @@ use Rattle.wl_wire.specs.declared.error.OutOfMemory.{OutOfMemory}
 use Rattle.wl_host.specs.Actions.{EndsBind, EndsRequest, Lent, NextAction, ended, is_killed_by, marked_if}
 use Rattle.wl_host.specs.Cleaning.{CleansUp, DropsNotes, DropsUnlessKept}
 use Rattle.wl_host.specs.Events.{Passed, SendsEvent}
-use Rattle.wl_host.specs.Flat.{client_of}
+use Rattle.wl_flat.specs.Flat.{client_of}
 use Rattle.wl_host.specs.Notes.{Fetches}
 use Rattle.wl_host.specs.Seats.{gone_all, ledger_of}
 use Rattle.wl_host.specs.Server.{Received, ReceivedBy, Sent, SentBy, ServerState, TakesOut}
-use Rattle.wl_host.specs.declared.flat.FlatArgument.{FlatArgument}
+use Rattle.wl_flat.specs.declared.flat.FlatArgument.{FlatArgument}
 use Rattle.wl_host.specs.declared.server.ledger.Ledger.{Ledger}
-use Rattle.wl_host.specs.declared.status.Status.{Status}
-use Rattle.wl_host.specs.declared.status.Status.TheVariants as status
+use Rattle.wl_flat.specs.declared.status.Status.{Status}
+use Rattle.wl_flat.specs.declared.status.Status.TheVariants as status
 
 -- the session is so
 same_told : (b a : ServerState) → a ≡ b → a.told ≡ b.told

@@ -7,8 +7,8 @@ use Rattle.wl_server_client.specs.Globals.{Offer}
 use Rattle.wl_server_model.specs.Steps.{offer_after}
 use Rattle.wl_host.specs.Calls.{CoreState, world}
 use Rattle.wl_host.specs.declared.server.HostGlobal.{HostGlobal}
-use Rattle.wl_host.specs.Client.{ClientCore}
-use Rattle.wl_host.specs.Tables.{ClientGrows}
+use Rattle.wl_host_client.specs.Client.{ClientCore}
+use Rattle.wl_host_client.specs.Tables.{ClientGrows}
 
 pub server_grows : (s : CoreState) (more : Growth) (answer : Result (Unit {0}) TableError) (t : CoreState) → IsGrowth world s more answer t
     → t.server.offer.table ≡ table_after s.server.offer.table more answer

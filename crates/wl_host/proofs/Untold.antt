@@ -10,18 +10,18 @@ use Rattle.wl_server_model.specs.Lookups.{transport_of, waiting_of}
 use Rattle.wl_follow.specs.declared.side.Side.TheVariants.{Client}
 use Rattle.wl_host.proofs.Lending.{same_seats}
 use Rattle.wl_host.specs.Actions.{Lent, NextAction}
-use Rattle.wl_host.specs.Flat.{none_told}
+use Rattle.wl_flat.specs.Flat.{none_told}
 use Rattle.wl_host.specs.Hearing.{LedgerCatchesUp, LedgerTells, is_told, ledger_after, with_heard}
 use Rattle.wl_host.specs.Seats.{SeatsState, ledger_of}
-use Rattle.wl_host.specs.Sending.{Copied, queue_after, sent_of}
+use Rattle.wl_flat.specs.Sending.{Copied, queue_after, sent_of}
 use Rattle.wl_host.specs.Server.{Sent, ServerState, to_send}
 use Rattle.wl_host.specs.Tellings.{CatchesUpOf, CatchesUpWith, CopiesTold, NextTold, ReadsTold, SendsTold, TellsNextOf, TellsNothing, unread_of, with_seat}
-use Rattle.wl_host.specs.Told.{CatchesUp, LentTold, TellsNextTo, came_in, left_off, waiting_in}
-use Rattle.wl_host.specs.declared.flat.FlatArgument.{FlatArgument}
+use Rattle.wl_flat.specs.Told.{CatchesUp, LentTold, TellsNextTo, came_in, left_off, waiting_in}
+use Rattle.wl_flat.specs.declared.flat.FlatArgument.{FlatArgument}
 use Rattle.wl_host.specs.declared.server.ledger.Ledger.{Ledger}
-use Rattle.wl_host.specs.declared.status.Status.{Status}
-use Rattle.wl_host.specs.declared.status.Status.TheVariants as status
-use Rattle.wl_host.specs.declared.telling.Telling.{Telling}
+use Rattle.wl_flat.specs.declared.status.Status.{Status}
+use Rattle.wl_flat.specs.declared.status.Status.TheVariants as status
+use Rattle.wl_flat.specs.declared.telling.Telling.{Telling}
 
 abbrev IsUntold : ServerState → ClientParts → Type 0
 IsUntold b id = is_told (ledger_of id b.seats.ledgers) ≡ false

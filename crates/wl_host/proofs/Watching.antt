@@ -1,13 +1,10 @@
 -- What the calls of a session come to for a client whose messages are told.
-use Rattle.std.specs.Prelude.{◌≡◌, ◌⊎◌, ℕ, zero, suc, ℤ, ◌==◌, Bool, true, false, List, [], ◌∷◌, length, map, MatchOption, Option, None, Some, Result, Ok, Err, min, option_map, slice_get, slice_set, if◌then◌else◌}
+use Rattle.std.specs.Prelude.{◌≡◌, ℕ, zero, suc, ℤ, ◌==◌, Bool, true, false, List, [], ◌∷◌, length, MatchOption, Option, None, Some, Result, Ok, Err, min, option_map, slice_get, slice_set, if◌then◌else◌}
 use Rattle.std.proofs.Common.{ap, inl, inr, refl, subst, sym, ◌∙◌}
-use Rattle.wl_wire.specs.declared.argument.Token.{Token}
 use Rattle.wl_wire.specs.declared.error.OutOfMemory.{OutOfMemory}
-use Rattle.wl_wire.specs.declared.message.Message.{Message}
 use Rattle.wl_wire.specs.Table.{InterfaceRow}
 use Rattle.wl_link.specs.Exchange.{Queue}
 use Rattle.wl_link.specs.Mailbox.{MailboxState, behind, front}
-use Rattle.wl_link.proofs.Calls.QueueLaws.{queue_is}
 use Rattle.wl_server_client.specs.Ids.{ClientParts}
 use Rattle.wl_server_client.specs.Lending.{over_transport}
 use Rattle.wl_server.specs.Lending.{state_over}
@@ -16,26 +13,26 @@ use Rattle.wl_server_model.specs.Lookups as counted
 use Rattle.wl_server_client.specs.Stored.{Stored}
 use Rattle.wl_server_model.specs.Server.{client_at, stored_at}
 use Rattle.wl_server_model.specs.Server as stored
-use Rattle.wl_follow.specs.declared.follower.Told.{Told}
 use Rattle.wl_follow.specs.declared.side.Side.TheVariants.{Client}
 use Rattle.wl_host.proofs.Ledgers.{ledger_at_slot, slot_of_client}
-use Rattle.wl_host.proofs.ToldRuns.{hands_by}
-use Rattle.wl_host.specs.Arrivals.{mailbox_with}
+use Rattle.wl_flat.specs.Arrivals.{mailbox_with}
 use Rattle.wl_host.specs.Calls.{CoreState}
-use Rattle.wl_host.specs.Descriptors.{Descriptors, put_in}
+use Rattle.wl_flat.specs.Descriptors.{put_in}
 use Rattle.wl_host.specs.Hearing.{LedgerTells, ledger_after, with_heard}
-use Rattle.wl_host.specs.Flat.{none_told}
+use Rattle.wl_flat.specs.Flat.{none_told}
 use Rattle.wl_host.specs.Seats.{SeatsState, if_serial, ledger_at, ledger_of, listed, with_ledger}
-use Rattle.wl_host.specs.Sending.{all_taken_out, descriptors_of, mailbox_after, queue_after, sent_of, shown}
+use Rattle.wl_flat.specs.Sending.{mailbox_after, sent_of}
 use Rattle.wl_host.specs.Server.{Received, ReceivedBy, Sent, SentBy, ServerState, asked_again}
 use Rattle.wl_host.specs.Tellings.{CatchesUpOf, CatchesUpWith, NextTold, SendsTold, TellsNextOf, TellsNothing, unread_by, unread_if, unread_of, with_seat}
-use Rattle.wl_host.specs.Told.{CatchesUp, HandsTold, LentTold, TellsNextTo, as_tokens, came_in, left_off, waiting_in}
-use Rattle.wl_host.specs.ToldRuns.{AreTold, CaughtUp, ComesTo, ComesToAll, Deed, Does, Found, FoundAgain, FoundNone, Heard, IsFound, LackedMemory, SentOff, Watched, Watches}
+use Rattle.wl_flat.specs.Told.{CatchesUp, LentTold, TellsNextTo, came_in, left_off, waiting_in}
+use Rattle.wl_flat.specs.ToldRuns.{AreTold, CaughtUp, Deed, Heard, IsFound, SentOff, Watched}
+use Rattle.wl_host.specs.Watching.{ComesTo, ComesToAll, Watches}
 use Rattle.wl_host.specs.declared.server.HostClient.{HostClient}
 use Rattle.wl_host.specs.declared.server.ledger.Ledger.{Ledger}
-use Rattle.wl_host.specs.declared.status.Status.{Status}
-use Rattle.wl_host.specs.declared.status.Status.TheVariants as status
-use Rattle.wl_host.specs.declared.telling.Telling.{Telling}
+use Rattle.wl_flat.specs.declared.status.Status.{Status}
+use Rattle.wl_flat.specs.declared.status.Status.TheVariants as status
+use Rattle.wl_flat.specs.declared.telling.Telling.{Telling}
+use Rattle.wl_flat.proofs.ToldRuns.{found_by, left_waiting}
 
 -- ---- what is put in is there
 
@@ -177,15 +174,6 @@ asked_ledgers s slot m = by (length m.waiting.bytes == 0)
     by true = refl
     by false = refl
 
--- what waits once so many of the bytes were sent
-left_waiting : (count : ℕ) (m : MailboxState) (q : Descriptors) → behind (sent_of count m) (waiting_in m q) ≡ waiting_in (mailbox_after count m) (queue_after count m q)
-left_waiting count m q = queue_is _ _ refl (by (sent_of count m == 0))
-  where
-    by : (b : Bool) → (if b then as_tokens (map shown (descriptors_of q m.waiting.tokens)) else [])
-        ≡ as_tokens (map shown (descriptors_of (if b then q else all_taken_out q m.waiting.tokens) (if b then m.waiting.tokens else [])))
-    by true = refl
-    by false = refl
-
 off : (before after : ServerState) (id : ClientParts) (count : ℕ) (w : Watched) → Watches id before w → Sent before id count status.Ok after
     → Watches id after (record { telling = left_off (min count (length w.waiting.bytes)) w.telling; waiting = behind (min count (length w.waiting.bytes)) w.waiting })
 off before after id count w x h =
@@ -216,34 +204,6 @@ comes_sent before after id count w x (Err e, mid, up, h) = let no = h.0 in absur
 
 -- ---- what is told
 
--- a message that was found is handed out or kept
-handed_or_kept : (t t' : Telling) (found : Told × Message ℕ Token) (lent : LentTold) (s : Status) (lent' : LentTold) → HandsTold t found lent s lent' t'
-    → (s ≡ status.Ok) ⊎ (s ≡ status.TooSmall)
-handed_or_kept t t' found lent s lent' h = elim (hands_by t t' found lent s lent' h) [ inl x ↦ inl x.0 | inr x ↦ inr x.0 ]
-
-found_by : (table : List InterfaceRow) (w : Watched) (lent : LentTold) (s : Status) (lent' : LentTold) (t' : Telling)
-    → TellsNextTo table w.telling lent s lent' t' → (d : Deed) × IsFound table lent s lent' d × Does w d (record w { telling = t' })
-found_by table w lent s lent' t' (Ok None, mid, (none, tells, mid_is), (s_is, t_is, lent_is)) = (
-  FoundNone table,
-  (refl, s_is, lent_is),
-  (mid.follower, none, tells, ap (λ (t : Telling). let v : Watched = record w { telling = t } in v) (t_is ∙ mid_is)),
-)
-found_by table w lent s lent' t' (Ok (Some found), mid, inl (kept, mid_is), hands) = (
-  FoundAgain found lent s lent',
-  (refl, refl, refl, handed_or_kept mid t' found lent s lent' hands),
-  (t', kept, subst (λ (t : Telling). HandsTold t found lent s lent' t') mid_is hands, refl),
-)
-found_by table w lent s lent' t' (Ok (Some found), mid, inr (none, (piece, tells), mid_is), hands) = (
-  Found table found piece lent s lent',
-  (refl, refl, refl, refl, handed_or_kept mid t' found lent s lent' hands),
-  (mid.follower, t', none, tells, subst (λ (t : Telling). HandsTold t found lent s lent' t') mid_is hands, refl),
-)
-found_by table w lent s lent' t' (Err e, mid, (none, turns, mid_is), (s_is, t_is, lent_is)) = (
-  LackedMemory table,
-  (refl, s_is, lent_is),
-  (mid.follower, none, turns, ap (λ (t : Telling). let v : Watched = record w { telling = t } in v) (t_is ∙ mid_is)),
-)
-
 found_next : (before after : ServerState) (id : ClientParts) (lent : LentTold) (s : Status) (lent' : LentTold) (w : Watched) → Watches id before w
     → TellsNextOf before id lent s lent' after → (d : Deed) × IsFound before.core.server.offer.table lent s lent' d × ComesTo id w d after
 found_next before after id lent s lent' w x h =
@@ -254,7 +214,7 @@ found_next before after id lent s lent' w x h =
     let (t, next, l_is) =
     subst (λ (o : Option Telling). MatchOption o ((s ≡ status.InvalidId) × (lent' ≡ record lent { out = none_told }) × (l' ≡ x.ledger))
     (λ t. (t' : Telling) × TellsNextTo table t lent s lent' t' × (l' ≡ record x.ledger { telling = Some t' }))) x.telling tells in
-    let (d, found, does) = found_by table w lent s lent' t next in
+    let (d, found, does) = found_by Client table w lent s lent' t next in
     (d, found, (record w { telling = t }, does, watches_put before after id w x t l' l_is is))
 
 pub comes_next : (before after : ServerState) (id : ClientParts) (lent : LentTold) (s : Status) (lent' : LentTold) (w : Watched) → Watches id before w

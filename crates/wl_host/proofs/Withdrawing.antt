@@ -13,10 +13,10 @@ use Rattle.wl_server_model.specs.Plain.{same_object}
 use Rattle.wl_host.specs.Calls.{CoreState, status_by}
 use Rattle.wl_host.specs.Registries.{AllTell, Announced, Announces, Called, IsThereMeanwhile, KeepsOutstanding, KeepsThere, Neither, Tells, TellsRemoval, TellsRemovals, Withdrawn, Withdraws, is_of, is_there, is_to, kept_after, outstanding, outstanding_after, registries_told, said_with, told_with, without_global}
 use Rattle.wl_host.specs.Server.{ServerState}
-use Rattle.wl_host.specs.Status.{of_event}
+use Rattle.wl_flat.specs.Status.{of_event}
 use Rattle.wl_host.specs.declared.server.registries.Told.{Told}
-use Rattle.wl_host.specs.declared.status.Status.{Status}
-use Rattle.wl_host.specs.declared.status.Status.TheVariants as status
+use Rattle.wl_flat.specs.declared.status.Status.{Status}
+use Rattle.wl_flat.specs.declared.status.Status.TheVariants as status
 
 -- ---- filters
 

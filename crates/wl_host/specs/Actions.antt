@@ -19,20 +19,20 @@ use Rattle.wl_server_client.specs.declared.notes.DisconnectReason.TheVariants as
 use Rattle.wl_server_client.specs.declared.reading.action.Action.{Action}
 use Rattle.wl_server_model.specs.declared.step.Reply.TheVariants as reply
 use Rattle.wl_server_model.specs.declared.step.Step.TheVariants as step
-use Rattle.wl_host.specs.Arguments.{all_bytes, descriptors_out, flat_arguments, queue_after_all}
+use Rattle.wl_flat.specs.Arguments.{all_bytes, descriptors_out, flat_arguments, queue_after_all}
 use Rattle.wl_host.specs.Calls.{CoreState, bit_of, data_or_zero, global_data_or_zero, kept_by, version_or_zero, world}
-use Rattle.wl_host.specs.Flat.{count_number, flat_global, flat_resource, no_action, no_object, over_front}
-use Rattle.wl_host.specs.Kinds as kinds
-use Rattle.wl_host.specs.Nulls.{forbidden_null, is_refused, name_in, null_text, signature_of}
+use Rattle.wl_flat.specs.Flat.{count_number, flat_global, flat_resource, no_action, no_object, over_front}
+use Rattle.wl_flat.specs.Kinds as kinds
+use Rattle.wl_flat.specs.Nulls.{forbidden_null, is_refused, name_in, null_text, signature_of}
 use Rattle.wl_host.specs.Seats.{ledger_of, listed, with_ledger}
 use Rattle.wl_host.specs.Server.{ServerState}
-use Rattle.wl_host.specs.Status.{of_action}
-use Rattle.wl_host.specs.declared.flat.FlatAction.{FlatAction}
-use Rattle.wl_host.specs.declared.flat.FlatArgument.{FlatArgument}
-use Rattle.wl_host.specs.declared.flat.FlatObjectId.{FlatObjectId}
+use Rattle.wl_flat.specs.Status.{of_action}
+use Rattle.wl_flat.specs.declared.flat.FlatAction.{FlatAction}
+use Rattle.wl_flat.specs.declared.flat.FlatArgument.{FlatArgument}
+use Rattle.wl_flat.specs.declared.flat.FlatObjectId.{FlatObjectId}
 use Rattle.wl_host.specs.declared.server.ledger.Ledger.{Ledger}
-use Rattle.wl_host.specs.declared.status.Status.{Status}
-use Rattle.wl_host.specs.declared.status.Status.TheVariants as status
+use Rattle.wl_flat.specs.declared.status.Status.{Status}
+use Rattle.wl_flat.specs.declared.status.Status.TheVariants as status
 
 -- ---- flat
 

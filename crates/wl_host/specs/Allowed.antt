@@ -1,15 +1,13 @@
 -- What is handed out while nulls that the table forbids are refused.
 use Rattle.std.specs.Prelude.{◌≡◌, ℕ, List}
-use Rattle.wl_wire.specs.MessageRows.{event_row, request_row}
-use Rattle.wl_client.specs.Requests.{SessionMessage}
+use Rattle.wl_wire.specs.MessageRows.{request_row}
 use Rattle.wl_server_client.specs.Deeds.{Handed}
 use Rattle.wl_server_client.specs.Deeds as deeds
 use Rattle.wl_host.specs.Actions.{Lent, lent_action}
 use Rattle.wl_host.specs.Calls.{CoreState}
-use Rattle.wl_host.specs.Client.{ClientCore, HostedClient, LentForEvent, with_event}
-use Rattle.wl_host.specs.Flat.{flat_proxy, flat_resource}
-use Rattle.wl_host.specs.Nulls.{IsForbiddenAt, signature_of}
-use Rattle.wl_host.specs.declared.flat.FlatArgument.{FlatArgument}
+use Rattle.wl_flat.specs.Flat.{flat_resource}
+use Rattle.wl_flat.specs.Nulls.{IsForbiddenAt, signature_of}
+use Rattle.wl_flat.specs.declared.flat.FlatArgument.{FlatArgument}
 use Rattle.wl_host.specs.declared.server.ledger.Ledger.{Ledger}
 
 -- no argument of the action is null where the table allows no null
@@ -23,13 +21,3 @@ IsAllowedAction core (deeds.Registry object) = Unit {0}
 abbrev pub LendsAllowedAction : CoreState → List FlatArgument → List ℕ → Lent → Type 0
 LendsAllowedAction core arguments bytes lent =
     (l : Ledger) × (h : Handed) × (lent ≡ lent_action core l h arguments bytes) × IsAllowedAction core h
-
--- no argument of the event is null where the table allows no null
-abbrev pub IsAllowedEvent : ClientCore → SessionMessage → Type 0
-IsAllowedEvent core event =
-    (n : ℕ) → ¬ (IsForbiddenAt flat_proxy (signature_of (event_row core.session.table event.sender.interface event.opcode)) event.args n)
-
--- the lent memory has such an event, as the session hands it out once it has this core
-abbrev pub LendsAllowedEvent : HostedClient → ClientCore → LentForEvent → LentForEvent → Type 0
-LendsAllowedEvent before core lent lent' =
-    (event : SessionMessage) × (lent' ≡ with_event (record before { core = core }) event lent) × IsAllowedEvent core event

@@ -22,18 +22,18 @@ use Rattle.wl_server_client.specs.declared.error.InvalidId.{InvalidId}
 use Rattle.wl_server_client.specs.declared.ids.global_id.GlobalInfo.{GlobalInfo}
 use Rattle.wl_server_model.specs.declared.step.Reply.TheVariants as reply
 use Rattle.wl_server_model.specs.declared.step.Step.TheVariants as step
-use Rattle.wl_host.specs.Flat.{client_of, flat_client, flat_global, flat_resource, interface_number, resource_of}
+use Rattle.wl_flat.specs.Flat.{client_of, flat_client, flat_global, flat_resource, interface_number, resource_of}
 use Rattle.wl_host.specs.Visibility.{IsViewed, IsViewer, sees}
-use Rattle.wl_host.specs.Status.{of_create, of_destroy, of_finish, of_global, of_insert}
-use Rattle.wl_host.specs.declared.flat.FlatClientId.{FlatClientId}
-use Rattle.wl_host.specs.declared.flat.FlatGlobalId.{FlatGlobalId}
-use Rattle.wl_host.specs.declared.flat.FlatGlobalInfo.{FlatGlobalInfo}
-use Rattle.wl_host.specs.declared.flat.FlatObjectId.{FlatObjectId}
-use Rattle.wl_host.specs.declared.flat.FlatObjectInfo.{FlatObjectInfo}
+use Rattle.wl_flat.specs.Status.{of_create, of_destroy, of_finish, of_global, of_insert, flattened}
+use Rattle.wl_flat.specs.declared.flat.FlatClientId.{FlatClientId}
+use Rattle.wl_flat.specs.declared.flat.FlatGlobalId.{FlatGlobalId}
+use Rattle.wl_flat.specs.declared.flat.FlatGlobalInfo.{FlatGlobalInfo}
+use Rattle.wl_flat.specs.declared.flat.FlatObjectId.{FlatObjectId}
+use Rattle.wl_flat.specs.declared.flat.FlatObjectInfo.{FlatObjectInfo}
 use Rattle.wl_host.specs.declared.server.HostClient.{HostClient}
 use Rattle.wl_host.specs.declared.server.HostGlobal.{HostGlobal}
-use Rattle.wl_host.specs.declared.status.Status.{Status}
-use Rattle.wl_host.specs.declared.status.Status.TheVariants as status
+use Rattle.wl_flat.specs.declared.status.Status.{Status}
+use Rattle.wl_flat.specs.declared.status.Status.TheVariants as status
 
 -- the server over mailboxes
 abbrev pub world : World MailboxState HostGlobal HostClient
@@ -78,11 +78,6 @@ TellsNextGlobal s result =
     (next : Option GlobalParts) × NextGlobal s.server.offer.globals next × (result ≡ or_full (option_map flat_global next))
 
 -- ---- steps
-
--- the value as a flat one, or the status of the error
-abbrev pub flattened : {A B E : Type 0} → (A → B) → (E → Status) → Result A E → Result B Status
-flattened f status_of (Ok x) = Ok (f x)
-flattened f status_of (Err e) = Err (status_of e)
 
 -- the status of an answer without a value
 abbrev pub status_by : {E : Type 0} → (E → Status) → Result (Unit {0}) E → Status

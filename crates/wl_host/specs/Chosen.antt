@@ -6,12 +6,12 @@ use Rattle.wl_server_client.specs.declared.error.CreateAtError.{CreateAtError}
 use Rattle.wl_server_client.specs.declared.error.VersionError.{VersionError}
 use Rattle.wl_server_model.specs.declared.step.Reply.TheVariants as reply
 use Rattle.wl_server_model.specs.declared.step.Step.TheVariants as step
-use Rattle.wl_host.specs.Calls.{CoreState, flattened, interface_of, status_by, world}
-use Rattle.wl_host.specs.Flat.{client_of, flat_resource, resource_of}
-use Rattle.wl_host.specs.Status.{of_create_at, of_version}
-use Rattle.wl_host.specs.declared.flat.FlatClientId.{FlatClientId}
-use Rattle.wl_host.specs.declared.flat.FlatObjectId.{FlatObjectId}
-use Rattle.wl_host.specs.declared.status.Status.{Status}
+use Rattle.wl_host.specs.Calls.{CoreState, interface_of, status_by, world}
+use Rattle.wl_flat.specs.Status.{flattened, of_create_at, of_version}
+use Rattle.wl_flat.specs.Flat.{client_of, flat_resource, resource_of}
+use Rattle.wl_flat.specs.declared.flat.FlatClientId.{FlatClientId}
+use Rattle.wl_flat.specs.declared.flat.FlatObjectId.{FlatObjectId}
+use Rattle.wl_flat.specs.declared.status.Status.{Status}
 
 abbrev pub CreatesObjectAt : CoreState → FlatClientId → ℕ → ℕ → ℕ → ℕ → Result FlatObjectId Status → CoreState → Type 0
 CreatesObjectAt before client interface version number u result after =

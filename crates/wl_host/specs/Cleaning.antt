@@ -2,8 +2,8 @@
 use Rattle.std.specs.Prelude.{◌≡◌, ◌⊎◌, [], true, false, Result, MatchResult}
 use Rattle.wl_host.specs.Notes.{Fetches}
 use Rattle.wl_host.specs.Server.{ServerState, TakesOut}
-use Rattle.wl_host.specs.declared.status.Status.{Status}
-use Rattle.wl_host.specs.declared.status.Status.TheVariants as status
+use Rattle.wl_flat.specs.declared.status.Status.{Status}
+use Rattle.wl_flat.specs.declared.status.Status.TheVariants as status
 
 -- The notes are dropped: those that were taken from the core, and those that it has. These stay there if there is no memory to take
 -- them.

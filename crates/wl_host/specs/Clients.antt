@@ -4,13 +4,13 @@ use Rattle.wl_server_client.specs.Ids.{ClientParts}
 use Rattle.wl_server.specs.Lending.{state_over}
 use Rattle.wl_server_model.specs.Lookups.{transport_of}
 use Rattle.wl_host.specs.Calls.{CoreState}
-use Rattle.wl_host.specs.Flat.{client_of}
+use Rattle.wl_flat.specs.Flat.{client_of}
 use Rattle.wl_host.specs.Seats.{listed, seated}
 use Rattle.wl_host.specs.Server.{ServerState}
-use Rattle.wl_host.specs.Told.{first_telling}
-use Rattle.wl_host.specs.declared.flat.FlatClientId.{FlatClientId}
-use Rattle.wl_host.specs.declared.status.Status.{Status}
-use Rattle.wl_host.specs.declared.status.Status.TheVariants as status
+use Rattle.wl_flat.specs.Told.{first_telling}
+use Rattle.wl_flat.specs.declared.flat.FlatClientId.{FlatClientId}
+use Rattle.wl_flat.specs.declared.status.Status.{Status}
+use Rattle.wl_flat.specs.declared.status.Status.TheVariants as status
 
 -- A new client has a ledger, and a note says that it was inserted; its messages are told, if that was set. Without one, nothing is changed
 -- beside the core.

@@ -8,18 +8,18 @@ use Rattle.wl_server_client.specs.declared.error.EventError.{EventError}
 use Rattle.wl_server_model.specs.declared.step.Reply.TheVariants as reply
 use Rattle.wl_server_model.specs.declared.step.Step.TheVariants as step
 use Rattle.wl_host.specs.Actions.{marked}
-use Rattle.wl_host.specs.Arguments.{arguments_of, descriptors_given, has_zero}
+use Rattle.wl_flat.specs.Arguments.{arguments_of, descriptors_given, has_zero}
 use Rattle.wl_host.specs.Calls.{CoreState, status_by, world}
-use Rattle.wl_host.specs.Descriptors.{Descriptors, put_in}
-use Rattle.wl_host.specs.Flat.{client_of, resource_of}
+use Rattle.wl_flat.specs.Descriptors.{Descriptors, put_in}
+use Rattle.wl_flat.specs.Flat.{client_of, resource_of}
 use Rattle.wl_host.specs.Seats.{ledger_of, listed, with_ledger}
 use Rattle.wl_host.specs.Server.{ServerState}
-use Rattle.wl_host.specs.Status.{of_event}
-use Rattle.wl_host.specs.declared.flat.FlatArgument.{FlatArgument}
-use Rattle.wl_host.specs.declared.flat.FlatObjectId.{FlatObjectId}
+use Rattle.wl_flat.specs.Status.{of_event}
+use Rattle.wl_flat.specs.declared.flat.FlatArgument.{FlatArgument}
+use Rattle.wl_flat.specs.declared.flat.FlatObjectId.{FlatObjectId}
 use Rattle.wl_host.specs.declared.server.ledger.Ledger.{Ledger}
-use Rattle.wl_host.specs.declared.status.Status.{Status}
-use Rattle.wl_host.specs.declared.status.Status.TheVariants as status
+use Rattle.wl_flat.specs.declared.status.Status.{Status}
+use Rattle.wl_flat.specs.declared.status.Status.TheVariants as status
 
 -- an event as the host passes it
 pub record Passed : Type 0 where

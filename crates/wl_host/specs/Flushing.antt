@@ -5,8 +5,8 @@ use Rattle.wl_server_client.specs.Ids.{ClientParts}
 use Rattle.wl_server_model.specs.Lookups.{transport_of}
 use Rattle.wl_host.specs.Calls.{CoreState}
 use Rattle.wl_host.specs.Server.{AsksClient, IsNotStored, ServerState, has_bytes}
-use Rattle.wl_host.specs.declared.status.Status.{Status}
-use Rattle.wl_host.specs.declared.status.Status.TheVariants as status
+use Rattle.wl_flat.specs.declared.status.Status.{Status}
+use Rattle.wl_flat.specs.declared.status.Status.TheVariants as status
 
 -- the status by what came of asking the client
 abbrev pub said_of : Result (Option ClientParts) OutOfMemory → Status

@@ -5,15 +5,15 @@ use Rattle.wl_wire.specs.declared.error.OutOfMemory.{OutOfMemory}
 use Rattle.wl_wire.specs.Table.{InterfaceRow}
 use Rattle.wl_link.specs.Mailbox.{MailboxState}
 use Rattle.wl_follow.specs.declared.side.Side.TheVariants.{Client}
-use Rattle.wl_host.specs.Arrivals.{MayArrive, RefusesArrival, mailbox_with}
-use Rattle.wl_host.specs.Descriptors.{Descriptors, put_in}
-use Rattle.wl_host.specs.Flat.{none_told}
-use Rattle.wl_host.specs.Sending.{queue_after, sent_of}
-use Rattle.wl_host.specs.Told.{CatchesUp, LentTold, TellsNextTo, came_in, left_off, waiting_in}
+use Rattle.wl_flat.specs.Arrivals.{MayArrive, RefusesArrival, mailbox_with}
+use Rattle.wl_flat.specs.Descriptors.{put_in}
+use Rattle.wl_flat.specs.Flat.{none_told}
+use Rattle.wl_flat.specs.Sending.{queue_after, sent_of}
+use Rattle.wl_flat.specs.Told.{CatchesUp, LentTold, TellsNextTo, came_in, left_off, waiting_in}
 use Rattle.wl_host.specs.declared.server.ledger.Ledger.{Ledger}
-use Rattle.wl_host.specs.declared.status.Status.{Status}
-use Rattle.wl_host.specs.declared.status.Status.TheVariants as status
-use Rattle.wl_host.specs.declared.telling.Telling.{Telling}
+use Rattle.wl_flat.specs.declared.status.Status.{Status}
+use Rattle.wl_flat.specs.declared.status.Status.TheVariants as status
+use Rattle.wl_flat.specs.declared.telling.Telling.{Telling}
 
 -- this arrived, and is to be told once it is read, if the client's messages are told
 abbrev pub with_heard : List ℕ → List ℤ → Ledger → Ledger
@@ -23,13 +23,6 @@ with_heard bytes descriptors l = record l { telling = option_map (came_in Client
 abbrev pub is_told : Option Ledger → Bool
 is_told None = false
 is_told (Some l) = is_some l.telling
-
--- bytes and descriptors arrived, and are heard; or they are refused, and nothing is changed
-abbrev pub Hears : MailboxState → Descriptors → Telling → List ℕ → List ℤ → Status → MailboxState → Descriptors → Telling → Type 0
-Hears m q t bytes descriptors s m' q' t' =
-    ((s ≡ status.Ok) × (m' ≡ mailbox_with m q bytes descriptors) × (q' ≡ put_in q descriptors) × (t' ≡ came_in Client bytes descriptors t)
-    × MayArrive m bytes descriptors)
-    ⊎ (RefusesArrival m bytes descriptors s × (m' ≡ m) × (q' ≡ q) × (t' ≡ t))
 
 abbrev pub TakesIn : MailboxState → Ledger → List ℕ → List ℤ → Status → MailboxState → Ledger → Type 0
 TakesIn m l bytes descriptors s m' l' =

@@ -2,5 +2,4 @@
 pub mod Actions
 pub mod Lending
 pub mod Seats
-pub mod Sending
 pub mod Slots

@@ -1,8 +1,8 @@
 -- Lists that are written to lent memory, as far as it has room.
 use Rattle.std.specs.Prelude.{◌≡◌, ℕ, ◌+◌, ◌++◌, List, length, take, drop, min, nat_lt, if◌then◌else◌, slice_set}
-use Rattle.wl_host.specs.Flat.{count_number}
-use Rattle.wl_host.specs.declared.status.Status.{Status}
-use Rattle.wl_host.specs.declared.status.Status.TheVariants as status
+use Rattle.wl_flat.specs.Flat.{count_number}
+use Rattle.wl_flat.specs.declared.status.Status.{Status}
+use Rattle.wl_flat.specs.declared.status.Status.TheVariants as status
 
 -- the items in the first places of the lent memory, as many as there is room for
 abbrev pub filled : {X : Type 0} → List X → List X → List X

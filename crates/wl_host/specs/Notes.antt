@@ -9,12 +9,12 @@ use Rattle.wl_server_model.specs.declared.step.Step.TheVariants as step
 use Rattle.wl_server_model.specs.Backend.{Calls}
 use Rattle.wl_server_client.specs.Ids.{ClientParts}
 use Rattle.wl_host.specs.Calls.{world}
-use Rattle.wl_host.specs.Flat.{count_number, flat_client, flat_resource, no_object, over_front}
-use Rattle.wl_host.specs.Kinds as kinds
+use Rattle.wl_flat.specs.Flat.{count_number, flat_client, flat_resource, no_object, over_front}
+use Rattle.wl_flat.specs.Kinds as kinds
 use Rattle.wl_host.specs.Server.{ServerState}
-use Rattle.wl_host.specs.declared.flat.FlatNote.{FlatNote}
-use Rattle.wl_host.specs.declared.status.Status.{Status}
-use Rattle.wl_host.specs.declared.status.Status.TheVariants as status
+use Rattle.wl_flat.specs.declared.flat.FlatNote.{FlatNote}
+use Rattle.wl_flat.specs.declared.status.Status.{Status}
+use Rattle.wl_flat.specs.declared.status.Status.TheVariants as status
 
 -- ---- flat structs
 

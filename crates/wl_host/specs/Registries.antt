@@ -21,10 +21,10 @@ use Rattle.wl_host.specs.Calls.{CoreState, status_by, world}
 use Rattle.wl_host.specs.Clients.{told_at}
 use Rattle.wl_host.specs.Globals.{told_all}
 use Rattle.wl_host.specs.Server.{ServerState}
-use Rattle.wl_host.specs.Status.{of_event}
+use Rattle.wl_flat.specs.Status.{of_event}
 use Rattle.wl_host.specs.declared.server.registries.Told.{Told}
-use Rattle.wl_host.specs.declared.status.Status.{Status}
-use Rattle.wl_host.specs.declared.status.Status.TheVariants as status
+use Rattle.wl_flat.specs.declared.status.Status.{Status}
+use Rattle.wl_flat.specs.declared.status.Status.TheVariants as status
 
 -- ---- what is kept
 

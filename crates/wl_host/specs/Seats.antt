@@ -2,25 +2,23 @@
 use Rattle.std.specs.Prelude.{◌≡◌, ◌⊎◌, ℕ, zero, suc, ℤ, ◌+◌, ◌==◌, ◌-◌, ◌++◌, List, [], ◌∷◌, length, nat_lt, Bool, false, Option, None, Some, Result, Err, if◌then◌else◌, replicate, slice_get, slice_set}
 use Rattle.std.specs.List.{list_any, sum_by}
 use Rattle.std.specs.Option.{option_map_or}
-use Rattle.wl_link.specs.Exchange.{nothing}
 use Rattle.wl_link.specs.Mailbox.{MailboxState}
-use Rattle.wl_link.specs.declared.mailbox.Ending.TheVariants as ending
 use Rattle.wl_server_client.specs.declared.error.InsertClientError.{InsertClientError}
 use Rattle.wl_server_model.specs.declared.step.Reply.TheVariants as reply
 use Rattle.wl_server_model.specs.declared.step.Step.TheVariants as step
 use Rattle.wl_server_model.specs.Backend.{Calls}
 use Rattle.wl_server_client.specs.Ids.{ClientParts}
 use Rattle.wl_server_model.specs.Next.{NextClient}
-use Rattle.wl_host.specs.Sending.{all_taken_out}
-use Rattle.wl_host.specs.Calls.{CoreState, flattened, world}
-use Rattle.wl_host.specs.Descriptors.{Descriptors, given_up, kept_in}
+use Rattle.wl_flat.specs.Sending.{all_taken_out, empty_mailbox}
+use Rattle.wl_host.specs.Calls.{CoreState, world}
+use Rattle.wl_flat.specs.Status.{flattened, of_insert}
+use Rattle.wl_flat.specs.Descriptors.{Descriptors, given_up, kept_in, no_descriptors}
 use Rattle.wl_host.specs.declared.server.ledger.Departed.{Departed}
 use Rattle.wl_host.specs.declared.server.ledger.Ledger.{Ledger}
 use Rattle.wl_host.specs.declared.server.HostClient.{HostClient}
-use Rattle.wl_host.specs.declared.status.Status.{Status}
-use Rattle.wl_host.specs.declared.status.Status.TheVariants as status
-use Rattle.wl_host.specs.declared.telling.Telling.{Telling}
-use Rattle.wl_host.specs.Status.{of_insert}
+use Rattle.wl_flat.specs.declared.status.Status.{Status}
+use Rattle.wl_flat.specs.declared.status.Status.TheVariants as status
+use Rattle.wl_flat.specs.declared.telling.Telling.{Telling}
 
 -- What is kept beside the core: the ledgers of the clients that the core has, by slot; the clients that are gone and were not
 -- handed out, the oldest first; descriptors that were passed over and that no client has any more; and the slots of the
@@ -32,10 +30,6 @@ pub record SeatsState : Type 0 where
   pub writable : List ℕ
 
 -- ---- ledgers
-
--- nothing went in yet
-abbrev pub no_descriptors : Descriptors
-no_descriptors = record { passed = []; held = []; front = 0 }
 
 -- what is kept of a client that was inserted just now
 abbrev pub new_ledger : ClientParts → ℕ → Option Telling → Ledger
@@ -85,10 +79,6 @@ abbrev pub listed_all : SeatsState → SeatsState
 listed_all s = record s { writable = added_below (length s.ledgers) s.writable }
 
 -- ---- clients that are gone
-
--- the mailbox of a client to which nothing is to be sent
-abbrev pub empty_mailbox : MailboxState
-empty_mailbox = record { arrived = nothing; ending = ending.Open; waiting = nothing; room = 18446744073709551615; send_fault = None }
 
 -- what is left of a client that the core let go, but for what arrived
 abbrev pub departed : Ledger → MailboxState → Departed

@@ -17,21 +17,22 @@ use Rattle.wl_server.specs.Lending.{state_over}
 use Rattle.wl_server_model.specs.Lookups.{transport_of}
 use Rattle.wl_server_client.specs.Part.{Part}
 use Rattle.wl_server_model.specs.Plain.{FlushedAs, client_in}
-use Rattle.wl_host.specs.Arrivals.{MayArrive, RefusesArrival, mailbox_with}
+use Rattle.wl_flat.specs.Arrivals.{MayArrive, RefusesArrival, mailbox_with}
 use Rattle.wl_host.specs.Calls.{CoreState, world}
-use Rattle.wl_host.specs.Descriptors.{Descriptors, put_in}
-use Rattle.wl_host.specs.Flat.{client_of, flat_client, over_front}
+use Rattle.wl_flat.specs.Descriptors.{Descriptors, put_in}
+use Rattle.wl_flat.specs.Flat.{client_of, flat_client, over_front}
 use Rattle.wl_host.specs.Hearing.{ledger_after, with_heard}
 use Rattle.wl_host.specs.Seats.{PassesNext, SeatsState, added, gone_all, is_among, kept_by_seats, ledger_at, ledger_of, left_by_first, listed, with_ledger}
-use Rattle.wl_host.specs.Sending.{Copied, copied, counts_of, descriptors_of, mailbox_after, came_out, shown, some_of}
-use Rattle.wl_host.specs.declared.flat.FlatClientId.{FlatClientId}
-use Rattle.wl_host.specs.declared.flat.Gone.{Gone}
+use Rattle.wl_flat.specs.Sending.{Copied, copied, counts_of, descriptors_of, mailbox_after, came_out, shown, some_of}
+use Rattle.wl_flat.specs.declared.flat.FlatClientId.{FlatClientId}
+use Rattle.wl_flat.specs.declared.flat.Gone.{Gone}
 use Rattle.wl_host.specs.declared.server.HostClient.{HostClient}
 use Rattle.wl_host.specs.declared.server.ledger.Departed.{Departed}
 use Rattle.wl_host.specs.declared.server.ledger.Ledger.{Ledger}
 use Rattle.wl_host.specs.declared.server.registries.Told.{Told}
-use Rattle.wl_host.specs.declared.status.Status.{Status}
-use Rattle.wl_host.specs.declared.status.Status.TheVariants as status
+use Rattle.wl_flat.specs.declared.status.Status.{Status}
+use Rattle.wl_flat.specs.declared.status.Status.TheVariants as status
+use Rattle.wl_flat.specs.Status.{is_done}
 
 -- The core, and what is kept beside it; the notes that were taken from the core and not handed out, the oldest first; and
 -- whether there may be something to be cleaned up, and notes to be taken; whether requests with a null that the table forbids
@@ -53,10 +54,6 @@ abbrev pub kept_by_server : ℤ → ServerState → ℕ
 kept_by_server d s = kept_by_seats d s.seats
 
 -- ---- statuses
-
-abbrev pub is_done : Status → Bool
-is_done status.Ok = true
-is_done _ = false
 
 -- what was found, or `WouldBlock`
 abbrev pub or_would_block : {A : Type 0} → Option A → Result A Status

@@ -6,16 +6,17 @@ use Rattle.wl_link.specs.Mailbox.{MailboxState}
 use Rattle.wl_server_client.specs.Ids.{ClientParts}
 use Rattle.wl_server_model.specs.Lookups.{transport_of, waiting_of}
 use Rattle.wl_host.specs.Actions.{HandsNothing, Lent, NextAction}
-use Rattle.wl_host.specs.Flat.{none_told}
+use Rattle.wl_flat.specs.Flat.{none_told}
 use Rattle.wl_host.specs.Hearing.{LedgerCatchesUp, LedgerTells}
 use Rattle.wl_host.specs.Seats.{ledger_of, with_ledger}
-use Rattle.wl_host.specs.Sending.{Copied, counts_of}
-use Rattle.wl_host.specs.Server.{Sent, ServerState, is_done, sent_with, to_send}
-use Rattle.wl_host.specs.Told.{LentTold}
-use Rattle.wl_host.specs.declared.flat.FlatArgument.{FlatArgument}
+use Rattle.wl_flat.specs.Sending.{Copied, counts_of}
+use Rattle.wl_host.specs.Server.{Sent, ServerState, sent_with, to_send}
+use Rattle.wl_flat.specs.Status.{is_done}
+use Rattle.wl_flat.specs.Told.{LentTold}
+use Rattle.wl_flat.specs.declared.flat.FlatArgument.{FlatArgument}
 use Rattle.wl_host.specs.declared.server.ledger.Ledger.{Ledger}
-use Rattle.wl_host.specs.declared.status.Status.{Status}
-use Rattle.wl_host.specs.declared.status.Status.TheVariants as status
+use Rattle.wl_flat.specs.declared.status.Status.{Status}
+use Rattle.wl_flat.specs.declared.status.Status.TheVariants as status
 
 -- the session with another ledger of the client
 abbrev pub with_seat : ServerState → ClientParts → Ledger → ServerState

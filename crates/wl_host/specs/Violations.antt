@@ -5,8 +5,8 @@ use Rattle.wl_server_client.specs.declared.reading.response.RequestFault.TheVari
 use Rattle.wl_server_client.specs.declared.reading.violation.MessageFault.{MessageFault}
 use Rattle.wl_server_client.specs.declared.reading.violation.MessageFault.TheVariants as fault
 use Rattle.wl_server_client.specs.declared.reading.violation.Violation.{Violation}
-use Rattle.wl_host.specs.Flat.{count_number, interface_number}
-use Rattle.wl_host.specs.Kinds as kinds
+use Rattle.wl_flat.specs.Flat.{count_number, interface_number}
+use Rattle.wl_flat.specs.Kinds as kinds
 use Rattle.wl_host.specs.declared.server.violations.FlatViolation.{FlatViolation}
 
 -- which message it was, without what was wrong

@@ -3,8 +3,8 @@ use Rattle.std.specs.Prelude.{◌≡◌, ℕ, List, Bool, not, ◌==◌, ◌&&�
 use Rattle.std.specs.Int.Bits.{bit_and}
 use Rattle.std.specs.List.{list_any}
 use Rattle.wl_server_client.specs.Ids.{ClientParts, GlobalParts}
-use Rattle.wl_host.specs.declared.flat.FlatClientId.{FlatClientId}
-use Rattle.wl_host.specs.declared.flat.FlatGlobalId.{FlatGlobalId}
+use Rattle.wl_flat.specs.declared.flat.FlatClientId.{FlatClientId}
+use Rattle.wl_flat.specs.declared.flat.FlatGlobalId.{FlatGlobalId}
 use Rattle.wl_host.specs.declared.server.HostClient.{HostClient}
 use Rattle.wl_host.specs.declared.server.HostGlobal.{HostGlobal}
 

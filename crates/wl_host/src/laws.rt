@@ -1,6 +1,6 @@
 //! What follows from the definitions alone. Each function has a law as its contract, and does nothing.
 
-ghost use Rattle.std.specs.Prelude.{◌≡◌, ◌≢◌, ◌<◌, ◌≤◌, ◌^◌, ◌++◌, ◌∷◌, [], ℕ, ℤ, Bool, Err, List, Ok, Option, Result, Some, false, length, min, true};
+ghost use Rattle.std.specs.Prelude.{◌≡◌, ◌≢◌, ◌<◌, ◌≤◌, ◌^◌, ◌++◌, ◌∷◌, [], ℕ, ℤ, Bool, Err, List, Ok, Option, Result, Some, false, if◌then◌else◌, length, min, true};
 ghost use Rattle.std.specs.List.{AllByRecursion};
 ghost use Rattle.wl_client.specs.ObjectId.{IdParts as ProxyParts};
 ghost use Rattle.wl_follow.specs.Sent.{untold};
@@ -18,42 +18,47 @@ ghost use Rattle.wl_wire.specs.declared.argument.Token.{Token};
 ghost use Rattle.wl_wire.specs.declared.error.OutOfMemory.{OutOfMemory};
 ghost use Rattle.wl_wire.specs.Table.{InterfaceRow};
 ghost use Rattle.wl_host.specs.Actions.{EndsBind, EndsRequest, Lent, NextAction};
-ghost use Rattle.wl_host.specs.Allowed.{LendsAllowedAction, LendsAllowedEvent};
-ghost use Rattle.wl_host.specs.Arguments.{ComesBack, IsReadInPlace, all_bytes, arguments_of, flat_arguments, moved};
+ghost use Rattle.wl_host.specs.Allowed.{LendsAllowedAction};
+ghost use Rattle.wl_host_client.specs.Allowed.{LendsAllowedEvent};
+ghost use Rattle.wl_flat.specs.Arguments.{ComesBack, IsReadInPlace, all_bytes, arguments_of, flat_arguments, moved};
 ghost use Rattle.wl_host.specs.Calls.{CoreState, CreatesGlobal, CreatesObject, InsertsClient, SetsObjectData, world};
 ghost use Rattle.wl_host.specs.Chosen.{CreatesObjectAt, SetsObjectVersion};
 ghost use Rattle.wl_host.specs.Cleaning.{CleansUp};
-ghost use Rattle.wl_host.specs.Client.{ClientCore, HandsNext, HostedClient, LentForEvent};
+ghost use Rattle.wl_host_client.specs.Client.{ClientCore, HandsNext, HostedClient, LentForEvent, Receives, has_failed, sent, to_send as client_to_send};
+ghost use Rattle.wl_host_client.specs.ClientTellings as of_client;
 ghost use Rattle.wl_host.specs.Clients.{SetsRoom, inserted};
-ghost use Rattle.wl_host.specs.Descriptors.{Descriptors};
+ghost use Rattle.wl_flat.specs.Descriptors.{Descriptors};
 ghost use Rattle.wl_host.specs.Events.{Passed, PostsError, SendsEvent};
-ghost use Rattle.wl_host.specs.Extending.{HasRow, KeepsInterfaces};
+ghost use Rattle.wl_flat.specs.Extending.{HasRow, KeepsInterfaces};
 ghost use Rattle.wl_host.specs.Flushing.{FlushesClient};
-ghost use Rattle.wl_host.specs.Flat.{client_of, flat_proxy, flat_resource, proxy_of, resource_of};
+ghost use Rattle.wl_flat.specs.Flat.{client_of, flat_proxy, flat_resource, proxy_of, resource_of};
 ghost use Rattle.wl_host.specs.Hearing.{is_told, ledger_after, with_heard};
+ghost use Rattle.wl_flat.specs.Joining.{IsJoined, IsJoinedAmong};
 ghost use Rattle.wl_host.specs.Killed.{IsSettled, KnowsEnd, StaysSettled};
 ghost use Rattle.wl_host.specs.Notes.{NextNote};
-ghost use Rattle.wl_host.specs.Nulls.{TellsNull, forbidden_null};
+ghost use Rattle.wl_flat.specs.Nulls.{TellsNull, forbidden_null};
 ghost use Rattle.wl_host.specs.Registries.{AllTell, Announces, Called, KeepsOutstanding, Neither, Tells};
-ghost use Rattle.wl_host.specs.Rows.{said_by};
+ghost use Rattle.wl_flat.specs.Rows.{said_by};
 ghost use Rattle.wl_host.specs.Seats.{ledger_of};
-ghost use Rattle.wl_host.specs.Sending.{Copied, queue_after};
+ghost use Rattle.wl_flat.specs.Sending.{Copied, copied as copied_from, queue_after};
 ghost use Rattle.wl_host.specs.Server.{Ends, NextWritable, Received, Sent, ServerState, to_send};
-ghost use Rattle.wl_host.specs.Tables.{AddsInterfaces, ExtendsClient, ExtendsInterfaces, IsNewServer};
+ghost use Rattle.wl_host.specs.Tables.{AddsInterfaces, ExtendsInterfaces, IsNewServer, JoinsServer};
+ghost use Rattle.wl_host_client.specs.Tables.{ExtendsClient, IsNewClient, JoinsClient};
 ghost use Rattle.wl_host.specs.Tellings.{CatchesUpWith, CopiesTold, NextTold, ReadsTold, SendsTold, TellsNothing, unread_by};
-ghost use Rattle.wl_host.specs.Told.{LentTold, said_part};
-ghost use Rattle.wl_host.specs.ToldRuns.{AreTold, CaughtUp, ComesTo, ComesToAll, Deed, FoundNone, Heard, Leads, NothingWaits, SentOff, Watched, Watches, all_found, all_handed, all_heard, all_read, all_sent, all_told, kept_in, new_watched};
-ghost use Rattle.wl_host.specs.declared.extending.ExtensionFault.{ExtensionFault};
-ghost use Rattle.wl_host.specs.declared.flat.FlatArgument.{FlatArgument};
-ghost use Rattle.wl_host.specs.declared.flat.FlatClientId.{FlatClientId};
-ghost use Rattle.wl_host.specs.declared.flat.FlatGlobalId.{FlatGlobalId};
-ghost use Rattle.wl_host.specs.declared.flat.FlatNote.{FlatNote};
-ghost use Rattle.wl_host.specs.declared.flat.FlatObjectId.{FlatObjectId};
-ghost use Rattle.wl_host.specs.declared.rows.Rows.{Rows};
-ghost use Rattle.wl_host.specs.declared.rows.TableFault.{TableFault};
+ghost use Rattle.wl_flat.specs.Told.{LentTold, said_part, waiting_in};
+ghost use Rattle.wl_flat.specs.ToldRuns.{AreTold, CaughtUp, Deed, FoundNone, Heard, Leads, NothingWaits, SentOff, Watched, Wrote, all_found, all_handed, all_heard, all_read, all_sent, all_told, kept_in, new_watched};
+ghost use Rattle.wl_host.specs.Watching.{ComesTo, ComesToAll, Watches};
+ghost use Rattle.wl_flat.specs.declared.extending.ExtensionFault.{ExtensionFault};
+ghost use Rattle.wl_flat.specs.declared.flat.FlatArgument.{FlatArgument};
+ghost use Rattle.wl_flat.specs.declared.flat.FlatClientId.{FlatClientId};
+ghost use Rattle.wl_flat.specs.declared.flat.FlatGlobalId.{FlatGlobalId};
+ghost use Rattle.wl_flat.specs.declared.flat.FlatNote.{FlatNote};
+ghost use Rattle.wl_flat.specs.declared.flat.FlatObjectId.{FlatObjectId};
+ghost use Rattle.wl_flat.specs.declared.rows.Rows.{Rows};
+ghost use Rattle.wl_flat.specs.declared.rows.TableFault.{TableFault};
 ghost use Rattle.wl_host.specs.declared.server.ledger.Ledger.{Ledger};
-ghost use Rattle.wl_host.specs.declared.status.Status.{Status};
-ghost use Rattle.wl_host.specs.declared.status.Status.TheVariants as status;
+ghost use Rattle.wl_flat.specs.declared.status.Status.{Status};
+ghost use Rattle.wl_flat.specs.declared.status.Status.TheVariants as status;
 
 /// Arguments that are handed out as flat structs and passed in again are the same arguments, in a server's session and in a
 /// client's. Their descriptors get the tokens that come next where they go in. The strings and arrays take fewer than 2³² bytes
@@ -82,8 +87,8 @@ pub fn a_forbidden_null_is_told()
 pub fn no_forbidden_null_is_handed_out()
     ensures action { (before after : ServerState) (id : ClientParts) (arguments : List FlatArgument) (bytes : List ℕ) (lent : Lent) (came_out : List ℤ) → before.refuses_nulls ≡ true → ReadsTold before id arguments bytes status.Ok lent came_out after → LendsAllowedAction after.core arguments bytes lent }
     ensures action_tells_none { (before after : ServerState) (id : ClientParts) (arguments : List FlatArgument) (bytes : List ℕ) (lent : Lent) (came_out : List ℤ) → before.refuses_nulls ≡ true → ReadsTold before id arguments bytes status.Ok lent came_out after → lent.out.forbidden_null ≡ 0 }
-    ensures event { (before after : HostedClient) (lent lent' : LentForEvent) (came_out : List ℤ) → before.refuses_nulls ≡ true → HandsNext before lent status.Ok came_out after lent' → LendsAllowedEvent before after.core lent lent' }
-    ensures event_tells_none { (before after : HostedClient) (lent lent' : LentForEvent) (came_out : List ℤ) → before.refuses_nulls ≡ true → HandsNext before lent status.Ok came_out after lent' → lent'.out.forbidden_null ≡ 0 }
+    ensures event { (before after : HostedClient) (lent lent' : LentForEvent) (came_out : List ℤ) → before.refuses_nulls ≡ true → of_client.ReadsTold before lent status.Ok came_out after lent' → LendsAllowedEvent before after.core lent lent' }
+    ensures event_tells_none { (before after : HostedClient) (lent lent' : LentForEvent) (came_out : List ℤ) → before.refuses_nulls ≡ true → of_client.ReadsTold before lent status.Ok came_out after lent' → lent'.out.forbidden_null ≡ 0 }
 {}
 
 /// After whole rows were taken, the table of a session has what each of them says: an interface of its name, which has a message
@@ -102,6 +107,23 @@ pub fn whole_rows_take_nothing_away()
     ensures client { (rows : Rows) (before after : ClientCore) (result : Result (Unit {0}) ExtensionFault) → ExtendsClient rows before result after → KeepsInterfaces before.session.table after.session.table }
 {}
 
+/// After one whole interface joined the table of a session, the row of the number that is answered has the interface's name, no
+/// lower version, and at each opcode of the interface the same message, but for whether it ends its object. In a client's table
+/// apostrophes may be behind the name.
+pub fn joined_interface_is_there()
+    ensures server { (rows : Rows) (before after : CoreState) (number : ℕ) → JoinsServer rows before (Ok number) after → (said : InterfaceRow) × (said_by rows ≡ Ok (said ∷ [])) × IsJoined after.server.offer.table number said }
+    ensures client { (rows : Rows) (before after : ClientCore) (number : ℕ) → JoinsClient rows before (Ok number) after → (said : InterfaceRow) × (said_by rows ≡ Ok (said ∷ [])) × IsJoinedAmong after.session.table number said }
+{}
+
+/// Such an interface takes nothing away, whatever the answer is: each interface of the table keeps its place, its name and its
+/// messages, and its version does not fall. Where it is refused, the table is as it was.
+pub fn joining_takes_nothing_away()
+    ensures server { (rows : Rows) (before after : CoreState) (result : Result ℕ ExtensionFault) → JoinsServer rows before result after → KeepsInterfaces before.server.offer.table after.server.offer.table }
+    ensures client { (rows : Rows) (before after : ClientCore) (result : Result ℕ ExtensionFault) → JoinsClient rows before result after → KeepsInterfaces before.session.table after.session.table }
+    ensures refused_by_server { (rows : Rows) (before after : CoreState) (fault : ExtensionFault) → JoinsServer rows before (Err fault) after → after.server.offer.table ≡ before.server.offer.table }
+    ensures refused_by_client { (rows : Rows) (before after : ClientCore) (fault : ExtensionFault) → JoinsClient rows before (Err fault) after → after.session.table ≡ before.session.table }
+{}
+
 /// While the next `cleanup` of a server's session would not look for killed clients, nobody is killed: a new session is so, and
 /// each call leaves it so. After a cleanup that looked nobody is killed.
 ///
@@ -116,6 +138,7 @@ pub fn a_cleanup_looks_for_the_killed()
     ensures set_default_max_buffer_size { (before after : ServerState) (size : ℕ) → Calls world before.core (step.SetDefaultMaxBufferSize size) reply.SetDefaultMaxBufferSize after.core → after ≡ record before { core = after.core } → StaysSettled before after }
     ensures add_interfaces { (before after : ServerState) (rows : Rows) (result : Result (Unit {0}) TableFault) → AddsInterfaces rows before.core result after.core → after ≡ record before { core = after.core } → StaysSettled before after }
     ensures extend_interfaces { (before after : ServerState) (rows : Rows) (result : Result (Unit {0}) ExtensionFault) → ExtendsInterfaces rows before.core result after.core → after ≡ record before { core = after.core } → StaysSettled before after }
+    ensures join_interface { (before after : ServerState) (rows : Rows) (result : Result ℕ ExtensionFault) → JoinsServer rows before.core result after.core → after ≡ record before { core = after.core } → StaysSettled before after }
     ensures received { (before after : ServerState) (id : ClientParts) (bytes : List ℕ) (descriptors : List ℤ) (s : Status) → Received before id bytes descriptors s after → StaysSettled before after }
     ensures ended { (before after : ServerState) (id : ClientParts) (ending : Ending) (s : Status) → Ends before id ending s after → StaysSettled before after }
     ensures next_action { (before after : ServerState) (id : ClientParts) (arguments : List FlatArgument) (bytes : List ℕ) (s : Status) (lent : Lent) (came_out : List ℤ) → ReadsTold before id arguments bytes s lent came_out after → StaysSettled before after }
@@ -202,14 +225,14 @@ pub fn without_telling_each_call_is_as_it_was()
 /// The clauses from `insert_client` on say what the calls come to, in the words of their own clauses; `caught_up` is for what
 /// `next_action` and `to_send` begin with. Of other calls a run has what they put into the mailbox.
 pub fn what_is_heard_and_said_is_told_once()
-    ensures heard { (run : List Deed) (after : Watched) → Leads new_watched run after → after.telling.follower.client.is_followed ≡ true
+    ensures heard { (run : List Deed) (after : Watched) → Leads Client new_watched run after → after.telling.follower.client.is_followed ≡ true
         → joined (all_told Client run) (untold after.telling.follower.client) ≡ all_heard run }
-    ensures said { (run : List Deed) (after : Watched) → Leads new_watched run after → after.telling.follower.server.is_followed ≡ true
+    ensures said { (run : List Deed) (after : Watched) → Leads Client new_watched run after → after.telling.follower.server.is_followed ≡ true
         → joined (all_told Server run) (untold after.telling.follower.server) ≡ joined (all_sent run) (said_part after.waiting after.telling) }
-    ensures handed_out { (run : List Deed) (after : Watched) → Leads new_watched run after → all_handed run ++ kept_in after.telling ≡ all_found run }
-    ensures read { (run : List Deed) (after : Watched) → Leads new_watched run after → length (all_told Client run).bytes ≤ all_read run }
-    ensures all { (run : List Deed) (unread : ℕ) (table : List InterfaceRow) (before after : Watched) → Leads new_watched run before
-        → Leads before (CaughtUp unread (Ok tt) ∷ FoundNone table ∷ []) after → NothingWaits unread after }
+    ensures handed_out { (run : List Deed) (after : Watched) → Leads Client new_watched run after → all_handed run ++ kept_in after.telling ≡ all_found run }
+    ensures read { (run : List Deed) (after : Watched) → Leads Client new_watched run after → length (all_told Client run).bytes ≤ all_read run }
+    ensures all { (run : List Deed) (unread : ℕ) (table : List InterfaceRow) (before after : Watched) → Leads Client new_watched run before
+        → Leads Client before (CaughtUp unread (Ok tt) ∷ FoundNone table ∷ []) after → NothingWaits Client unread after }
     ensures insert_client { (before after : ServerState) (user_data groups : ℕ) (hidden : List FlatGlobalId) (client : FlatClientId) → before.tells ≡ true
         → InsertsClient before.core user_data groups hidden (Ok client) after.core → after ≡ inserted before after.core (Ok client) user_data
         → Watches (client_of client) after new_watched }
@@ -223,4 +246,52 @@ pub fn what_is_heard_and_said_is_told_once()
     ensures next_told { (before after : ServerState) (id : ClientParts) (lent : LentTold) (s : Status) (lent' : LentTold) (w : Watched) → Watches id before w
         → NextTold before id lent s lent' after
         → (run : List Deed) × AreTold before.core.server.offer.table (unread_by before id) lent s lent' run × ComesToAll id w run after }
+{}
+
+/// Of a client's session whose messages are not told each call does what it would do if there were no telling.
+///
+/// Such is a new session. Of it `next_event` does what `HandsNext` says, `received` what `Receives` does, and `sent` what `sent` does,
+/// nothing before. But the session is new no more once `received` answered `Ok`, or `sent` did while the session had not failed. `to_send`
+/// changes nothing, and `next_told` answers `InvalidId` and changes nothing.
+pub fn without_telling_a_client_is_as_it_was()
+    ensures new { (rows : Rows) (s : HostedClient) → IsNewClient rows s → s.telling ≡ None }
+    ensures received { (before after : HostedClient) (bytes : List ℕ) (descriptors : List ℤ) (s : Status) → before.telling ≡ None
+        → of_client.ReceivesTold before bytes descriptors s after → (mid : HostedClient) × Receives before bytes descriptors s mid × (after ≡ record mid { is_new = of_client.new_after s before.is_new }) }
+    ensures next_event { (before after : HostedClient) (lent lent' : LentForEvent) (s : Status) (came_out : List ℤ) → before.telling ≡ None
+        → of_client.ReadsTold before lent s came_out after lent' → HandsNext before lent s came_out after lent' }
+    ensures to_send { (before after : HostedClient) (bytes : List ℕ) (descriptors : List ℤ) (copied : Copied) → before.telling ≡ None
+        → of_client.CopiesTold before bytes descriptors copied after → (copied ≡ copied_from (client_to_send before) before.departures bytes descriptors) × (after ≡ before) }
+    ensures sent { (before after : HostedClient) (count : ℕ) (s : Status) → before.telling ≡ None
+        → of_client.SendsTold before count s after → (s ≡ status.Ok) × (after ≡ record (sent before count) { is_new = if has_failed before then before.is_new else false }) }
+    ensures next_told { (before after : HostedClient) (lent : LentTold) (s : Status) (lent' : LentTold) → before.telling ≡ None
+        → of_client.NextTold before lent s lent' after → of_client.TellsNothing status.InvalidId before lent s lent' after }
+{}
+
+/// What a client's session hears is told once, in its order, if its messages are told; and so is what it says, as far as it is seen in
+/// its mailbox.
+///
+/// As `what_is_heard_and_said_is_told_once` has it of a server's client: a run is what the calls of the session come to, from the one on
+/// that sets it. It begins with what waits in the mailbox then, of which nothing was seen. What is heard is the server's, and what is said
+/// is the client's. The session has not failed: one that has gives up what it did not send (`next_dropped`).
+pub fn what_a_client_hears_and_says_is_told_once()
+    ensures heard { (run : List Deed) (after : Watched) → Leads Server new_watched run after → after.telling.follower.server.is_followed ≡ true
+        → joined (all_told Server run) (untold after.telling.follower.server) ≡ all_heard run }
+    ensures said { (run : List Deed) (after : Watched) → Leads Server new_watched run after → after.telling.follower.client.is_followed ≡ true
+        → joined (all_told Client run) (untold after.telling.follower.client) ≡ joined (all_sent run) (said_part after.waiting after.telling) }
+    ensures handed_out { (run : List Deed) (after : Watched) → Leads Server new_watched run after → all_handed run ++ kept_in after.telling ≡ all_found run }
+    ensures read { (run : List Deed) (after : Watched) → Leads Server new_watched run after → length (all_told Server run).bytes ≤ all_read run }
+    ensures all { (run : List Deed) (unread : ℕ) (table : List InterfaceRow) (before after : Watched) → Leads Server new_watched run before
+        → Leads Server before (CaughtUp unread (Ok tt) ∷ FoundNone table ∷ []) after → NothingWaits Server unread after }
+    ensures tell_messages { (before after : HostedClient) → before.telling ≡ None → of_client.SetsTelling true before status.Ok after
+        → of_client.ComesTo new_watched (Wrote (waiting_in after.core.session.link.transport after.departures)) after }
+    ensures received { (before after : HostedClient) (bytes : List ℕ) (descriptors : List ℤ) (w : Watched) → of_client.Watches before w
+        → of_client.ReceivesTold before bytes descriptors status.Ok after → of_client.ComesTo w (Heard bytes descriptors) after }
+    ensures caught_up { (before after : HostedClient) (result : Result (Unit {0}) OutOfMemory) (w : Watched) → of_client.Watches before w
+        → of_client.CatchesUpWith before result after → of_client.ComesTo w (CaughtUp (of_client.unread_by before) result) after }
+    ensures sent { (before after : HostedClient) (count : ℕ) (w : Watched) → of_client.Watches before w → has_failed before ≡ false
+        → of_client.SendsTold before count status.Ok after
+        → (n : ℕ) × (n ≡ min count (length w.waiting.bytes)) × of_client.ComesTo w (SentOff (of_client.unread_by before) n (front n w.waiting)) after }
+    ensures next_told { (before after : HostedClient) (lent : LentTold) (s : Status) (lent' : LentTold) (w : Watched) → of_client.Watches before w
+        → of_client.NextTold before lent s lent' after
+        → (run : List Deed) × AreTold before.core.session.table (of_client.unread_by before) lent s lent' run × of_client.ComesToAll w run after }
 {}

@@ -3,6 +3,7 @@
 //! | Calls | Code |
 //! |---|---|
 //! | `new`, `add_interfaces`, `extend_interfaces`, `memory_refused`, `set_default_max_buffer_size`, `refuse_nulls` | `server` |
+//! | `join_interface` | `server::joining` |
 //! | clients, and what arrives of them | `server::clients`, `server::arrivals` |
 //! | `next_action`, and those that finish an action | `server::actions`, `server::refusals` |
 //! | `send_event`, `post_error` | `server::events` |
@@ -23,6 +24,7 @@ pub mod events;
 pub mod globals;
 pub mod held;
 pub mod hidden;
+pub mod joining;
 pub mod ledger;
 pub mod limits;
 pub mod listing;
@@ -38,28 +40,29 @@ pub mod violations;
 pub mod waiting;
 
 ghost use Rattle.std.specs.Prelude.{[], ◌≡◌, IfErr, IfOk, true};
-ghost use Rattle.wl_host.specs.Descriptors.{Conserves};
+ghost use Rattle.wl_flat.specs.Descriptors.{Conserves};
 ghost use Rattle.wl_host.specs.Server.{kept_by_server};
 ghost use Rattle.wl_host.specs.Calls.{world};
-ghost use Rattle.wl_host.specs.Nulls.{sets};
-ghost use Rattle.wl_host.specs.Tables.{AddsInterfaces, ExtendsInterfaces, IsFaultOf, IsNewServer, new_state};
+ghost use Rattle.wl_flat.specs.Nulls.{sets};
+ghost use Rattle.wl_host.specs.Tables.{AddsInterfaces, ExtendsInterfaces, IsNewServer, new_state};
+ghost use Rattle.wl_flat.specs.Tables.{IsFaultOf};
 ghost use Rattle.wl_server_model.specs.Backend.{Calls};
 ghost use Rattle.wl_server_model.specs.declared.step.Reply.TheVariants as reply;
 ghost use Rattle.wl_server_model.specs.declared.step.Step.TheVariants as step;
-ghost use Rattle.wl_host.specs.declared.status.Status.TheVariants as status;
+ghost use Rattle.wl_flat.specs.declared.status.Status.TheVariants as status;
 
-use crate::arguments::{FromFlat, Objects};
-use crate::extending::{ExtensionFault, Growing, extend};
-use crate::flat::{FlatClientId, FlatGlobalId, FlatObjectId};
-use crate::rows::{Rows, TableFault, interfaces_of, table_answer};
 use crate::server::registries::Told;
 use crate::server::seats::Seats;
-use crate::status::Status;
 use smallvec::SmallVec;
 use std::alloc::Global;
 use std::collections::{BTreeSet, VecDeque};
 use std::fmt;
 use std::marker::Model;
+use wl_flat::arguments::Objects;
+use wl_flat::extending::{ExtensionFault, Growing, extend};
+use wl_flat::flat::{FlatClientId, FlatGlobalId, FlatObjectId};
+use wl_flat::rows::{Rows, TableFault, interfaces_of, table_answer};
+use wl_flat::status::Status;
 use wl_link::Mailbox;
 use wl_server::{Action, Backend, ClientId, GlobalHandler, GlobalId, Note, ObjectId};
 use wl_wire::{Interface, InterfaceId, Message, MessageDesc, Protocol, TableError, Token};
@@ -306,19 +309,9 @@ impl Server {
     }
 }
 
-impl FromFlat for ObjectId {
-    ghost use Rattle.wl_host.specs.Flat.{resource_of};
-
-    ghost stands_for = { resource_of };
-
-    fn from_flat(flat: &FlatObjectId) -> Self {
-        flat.resource()
-    }
-}
-
-impl Objects<ObjectId> for Core {
+impl Objects<ObjectId, Server> for Core {
     ghost use Rattle.wl_host.specs.Calls.{data_or_zero};
-    ghost use Rattle.wl_host.specs.Flat.{flat_resource};
+    ghost use Rattle.wl_flat.specs.Flat.{flat_resource};
 
     ghost flat_of = { flat_resource };
 
@@ -339,7 +332,7 @@ impl Objects<ObjectId> for Core {
     }
 }
 
-impl Growing for Core {
+impl Growing<Server> for Core {
     ghost use Rattle.wl_host.specs.Calls.{world};
     ghost use Rattle.wl_server_model.specs.Backend.{IsGrowth};
 

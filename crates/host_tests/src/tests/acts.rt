@@ -6,7 +6,8 @@ use crate::tests::rows::{GATE, KNOT, NOTE, TABLE};
 use crate::tests::session::Session;
 use crate::tests::told::{
     NO_ARGUMENT, NOBODY, NOTHING, NULL, bytes_of, tell_counts, tell_descriptor, tell_kept,
-    tell_lent, tell_numbers, tell_object, tell_objects, told, told_extension, told_table,
+    tell_lent, tell_numbers, tell_object, tell_objects, told, told_extension, told_joined,
+    told_table,
 };
 use std::alloc::Global;
 use std::test::Fail;
@@ -41,6 +42,8 @@ pub enum Act {
     NextTold(FlatClientId, usize, usize),
     /// The table is extended by these rows.
     Extend(Rows<'static>),
+    /// The interface of these rows joins the table.
+    Join(Rows<'static>),
     /// A send to the client failed.
     SendFailed(FlatClientId),
     /// The client is killed.
@@ -174,7 +177,7 @@ fn next(
 }
 
 /// A message that is told, and what was lent for its arguments and bytes.
-fn tell_message(
+pub fn tell_message(
     log: &mut String,
     message: &FlatTold,
     arguments: &[FlatArgument],
@@ -343,6 +346,7 @@ fn on_clients(log: &mut String, server: &mut Server, act: &Act) -> Result<Status
         Act::RefuseNulls(is_on) => Ok(server.refuse_nulls(*is_on)),
         Act::TellMessages(is_on) => Ok(server.tell_messages(*is_on)),
         Act::Extend(rows) => told_extension(log, server.extend_interfaces(rows)),
+        Act::Join(rows) => told_joined(log, server.join_interface(rows)),
         _ => Err(Fail::new("no act of this kind")),
     }
 }

@@ -2,7 +2,10 @@
 
 use crate::tests::args::{arg, id};
 use crate::tests::client_acts::{Act, DISPLAY, NEW, REGISTRY};
-use crate::tests::rows::{BAD_NOTE, LONG_PAD, OTHER_PAD, PAD_TWICE, TABLE};
+use crate::tests::rows::{
+    BAD_NOTE, FAR_NOTE, LAX_PAD, LONG_PAD, LONGER_PAD, NEW_CALLBACK, NO_ROWS, OLD_CALLBACK,
+    OTHER_PAD, PAD_TWICE, READ_NOTE, TABLE, TOLD_PAD,
+};
 use crate::tests::session::{Run, run_tells};
 use crate::tests::told::NOBODY;
 use std::test::Fail;
@@ -546,8 +549,43 @@ static WHOLE_ROWS: Run<Act> = Run {
     ],
 };
 
+/// A `pad` that differs is another interface: it has a row of its own, and the first of these that agrees. What a row lacks it takes
+/// of the `pad` that agrees with it; of the first one an event is read that came with it. How many descriptors events bring is told.
+static ONE_INTERFACE: Run<Act> = Run {
+    name: "one interface joins the table",
+    first: &[],
+    entries: &[
+        (Act::Join(TABLE), "Ok number 4"),
+        (Act::Join(LAX_PAD), "Ok number 5"),
+        (Act::Join(TOLD_PAD), "Ok number 5"),
+        (Act::Join(LAX_PAD), "Ok number 5"),
+        (Act::Descriptors(5, 1), "Ok"),
+        (Act::Descriptors(4, 1), "Ok count 1"),
+        (Act::Descriptors(4, 0), "Ok"),
+        (Act::Descriptors(4, 2), "UnknownOpcode"),
+        (Act::Join(READ_NOTE), "Ok number 6"),
+        (Act::Join(FAR_NOTE), "BadTable fault 4"),
+        (Act::Join(LONGER_PAD), "Ok number 4"),
+        (Act::Join(TABLE), "Ok number 4"),
+        (Act::Descriptors(4, 2), "Ok"),
+        (Act::Descriptors(4, 3), "UnknownOpcode"),
+        (Act::Descriptors(0, 0), "UnknownOpcode"),
+        (Act::Descriptors(7, 0), "UnknownInterface"),
+        (Act::Join(NO_ROWS), "BadTable fault 1"),
+        (Act::Join(LONG_PAD), "BadTable fault 1"),
+        (Act::Join(OLD_CALLBACK), "Ok number 3"),
+        (Act::Join(NEW_CALLBACK), "BadTable fault 4"),
+        (Act::Send(DISPLAY, 1, Some(1), NEW, &[]), "Ok 2@2 serial 1"),
+        (Act::BindPad(9), "Ok 4@3 serial 2"),
+        (Act::Received(&[3, 0x00080002], &[]), "Ok"),
+        (Act::Next(0, 0), "Ok opcode 2 has_data 1 data 9 by 4@3"),
+        (Act::Finish, "Ok"),
+    ],
+};
+
 /// It tells what it has to.
 #[test]
 fn whole_rows(rt: HostRuntime) -> Result<(), Fail> {
-    run_tells::<Client>(&rt, &WHOLE_ROWS, None, false)
+    run_tells::<Client>(&rt, &WHOLE_ROWS, None, false)?;
+    run_tells::<Client>(&rt, &ONE_INTERFACE, None, false)
 }

@@ -1,18 +1,19 @@
 //! What a test does with a client's session, and what it tells.
 
+use crate::tests::acts::tell_message;
 use crate::tests::args::{arg, id};
 use crate::tests::rows::{GATE, KNOT, NOTE, TABLE};
 use crate::tests::session::Session;
 use crate::tests::told::{
     NO_ARGUMENT, NOBODY, NOTHING, NULL, bytes_of, tell_counts, tell_descriptor, tell_kept,
     tell_lent, tell_numbers, tell_object, tell_objects, tell_waiting, told, told_extension,
-    told_table,
+    told_joined, told_table,
 };
 use std::alloc::Global;
 use std::test::Fail;
 use wl_host::{
-    Client, FlatArgument, FlatError, FlatEvent, FlatObjectId, FlatObjectInfo, FlatRequest, Rows,
-    Status, TableFault,
+    Client, FlatArgument, FlatError, FlatEvent, FlatObjectId, FlatObjectInfo, FlatRequest,
+    FlatTold, Rows, Status, TableFault,
 };
 
 /// One call of the session.
@@ -51,6 +52,10 @@ pub enum Act {
     SendFailed(i32),
     /// The table is extended by these rows.
     Extend(Rows<'static>),
+    /// The interface of these rows joins the table.
+    Join(Rows<'static>),
+    /// How many descriptors the event of this interface and opcode brings.
+    Descriptors(u32, u32),
     /// What is known of the object.
     Info(FlatObjectId),
     /// The data of the object.
@@ -79,6 +84,10 @@ pub enum Act {
     Note,
     /// The next descriptor that nobody takes.
     Dropped,
+    /// Whether messages are told is set.
+    TellMessages(u32),
+    /// The next message that is told, with so much room for arguments and bytes, at most 16 and 24.
+    NextTold(usize, usize),
 }
 
 /// The display.
@@ -149,6 +158,26 @@ fn next(log: &mut String, client: &mut Client, room: usize, most: usize) -> Resu
     Ok(status)
 }
 
+/// The next message that is told, with so much room.
+fn next_told(
+    log: &mut String,
+    client: &mut Client,
+    room: usize,
+    most: usize,
+) -> Result<Status, Fail> {
+    if room > 16 || most > 24 {
+        return Err(Fail::new("too much room"));
+    }
+    let mut arguments = [NO_ARGUMENT; 16];
+    let mut bytes = [0u8; 24];
+    let mut message = FlatTold::none();
+    let status = client.next_told(&mut message, &mut arguments[..room], &mut bytes[..most]);
+    if matches!(status, Status::Ok | Status::TooSmall) {
+        tell_message(log, &message, &arguments[..room], &bytes[..most])?;
+    }
+    Ok(status)
+}
+
 /// A request. The object that it makes gets these data, and is of this interface and version, if the caller says so.
 fn request(
     sender: FlatObjectId,
@@ -192,6 +221,11 @@ fn tell_data(log: &mut String, user_data: u64) -> Result<(), Fail> {
     tell_numbers(log, &[("data", user_data)])
 }
 
+/// A count.
+fn tell_count(log: &mut String, count: u32) -> Result<(), Fail> {
+    tell_numbers(log, &[("count", u64::from(count))])
+}
+
 /// Tells what is known of an object.
 fn tell_info(log: &mut String, info: FlatObjectInfo) -> Result<(), Fail> {
     let (number, interface, version) = (info.number, info.interface, info.version);
@@ -200,7 +234,7 @@ fn tell_info(log: &mut String, info: FlatObjectInfo) -> Result<(), Fail> {
 }
 
 /// What is to be sent, with room for so many descriptors. How much it is, is told in any case.
-fn to_send(log: &mut String, client: &Client, room: usize) -> Result<Status, Fail> {
+fn to_send(log: &mut String, client: &mut Client, room: usize) -> Result<Status, Fail> {
     if room > 28 {
         return Err(Fail::new("too much room"));
     }
@@ -304,8 +338,16 @@ fn on_requests(log: &mut String, client: &mut Client, act: &Act) -> Result<Statu
         Act::AddKnot => told_table(log, client.add_interfaces(&KNOT)),
         Act::AddGate => told_table(log, client.add_interfaces(&GATE)),
         Act::RefuseNulls(is_on) => Ok(client.refuse_nulls(*is_on)),
+        Act::TellMessages(is_on) => Ok(client.tell_messages(*is_on)),
+        Act::NextTold(room, most) => next_told(log, client, *room, *most),
         Act::Fail(number) => Ok(client.fail(*number)),
         Act::Extend(rows) => told_extension(log, client.extend_interfaces(rows)),
+        Act::Join(rows) => told_joined(log, client.join_interface(rows)),
+        Act::Descriptors(interface, opcode) => told(
+            log,
+            client.event_descriptors(*interface, *opcode),
+            tell_count,
+        ),
         _ => Err(Fail::new("no act of this kind")),
     }
 }

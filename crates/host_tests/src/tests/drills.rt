@@ -3,7 +3,7 @@
 use crate::tests::acts::{Act, FIRST, SECOND};
 use crate::tests::args::{arg, id};
 use crate::tests::client_acts::{Act as ClientAct, DISPLAY, NEW};
-use crate::tests::rows::{LONG_PAD, OTHER_PAD};
+use crate::tests::rows::{KNOT, LAX_PAD, LONG_PAD, LONGER_NOTE, LONGER_PAD, OTHER_PAD};
 use crate::tests::server::{LEAVE_NULL, TELL};
 use crate::tests::session::{End, Run, run_tells};
 use crate::tests::told::{NOBODY, NULL};
@@ -111,7 +111,7 @@ static ARGUMENTS: Run<Act> = Run {
     ],
 };
 
-/// A table that longer rows extend: one interface, its requests and its events, and a new one.
+/// A table that longer rows extend: one interface, its requests and its events, and a new one. Then single ones join it.
 static EXTENSION: Run<Act> = Run {
     name: "an extension",
     first: &[],
@@ -127,6 +127,10 @@ static EXTENSION: Run<Act> = Run {
         (Act::Create(FIRST, 5, 55), "Ok 5@4278190081"),
         (Act::Create(FIRST, 6, 66), "UnknownInterface"),
         (Act::Send(PAD, 2, &[], b""), "Ok"),
+        (Act::Join(KNOT), "Ok number 6"),
+        (Act::Join(LONGER_NOTE), "Ok number 5"),
+        (Act::Join(LAX_PAD), "BadTable fault 9 opcode 1 version 3"),
+        (Act::Create(FIRST, 6, 66), "Ok 6@4278190082"),
     ],
 };
 
@@ -274,6 +278,9 @@ static CLIENT: Run<ClientAct> = Run {
         (ClientAct::Note, "WouldBlock"),
         (ClientAct::Next(1, 0), "WouldBlock"),
         (ClientAct::Dropped, "WouldBlock"),
+        (ClientAct::Join(LAX_PAD), "Ok number 6"),
+        (ClientAct::Join(LONGER_PAD), "Ok number 4"),
+        (ClientAct::Join(LAX_PAD), "Ok number 6"),
         (ClientAct::Error, "Ok number 0"),
     ],
 };

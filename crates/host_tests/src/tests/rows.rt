@@ -206,3 +206,105 @@ pub const MAKING_PAD: Rows = Rows {
         argument!(kind::NEW_ID, 4, 0),
     ],
 };
+
+/// `pad` whose second request, `label`, takes a null.
+pub const LAX_PAD: Rows = Rows {
+    text: b"padpushlabel",
+    interfaces: &[interface!(0, 3, 2, 2, 0)],
+    messages: &[message!(3, 4, 2, 0), message!(7, 5, 1, 0)],
+    arguments: &[
+        argument!(kind::INT, 0, 0),
+        argument!(kind::DESCRIPTOR, 0, 0),
+        argument!(kind::STRING, 0, 1),
+    ],
+};
+
+/// `pad` of version 4 whose second event, `given`, has an integer.
+pub const TOLD_PAD: Rows = Rows {
+    text: b"padmovedgiven",
+    interfaces: &[interface!(0, 3, 4, 0, 2)],
+    messages: &[message!(3, 5, 1, 0), message!(8, 5, 1, 0)],
+    arguments: &[argument!(kind::INT, 0, 0), argument!(kind::INT, 0, 0)],
+};
+
+/// `pad` as in `LONG_PAD`, but that no request is a destructor.
+pub const LONGER_PAD: Rows = Rows {
+    text: b"padpushlabelclosemakemovedgivenwritefullnoteread",
+    interfaces: &[interface!(0, 3, 3, 5, 3)],
+    messages: &[
+        message!(3, 4, 2, 0),
+        message!(7, 5, 1, 0),
+        message!(12, 5, 0, 0),
+        message!(17, 4, 1, 0),
+        message!(31, 5, 2, 0),
+        message!(21, 5, 1, 0),
+        message!(26, 5, 1, 0),
+        message!(36, 4, 0, 0),
+    ],
+    arguments: &[
+        argument!(kind::INT, 0, 0),
+        argument!(kind::DESCRIPTOR, 0, 0),
+        argument!(kind::STRING, 0, 0),
+        argument!(kind::NEW_ID, 4, 0),
+        argument!(kind::STRING, 0, 0),
+        argument!(kind::NEW_ID, 5, 0),
+        argument!(kind::INT, 0, 0),
+        argument!(kind::DESCRIPTOR, 0, 0),
+    ],
+};
+
+/// `note` of version 0 without messages.
+pub const BARE_NOTE: Rows = Rows {
+    text: b"note",
+    interfaces: &[interface!(0, 4, 0, 0, 0)],
+    messages: &[],
+    arguments: &[],
+};
+
+/// `note` with one event, `read()`.
+pub const READ_NOTE: Rows = Rows {
+    text: b"noteread",
+    interfaces: &[interface!(0, 4, 1, 0, 1)],
+    messages: &[message!(4, 4, 0, 0)],
+    arguments: &[],
+};
+
+/// `note` of version 2 with two events, `read()` and `lost(string)`.
+pub const LONGER_NOTE: Rows = Rows {
+    text: b"notereadlost",
+    interfaces: &[interface!(0, 4, 2, 0, 2)],
+    messages: &[message!(4, 4, 0, 0), message!(8, 4, 1, 0)],
+    arguments: &[argument!(kind::STRING, 0, 0)],
+};
+
+/// `note` of version 2 whose second event names an interface that is not there.
+pub const FAR_NOTE: Rows = Rows {
+    text: b"notereadfar",
+    interfaces: &[interface!(0, 4, 2, 0, 2)],
+    messages: &[message!(4, 4, 0, 0), message!(8, 3, 1, 0)],
+    arguments: &[argument!(kind::OBJECT, 99, 0)],
+};
+
+/// `wl_callback` of version 2.
+pub const NEW_CALLBACK: Rows = Rows {
+    text: b"wl_callbackdone",
+    interfaces: &[interface!(0, 11, 2, 0, 1)],
+    messages: &[message!(11, 4, 1, 0)],
+    arguments: &[argument!(kind::UINT, 0, 0)],
+};
+
+/// The same of version 1.
+pub const OLD_CALLBACK: Rows = Rows {
+    text: b"wl_callbackdone",
+    interfaces: &[interface!(0, 11, 1, 0, 1)],
+    messages: &[message!(11, 4, 1, 0)],
+    arguments: &[argument!(kind::UINT, 0, 0)],
+};
+
+/// No rows.
+pub const NO_ROWS: Rows = Rows {
+    text: b"",
+    interfaces: &[],
+    messages: &[],
+    arguments: &[],
+};

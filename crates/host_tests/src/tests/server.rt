@@ -2,7 +2,10 @@
 
 use crate::tests::acts::{Act, FIRST, GIVEN, MOVED, SECOND};
 use crate::tests::args::{arg, id};
-use crate::tests::rows::{BAD_NOTE, LONG_PAD, OTHER_PAD, PAD_TWICE, TABLE};
+use crate::tests::rows::{
+    BAD_NOTE, BARE_NOTE, FAR_NOTE, LAX_PAD, LONG_PAD, LONGER_PAD, NEW_CALLBACK, NO_ROWS,
+    OLD_CALLBACK, OTHER_PAD, PAD_TWICE, READ_NOTE, TABLE, TOLD_PAD,
+};
 use crate::tests::session::{Entry, Run, run_tells};
 use std::test::Fail;
 use wl_host::{FlatClientId, FlatGlobalId, FlatObjectId, Server};
@@ -652,7 +655,10 @@ static GLOBALS: [Run<Act>; 2] = [
     },
 ];
 
-/// A `pad` that is made after a `note`.
+/// A `note` that is made first.
+const FIRST_NOTE: FlatObjectId = id!(FIRST, 5 @ 0xff000000, serial 1);
+
+/// A `pad` that is made after it.
 const SECOND_PAD: FlatObjectId = id!(FIRST, 4 @ 0xff000001, serial 2);
 
 /// Rows that contradict the table, or have a name twice, change nothing. Longer rows extend it: the new interface has a number, and
@@ -687,10 +693,51 @@ static WHOLE_ROWS: Run<Act> = Run {
     ],
 };
 
+/// An interface that agrees with the row of its name is that row, which takes what it lacks; a new name is a new row. One that
+/// differs is refused, in what a request takes before what an event brings. So are rows of no interface or of two, a message that
+/// names what is not there, and more of an interface that is fixed. A `note` without messages gives the number that `pad` names it by,
+/// and an object of it has the event that came later.
+static ONE_INTERFACE: Run<Act> = Run {
+    name: "one interface joins the table",
+    first: &[],
+    entries: &[
+        (Act::Join(TABLE), "Ok number 4"),
+        (Act::Join(LAX_PAD), "BadTable fault 9 opcode 1 version 2"),
+        (
+            Act::Join(TOLD_PAD),
+            "BadTable fault 9 event 1 opcode 1 version 2",
+        ),
+        (Act::Join(LONG_PAD), "BadTable fault 1"),
+        (Act::Join(NO_ROWS), "BadTable fault 1"),
+        (Act::Join(LONGER_PAD), "BadTable fault 4"),
+        (Act::Join(BARE_NOTE), "Ok number 5"),
+        (Act::Join(LONGER_PAD), "Ok number 4"),
+        (Act::Join(READ_NOTE), "Ok number 5"),
+        (Act::Join(FAR_NOTE), "BadTable fault 4"),
+        (Act::Join(TABLE), "Ok number 4"),
+        (Act::Join(OLD_CALLBACK), "Ok number 3"),
+        (Act::Join(NEW_CALLBACK), "BadTable fault 4"),
+        (Act::Insert(7, 1, &[]), "Ok client 0:1"),
+        (Act::Create(FIRST, 6, 66), "UnknownInterface"),
+        (Act::Create(FIRST, 5, 55), "Ok 5@4278190080"),
+        (Act::Create(FIRST, 4, 33), "Ok 4@4278190081"),
+        (Act::Send(SECOND_PAD, 2, &[], b""), "Ok"),
+        (Act::Send(SECOND_PAD, 3, &[], b""), "UnknownOpcode"),
+        (Act::Send(FIRST_NOTE, 0, &[], b""), "Ok"),
+        (Act::Send(FIRST_NOTE, 1, &[], b""), "UnknownOpcode"),
+        (Act::Writable, "Ok client 0:1"),
+        (
+            Act::ToSend(FIRST),
+            "Ok [ 01 00 00 ff 02 00 08 00 00 00 00 ff 00 00 08 00 ] [ ]",
+        ),
+    ],
+};
+
 /// It tells what it has to.
 #[test]
 fn whole_rows(rt: HostRuntime) -> Result<(), Fail> {
-    run_tells::<Server>(&rt, &WHOLE_ROWS, None, false)
+    run_tells::<Server>(&rt, &WHOLE_ROWS, None, false)?;
+    run_tells::<Server>(&rt, &ONE_INTERFACE, None, false)
 }
 
 /// Each of them tells what it has to.

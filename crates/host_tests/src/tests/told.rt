@@ -198,6 +198,17 @@ pub fn told_extension(
     Ok(Status::BadTable)
 }
 
+/// The number of an interface that joined a table, or why it was refused.
+pub fn told_joined(log: &mut String, answer: Result<u32, ExtensionFault>) -> Result<Status, Fail> {
+    match answer {
+        Ok(number) => {
+            tell_numbers(log, &[("number", u64::from(number))])?;
+            Ok(Status::Ok)
+        }
+        Err(refused) => told_extension(log, Err(refused)),
+    }
+}
+
 /// The bytes of these words, as the wire has them on a machine whose numbers begin with their lowest byte.
 pub fn bytes_of(alloc: Global, words: &[u32]) -> Result<Vec<u8>, Fail> {
     let mut bytes = Vec::new(alloc);

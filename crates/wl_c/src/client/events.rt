@@ -2,9 +2,10 @@
 
 ghost use Rattle.std.specs.Prelude.{IsSome, List, None, Some, [], ℤ, ◌≡◌, ◌≢◌};
 ghost use Rattle.wl_c.specs.Calls.{Did, Gave, GaveFlag};
-ghost use Rattle.wl_host.specs.Arguments.{descriptors_given};
-ghost use Rattle.wl_host.specs.Client.{ConservesClient, EndsEvent, EndsEventWith, HandsNext, Receives, Sends, failed, given_with, mailbox_of, taken_in, with_mailbox};
-ghost use Rattle.wl_host.specs.declared.status.Status.TheVariants as status;
+ghost use Rattle.wl_flat.specs.Arguments.{descriptors_given};
+ghost use Rattle.wl_host_client.specs.Client.{ConservesClient, EndsEvent, EndsEventWith, Sends, failed, given_with, mailbox_of, taken_in, with_mailbox};
+ghost use Rattle.wl_host_client.specs.ClientTellings.{ReadsTold, ReceivesTold};
+ghost use Rattle.wl_flat.specs.declared.status.Status.TheVariants as status;
 ghost use Rattle.wl_link.specs.declared.mailbox.Ending.TheVariants as ending;
 ghost use Rattle.wl_wire.specs.declared.error.IoFault.TheVariants as fault;
 
@@ -23,7 +24,7 @@ pub extern "C" fn nb_client_received(
 ) -> u32
     ensures none { place.old.kept.held ≡ None → (result ≡ 1) × (place.new.kept.held ≡ None) }
     ensures stays { IsSome place.old.kept.held → IsSome place.new.kept.held }
-    ensures call { Did place.old.kept.held result place.new.kept.held (λ s status t. Receives s bytes.now descriptors.now status t) }
+    ensures call { Did place.old.kept.held result place.new.kept.held (λ s status t. ReceivesTold s bytes.now descriptors.now status t) }
     ensures descriptors { Did place.old.kept.held result place.new.kept.held (λ s status t. ConservesClient s (taken_in status descriptors.now) [] t) }
 {
     let Some(mut session) = place.take(alloc) else {
@@ -117,7 +118,7 @@ pub extern "C" fn nb_client_next_event(
 ) -> u32
     ensures none { place.old.kept.held ≡ None → (result ≡ 1) × (place.new.kept.held ≡ None) × (event.new ≡ event.old) × (arguments.new ≡ arguments.old) × (bytes.new ≡ bytes.old) }
     ensures stays { IsSome place.old.kept.held → IsSome place.new.kept.held }
-    ensures call { Did place.old.kept.held result place.new.kept.held (λ s status t. (came_out : List ℤ) × HandsNext s (record { out = event.old; arguments = arguments.old; bytes = bytes.old }) status came_out t (record { out = event.new; arguments = arguments.new; bytes = bytes.new }) × ConservesClient s [] came_out t) }
+    ensures call { Did place.old.kept.held result place.new.kept.held (λ s status t. (came_out : List ℤ) × ReadsTold s (record { out = event.old; arguments = arguments.old; bytes = bytes.old }) status came_out t (record { out = event.new; arguments = arguments.new; bytes = bytes.new }) × ConservesClient s [] came_out t) }
 {
     let Some(mut session) = place.take(alloc) else {
         return Status::NoSession.code();

@@ -2,8 +2,8 @@
 
 ghost use Rattle.std.specs.Prelude.{IsSome, None, Option, Some, ◌≡◌};
 ghost use Rattle.std.specs.contracts.option.Option as option;
-ghost use Rattle.wl_host.specs.contracts.client.Client as session;
-ghost use Rattle.wl_host.specs.declared.client.Client.{Client};
+ghost use Rattle.wl_host_client.specs.contracts.client.Client as session;
+ghost use Rattle.wl_host_client.specs.declared.client.Client.{Client};
 
 use crate::parts::Parts;
 use std::alloc::Global;
@@ -25,7 +25,7 @@ pub struct ClientKept {
 
 impl Model for ClientKept {
     ghost use Rattle.wl_c.specs.Held.{owns_held};
-    ghost use Rattle.wl_host.specs.contracts.client.Client.{the_row};
+    ghost use Rattle.wl_host_client.specs.contracts.client.Client.{the_row};
 
     ghost also_owns = { λ kept. owns_held the_row kept.at kept.held };
 }

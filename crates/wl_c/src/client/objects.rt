@@ -4,9 +4,10 @@ ghost use Rattle.std.specs.Prelude.{IsSome, None, Ok, [], ◌≡◌, ◌≢◌, 
 ghost use Rattle.wl_c.specs.Calls.{Did, Found};
 ghost use Rattle.wl_client.specs.ByNumber.{object_at};
 ghost use Rattle.wl_client.specs.Objects.{info_of, user_data_of};
-ghost use Rattle.wl_host.specs.Client.{ConservesClient, Destroys, GivesData, Reclaims, flat_info, found};
-ghost use Rattle.wl_host.specs.Flat.{flat_proxy, proxy_of};
-ghost use Rattle.wl_host.specs.declared.status.Status.TheVariants as status;
+ghost use Rattle.wl_host_client.specs.Client.{ConservesClient, Destroys, GivesData, Reclaims, flat_info};
+ghost use Rattle.wl_flat.specs.Status.{found};
+ghost use Rattle.wl_flat.specs.Flat.{flat_proxy, proxy_of};
+ghost use Rattle.wl_flat.specs.declared.status.Status.TheVariants as status;
 ghost use Rattle.wl_wire.specs.Table.{display_id};
 
 use super::place::ClientPlace;

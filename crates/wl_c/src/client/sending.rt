@@ -1,10 +1,10 @@
 //! What a client's session hands out to the host.
 
 ghost use Rattle.std.specs.Prelude.{IfErr, IsSome, None, [], not, ◌==◌, ◌≡◌, ◌≢◌};
-ghost use Rattle.wl_c.specs.Calls.{Did, Gave, Told};
-ghost use Rattle.wl_host.specs.Client.{ConservesClient, Drops, Flushes, HandsFreedId, HandsNote, HasNoneDropped, KeepsFreed, sent, sent_descriptors, to_send, told};
-ghost use Rattle.wl_host.specs.Sending.{copied};
-ghost use Rattle.wl_host.specs.declared.status.Status.TheVariants as status;
+ghost use Rattle.wl_c.specs.Calls.{Did, Gave};
+ghost use Rattle.wl_host_client.specs.Client.{ConservesClient, Drops, Flushes, HandsFreedId, HandsNote, HasNoneDropped, KeepsFreed, told};
+ghost use Rattle.wl_host_client.specs.ClientTellings.{CopiesTold, SendsTold, sent_told};
+ghost use Rattle.wl_flat.specs.declared.status.Status.TheVariants as status;
 
 use super::place::ClientPlace;
 use crate::answer::write_answer;
@@ -38,13 +38,11 @@ pub extern "C" fn nb_client_to_send(
     counts: &mut Counts,
 ) -> u32
     ensures none { place.old.kept.held ≡ None → (result ≡ 1) × (place.new.kept.held ≡ None) × (bytes.new ≡ bytes.old) × (descriptors.new ≡ descriptors.old) × (counts.new ≡ counts.old) }
-    ensures kept { place.new.kept.held ≡ place.old.kept.held }
-    ensures counts { Told place.old.kept.held result (λ s status. counts.new ≡ (copied (to_send s) s.departures bytes.old descriptors.old).counts) }
-    ensures bytes { Told place.old.kept.held result (λ s status. bytes.new ≡ (copied (to_send s) s.departures bytes.old descriptors.old).bytes) }
-    ensures descriptors { Told place.old.kept.held result (λ s status. descriptors.new ≡ (copied (to_send s) s.departures bytes.old descriptors.old).descriptors) }
-    ensures status { Told place.old.kept.held result (λ s status. status ≡ (copied (to_send s) s.departures bytes.old descriptors.old).status) }
+    ensures stays { IsSome place.old.kept.held → IsSome place.new.kept.held }
+    ensures copied { Did place.old.kept.held result place.new.kept.held (λ s status t. CopiesTold s bytes.old descriptors.old (record { status = status; bytes = bytes.new; descriptors = descriptors.new; counts = counts.new }) t) }
+    ensures conserved { Did place.old.kept.held result place.new.kept.held (λ s status t. ConservesClient s [] [] t) }
 {
-    let Some(session) = place.take(alloc) else {
+    let Some(mut session) = place.take(alloc) else {
         return Status::NoSession.code();
     };
     let status = session.to_send(bytes, descriptors, counts);
@@ -57,9 +55,8 @@ pub extern "C" fn nb_client_to_send(
 pub extern "C" fn nb_client_sent(alloc: Global, place: &mut ClientPlace, count: u32) -> u32
     ensures none { place.old.kept.held ≡ None → (result ≡ 1) × (place.new.kept.held ≡ None) }
     ensures stays { IsSome place.old.kept.held → IsSome place.new.kept.held }
-    ensures call { Did place.old.kept.held result place.new.kept.held (λ s status t. t ≡ sent s count) }
-    ensures descriptors { Did place.old.kept.held result place.new.kept.held (λ s status t. ConservesClient s [] (sent_descriptors s count) t) }
-    ensures answer { IsSome place.old.kept.held → result ≡ 0 }
+    ensures sent { Did place.old.kept.held result place.new.kept.held (λ s status t. SendsTold s count status t) }
+    ensures descriptors { Did place.old.kept.held result place.new.kept.held (λ s status t. ConservesClient s [] (sent_told s count status) t) }
 {
     let Some(mut session) = place.take(alloc) else {
         return Status::NoSession.code();

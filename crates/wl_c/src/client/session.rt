@@ -2,12 +2,13 @@
 
 ghost use Rattle.std.specs.Prelude.{IsSome, None, Ok, Some, [], ◌↔◌, ◌≡◌, ◌≢◌};
 ghost use Rattle.wl_c.specs.Calls.{Added, Did, Extended, FoundFlag, Told, fault_code};
-ghost use Rattle.wl_host.specs.Client.{ConservesClient, HostedClient, SetsLimit, limit_of, mailbox_of, passing_over, with_mailbox};
-ghost use Rattle.wl_host.specs.Faults.{flat_error, text_of_error};
-ghost use Rattle.wl_host.specs.Lent.{has_room, status_for, written};
-ghost use Rattle.wl_host.specs.Nulls.{sets};
-ghost use Rattle.wl_host.specs.Tables.{AddsToClient, ExtendsClient, IsFaultOf, IsNewClient};
-ghost use Rattle.wl_host.specs.declared.status.Status.TheVariants as status;
+ghost use Rattle.wl_host_client.specs.Client.{ConservesClient, HostedClient, SetsLimit, limit_of, mailbox_of, passing_over, with_mailbox};
+ghost use Rattle.wl_host_client.specs.Faults.{flat_error, text_of_error};
+ghost use Rattle.wl_flat.specs.Lent.{has_room, status_for, written};
+ghost use Rattle.wl_flat.specs.Nulls.{sets};
+ghost use Rattle.wl_host_client.specs.Tables.{AddsToClient, ExtendsClient, IsNewClient};
+ghost use Rattle.wl_flat.specs.Tables.{IsFaultOf};
+ghost use Rattle.wl_flat.specs.declared.status.Status.TheVariants as status;
 
 use super::place::ClientPlace;
 use crate::answer::{write_added, write_extended, write_fault, write_flag};

@@ -2,7 +2,7 @@
 
 ghost use Rattle.std.specs.Prelude.{None, Ok, ◌≡◌, ◌≢◌};
 ghost use Rattle.wl_c.specs.Calls.{Found};
-ghost use Rattle.wl_host.specs.Waiting.{waiting_on};
+ghost use Rattle.wl_flat.specs.Waiting.{waiting_on};
 
 use super::place::ClientPlace;
 use crate::answer::write_answer;

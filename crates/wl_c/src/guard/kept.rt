@@ -2,8 +2,8 @@
 
 ghost use Rattle.std.specs.Prelude.{IsSome, None, Option, Some, ◌≡◌};
 ghost use Rattle.std.specs.contracts.option.Option as option;
-ghost use Rattle.wl_host.specs.contracts.guards.Guard as guard;
-ghost use Rattle.wl_host.specs.declared.guards.Guard.{Guard};
+ghost use Rattle.wl_flat.specs.contracts.guards.Guard as guard;
+ghost use Rattle.wl_flat.specs.declared.guards.Guard.{Guard};
 
 use crate::parts::Parts;
 use std::alloc::Global;
@@ -25,7 +25,7 @@ pub struct GuardKept {
 
 impl Model for GuardKept {
     ghost use Rattle.wl_c.specs.Held.{owns_held};
-    ghost use Rattle.wl_host.specs.contracts.guards.Guard.{the_row};
+    ghost use Rattle.wl_flat.specs.contracts.guards.Guard.{the_row};
 
     ghost also_owns = { λ kept. owns_held the_row kept.at kept.held };
 }

@@ -2,8 +2,8 @@
 
 ghost use Rattle.std.specs.Prelude.{IsSome, None, Option, Some, ◌≡◌, ◌≢◌};
 ghost use Rattle.wl_c.specs.Calls.{Did, Gave, Told};
-ghost use Rattle.wl_host.specs.Guards.{Frees, Receives, Sends, copied_for};
-ghost use Rattle.wl_host.specs.declared.guards.Policy.{Policy};
+ghost use Rattle.wl_flat.specs.Guards.{Frees, Receives, Sends, copied_for};
+ghost use Rattle.wl_flat.specs.declared.guards.Policy.{Policy};
 
 use super::place::GuardPlace;
 use crate::answer::write_answer;

@@ -3,8 +3,8 @@
 ghost use Rattle.std.specs.Prelude.{IsSome, None, Ok, Some, ◌↔◌, ◌≡◌, ◌≢◌};
 ghost use Rattle.wl_c.specs.Calls.{Found};
 ghost use Rattle.wl_guard.specs.Guard.{new_guard};
-ghost use Rattle.wl_host.specs.Guards.{flat_end};
-ghost use Rattle.wl_host.specs.declared.guards.Guard.{Guard};
+ghost use Rattle.wl_flat.specs.Guards.{flat_end};
+ghost use Rattle.wl_flat.specs.declared.guards.Guard.{Guard};
 
 use super::place::{GuardPlace, in_box};
 use crate::answer::write_answer;

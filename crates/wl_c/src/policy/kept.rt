@@ -2,8 +2,8 @@
 
 ghost use Rattle.std.specs.Prelude.{IsSome, None, Option, Some, ◌≡◌};
 ghost use Rattle.std.specs.contracts.option.Option as option;
-ghost use Rattle.wl_host.specs.contracts.guards.Policy as policy;
-ghost use Rattle.wl_host.specs.declared.guards.Policy.{Policy};
+ghost use Rattle.wl_flat.specs.contracts.guards.Policy as policy;
+ghost use Rattle.wl_flat.specs.declared.guards.Policy.{Policy};
 
 use crate::parts::Parts;
 use std::alloc::Global;
@@ -25,7 +25,7 @@ pub struct PolicyKept {
 
 impl Model for PolicyKept {
     ghost use Rattle.wl_c.specs.Held.{owns_held};
-    ghost use Rattle.wl_host.specs.contracts.guards.Policy.{the_row};
+    ghost use Rattle.wl_flat.specs.contracts.guards.Policy.{the_row};
 
     ghost also_owns = { λ kept. owns_held the_row kept.at kept.held };
 }

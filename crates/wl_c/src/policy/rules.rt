@@ -2,7 +2,7 @@
 
 ghost use Rattle.std.specs.Prelude.{IsSome, None, ◌≡◌};
 ghost use Rattle.wl_c.specs.Queues.{Answered};
-ghost use Rattle.wl_host.specs.Guards.{Allows, Ignores, Refuses};
+ghost use Rattle.wl_flat.specs.Guards.{Allows, Ignores, Refuses};
 
 use super::place::PolicyPlace;
 use crate::answer::number_of;

@@ -2,8 +2,8 @@
 
 ghost use Rattle.std.specs.Prelude.{IsSome, None, Some, ◌↔◌, ◌≡◌};
 ghost use Rattle.wl_c.specs.Calls.{fault_code};
-ghost use Rattle.wl_host.specs.Guards.{IsNewPolicy, IsPolicyFault};
-ghost use Rattle.wl_host.specs.declared.guards.Policy.{Policy};
+ghost use Rattle.wl_flat.specs.Guards.{IsNewPolicy, IsPolicyFault};
+ghost use Rattle.wl_flat.specs.declared.guards.Policy.{Policy};
 
 use super::place::PolicyPlace;
 use crate::answer::write_fault;

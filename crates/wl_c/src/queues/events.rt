@@ -3,8 +3,8 @@
 ghost use Rattle.std.specs.Prelude.{IsSome, None, ◌≡◌, ◌≢◌, option_map};
 ghost use Rattle.wl_c.specs.Calls.{Found, Gave};
 ghost use Rattle.wl_c.specs.Queues.{Answered};
-ghost use Rattle.wl_host.specs.Client.{found};
-ghost use Rattle.wl_host.specs.EventQueues.{Finishes, Puts, Takes, flat_handed, now_in};
+ghost use Rattle.wl_flat.specs.Status.{found};
+ghost use Rattle.wl_flat.specs.EventQueues.{Finishes, Puts, Takes, flat_handed, now_in};
 ghost use Rattle.wl_queues.specs.Queues.{argument_of, event_of};
 
 use super::place::QueuesPlace;

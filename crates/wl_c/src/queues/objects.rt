@@ -3,7 +3,7 @@
 ghost use Rattle.std.specs.Prelude.{IsSome, None, Ok, ◌≡◌, ◌≢◌};
 ghost use Rattle.wl_c.specs.Calls.{Found, Gave};
 ghost use Rattle.wl_c.specs.Queues.{Answered};
-ghost use Rattle.wl_host.specs.EventQueues.{Adds, Destroys, SetsQueue, TellsUnused, flat_object, now_in};
+ghost use Rattle.wl_flat.specs.EventQueues.{Adds, Destroys, SetsQueue, TellsUnused, flat_object, now_in};
 
 use super::place::QueuesPlace;
 use crate::answer::{number_of, write_answer};

@@ -3,8 +3,8 @@
 ghost use Rattle.std.specs.Prelude.{IsSome, None, Ok, Some, ◌≡◌, ◌≢◌, ◌↔◌};
 ghost use Rattle.wl_c.specs.Calls.{Did, FoundFlag, Gave};
 ghost use Rattle.wl_c.specs.Queues.{Answered};
-ghost use Rattle.wl_host.specs.EventQueues.{DropsQueue, MakesQueue, now_in};
-ghost use Rattle.wl_host.specs.declared.event_queues.EventQueues.{EventQueues};
+ghost use Rattle.wl_flat.specs.EventQueues.{DropsQueue, MakesQueue, now_in};
+ghost use Rattle.wl_flat.specs.declared.event_queues.EventQueues.{EventQueues};
 ghost use Rattle.wl_queues.specs.Queues.{Fail, IsAlike};
 ghost use Rattle.wl_queues.specs.Queues as waits;
 ghost use Rattle.wl_queues.specs.Runs.{new_queues};

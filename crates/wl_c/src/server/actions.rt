@@ -3,14 +3,14 @@
 ghost use Rattle.std.specs.Prelude.{Bool, IsSome, List, None, Result, Some, [], ℤ, ◌≡◌, ◌≢◌};
 ghost use Rattle.wl_c.specs.Calls.{Did, GaveFlag};
 ghost use Rattle.wl_host.specs.Actions.{EndsBind, EndsRequest, status_of_end};
-ghost use Rattle.wl_host.specs.Arguments.{descriptors_given};
-ghost use Rattle.wl_host.specs.Descriptors.{Conserves};
+ghost use Rattle.wl_flat.specs.Arguments.{descriptors_given};
+ghost use Rattle.wl_flat.specs.Descriptors.{Conserves};
 ghost use Rattle.wl_host.specs.Events.{PostsError, SendsEvent};
-ghost use Rattle.wl_host.specs.Flat.{client_of};
+ghost use Rattle.wl_flat.specs.Flat.{client_of};
 ghost use Rattle.wl_host.specs.Server.{kept_by_server, went_in};
 ghost use Rattle.wl_host.specs.Tellings.{ReadsTold};
-ghost use Rattle.wl_host.specs.declared.status.Status.TheVariants as status;
-ghost use Rattle.wl_host.specs.declared.status.Status.{Status};
+ghost use Rattle.wl_flat.specs.declared.status.Status.TheVariants as status;
+ghost use Rattle.wl_flat.specs.declared.status.Status.{Status};
 
 use super::place::ServerPlace;
 use crate::answer::write_flag;

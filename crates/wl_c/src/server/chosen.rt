@@ -4,12 +4,12 @@ ghost use Rattle.std.specs.Prelude.{Err, IsSome, MatchOption, None, [], map, opt
 ghost use Rattle.wl_c.specs.Calls.{Did, Found, Gave, Told};
 ghost use Rattle.wl_host.specs.Calls.{or_invalid};
 ghost use Rattle.wl_host.specs.Chosen.{CreatesObjectAt, SetsObjectVersion};
-ghost use Rattle.wl_host.specs.Descriptors.{Conserves};
-ghost use Rattle.wl_host.specs.Flat.{client_of};
+ghost use Rattle.wl_flat.specs.Descriptors.{Conserves};
+ghost use Rattle.wl_flat.specs.Flat.{client_of};
 ghost use Rattle.wl_host.specs.Held.{flat_held};
 ghost use Rattle.wl_host.specs.Lists.{Lists};
 ghost use Rattle.wl_host.specs.Server.{kept_by_server};
-ghost use Rattle.wl_host.specs.declared.status.Status.TheVariants as status;
+ghost use Rattle.wl_flat.specs.declared.status.Status.TheVariants as status;
 ghost use Rattle.wl_server_model.specs.Lookups.{held_by_number, held_of_client};
 
 use super::place::ServerPlace;

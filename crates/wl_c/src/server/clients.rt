@@ -4,11 +4,11 @@ ghost use Rattle.std.specs.Prelude.{IsSome, None, [], map, option_map, ◌≡◌
 ghost use Rattle.wl_c.specs.Calls.{Did, Found, Gave, Told};
 ghost use Rattle.wl_host.specs.Calls.{InsertsClient, TellsNextClient, or_invalid, world};
 ghost use Rattle.wl_host.specs.Clients.{inserted, marked};
-ghost use Rattle.wl_host.specs.Descriptors.{Conserves};
-ghost use Rattle.wl_host.specs.Flat.{client_of, flat_client};
+ghost use Rattle.wl_flat.specs.Descriptors.{Conserves};
+ghost use Rattle.wl_flat.specs.Flat.{client_of, flat_client};
 ghost use Rattle.wl_host.specs.Lists.{Lists};
 ghost use Rattle.wl_host.specs.Server.{Ends, FailsSends, Received, kept_by_server, went_in};
-ghost use Rattle.wl_host.specs.declared.status.Status.TheVariants as status;
+ghost use Rattle.wl_flat.specs.declared.status.Status.TheVariants as status;
 ghost use Rattle.wl_link.specs.declared.mailbox.Ending.TheVariants as ending;
 ghost use Rattle.wl_server_model.specs.Backend.{Calls};
 ghost use Rattle.wl_server_model.specs.Lookups.{client_data_of, live_clients};

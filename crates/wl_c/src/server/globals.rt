@@ -3,12 +3,12 @@
 ghost use Rattle.std.specs.Prelude.{IsSome, None, OnErr, OnOk, [], not, option_map, ◌==◌, ◌≡◌, ◌≢◌};
 ghost use Rattle.wl_c.specs.Calls.{Did, Found, Gave};
 ghost use Rattle.wl_host.specs.Calls.{CreatesGlobal, TellsNextGlobal, flat_global_info, or_invalid, world};
-ghost use Rattle.wl_host.specs.Descriptors.{Conserves};
-ghost use Rattle.wl_host.specs.Flat.{client_of, global_of};
+ghost use Rattle.wl_flat.specs.Descriptors.{Conserves};
+ghost use Rattle.wl_flat.specs.Flat.{client_of, global_of};
 ghost use Rattle.wl_host.specs.Globals.{told_all};
 ghost use Rattle.wl_host.specs.Server.{kept_by_server};
 ghost use Rattle.wl_host.specs.Visibility.{sees};
-ghost use Rattle.wl_host.specs.declared.status.Status.TheVariants as status;
+ghost use Rattle.wl_flat.specs.declared.status.Status.TheVariants as status;
 ghost use Rattle.wl_server_model.specs.Backend.{Calls};
 ghost use Rattle.wl_server_model.specs.Lookups.{global_info_by, handler_of, name_for};
 ghost use Rattle.wl_server_model.specs.declared.step.Reply.TheVariants as reply;

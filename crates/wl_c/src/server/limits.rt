@@ -3,7 +3,7 @@
 ghost use Rattle.std.specs.Prelude.{IsSome, None, [], ◌≡◌};
 ghost use Rattle.wl_c.specs.Calls.{Did};
 ghost use Rattle.wl_host.specs.Calls.{world};
-ghost use Rattle.wl_host.specs.Descriptors.{Conserves};
+ghost use Rattle.wl_flat.specs.Descriptors.{Conserves};
 ghost use Rattle.wl_host.specs.Limits.{object_limit_of};
 ghost use Rattle.wl_host.specs.Server.{kept_by_server};
 ghost use Rattle.wl_server_model.specs.Backend.{Calls};

@@ -4,11 +4,11 @@ ghost use Rattle.std.specs.Prelude.{Err, IsSome, MatchOption, None, [], map, opt
 ghost use Rattle.wl_c.specs.Calls.{Did, Found, Gave, Told};
 ghost use Rattle.wl_host.specs.Calls.{CreatesObject, DestroysObject, SetsObjectData, flat_object_info, interface_of, or_invalid};
 ghost use Rattle.wl_host.specs.Clients.{told_at};
-ghost use Rattle.wl_host.specs.Descriptors.{Conserves};
-ghost use Rattle.wl_host.specs.Flat.{client_of, flat_resource, resource_of};
+ghost use Rattle.wl_flat.specs.Descriptors.{Conserves};
+ghost use Rattle.wl_flat.specs.Flat.{client_of, flat_resource, resource_of};
 ghost use Rattle.wl_host.specs.Lists.{Lists};
 ghost use Rattle.wl_host.specs.Server.{kept_by_server};
-ghost use Rattle.wl_host.specs.declared.status.Status.TheVariants as status;
+ghost use Rattle.wl_flat.specs.declared.status.Status.TheVariants as status;
 ghost use Rattle.wl_server_model.specs.Lookups.{object_data_of, object_for_number, object_info_of, objects_of_client};
 
 use super::place::ServerPlace;

@@ -3,8 +3,8 @@
 ghost use Rattle.std.specs.Prelude.{IsSome, None, [], not, ◌==◌, ◌≡◌};
 ghost use Rattle.wl_c.specs.Calls.{Did};
 ghost use Rattle.wl_host.specs.Calls.{world};
-ghost use Rattle.wl_host.specs.Descriptors.{Conserves};
-ghost use Rattle.wl_host.specs.Flat.{global_of, resource_of};
+ghost use Rattle.wl_flat.specs.Descriptors.{Conserves};
+ghost use Rattle.wl_flat.specs.Flat.{global_of, resource_of};
 ghost use Rattle.wl_host.specs.Registries.{Announces, Withdraws};
 ghost use Rattle.wl_host.specs.Server.{kept_by_server};
 ghost use Rattle.wl_server_model.specs.Backend.{Calls};

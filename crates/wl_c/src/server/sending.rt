@@ -3,14 +3,14 @@
 ghost use Rattle.std.specs.Prelude.{IsSome, None, [], ◌≡◌, ◌≢◌};
 ghost use Rattle.wl_c.specs.Calls.{Did, Gave, Told};
 ghost use Rattle.wl_host.specs.Cleaning.{CleansUp};
-ghost use Rattle.wl_host.specs.Descriptors.{Conserves};
-ghost use Rattle.wl_host.specs.Flat.{client_of};
+ghost use Rattle.wl_flat.specs.Descriptors.{Conserves};
+ghost use Rattle.wl_flat.specs.Flat.{client_of};
 ghost use Rattle.wl_host.specs.Flushing.{FlushesClient, OkHasBytes};
 ghost use Rattle.wl_host.specs.Notes.{NextNote};
-ghost use Rattle.wl_host.specs.Nulls.{sets};
+ghost use Rattle.wl_flat.specs.Nulls.{sets};
 ghost use Rattle.wl_host.specs.Server.{FoundHasBytes, NextDropped, NextWritable, NoneAskedHasBytes, gone_with_first, handed, kept_by_server, next_gone};
 ghost use Rattle.wl_host.specs.Tellings.{CopiesTold, SendsTold, sent_told};
-ghost use Rattle.wl_host.specs.declared.status.Status.TheVariants as status;
+ghost use Rattle.wl_flat.specs.declared.status.Status.TheVariants as status;
 
 use super::place::ServerPlace;
 use crate::answer::write_answer;

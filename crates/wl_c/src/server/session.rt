@@ -4,12 +4,13 @@ ghost use Rattle.std.specs.Prelude.{IsSome, None, Ok, Some, [], ◌↔◌, ◌�
 ghost use Rattle.wl_c.specs.Calls.{Added, Did, Extended, FoundFlag, fault_code};
 ghost use Rattle.wl_host.specs.Calls.{world};
 ghost use Rattle.wl_host.specs.Clients.{SetsRoom};
-ghost use Rattle.wl_host.specs.Descriptors.{Conserves};
-ghost use Rattle.wl_host.specs.Flat.{client_of};
-ghost use Rattle.wl_host.specs.Nulls.{sets};
+ghost use Rattle.wl_flat.specs.Descriptors.{Conserves};
+ghost use Rattle.wl_flat.specs.Flat.{client_of};
+ghost use Rattle.wl_flat.specs.Nulls.{sets};
 ghost use Rattle.wl_host.specs.Server.{ServerState, kept_by_server};
-ghost use Rattle.wl_host.specs.Tables.{AddsInterfaces, ExtendsInterfaces, IsFaultOf, IsNewServer};
-ghost use Rattle.wl_host.specs.declared.status.Status.TheVariants as status;
+ghost use Rattle.wl_host.specs.Tables.{AddsInterfaces, ExtendsInterfaces, IsNewServer};
+ghost use Rattle.wl_flat.specs.Tables.{IsFaultOf};
+ghost use Rattle.wl_flat.specs.declared.status.Status.TheVariants as status;
 ghost use Rattle.wl_server_model.specs.Backend.{Calls};
 ghost use Rattle.wl_server_model.specs.declared.step.Reply.TheVariants as reply;
 ghost use Rattle.wl_server_model.specs.declared.step.Step.TheVariants as step;

@@ -2,8 +2,8 @@
 
 ghost use Rattle.std.specs.Prelude.{IsSome, None, [], ◌≡◌};
 ghost use Rattle.wl_c.specs.Calls.{Did};
-ghost use Rattle.wl_host.specs.Descriptors.{Conserves};
-ghost use Rattle.wl_host.specs.Flat.{client_of};
+ghost use Rattle.wl_flat.specs.Descriptors.{Conserves};
+ghost use Rattle.wl_flat.specs.Flat.{client_of};
 ghost use Rattle.wl_host.specs.Server.{kept_by_server};
 ghost use Rattle.wl_host.specs.Tellings.{NextTold};
 

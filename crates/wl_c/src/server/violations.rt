@@ -3,7 +3,7 @@
 ghost use Rattle.std.specs.Prelude.{None, option_map, ◌≡◌, ◌≢◌};
 ghost use Rattle.wl_c.specs.Calls.{Found};
 ghost use Rattle.wl_host.specs.Calls.{or_invalid};
-ghost use Rattle.wl_host.specs.Flat.{client_of};
+ghost use Rattle.wl_flat.specs.Flat.{client_of};
 ghost use Rattle.wl_host.specs.Violations.{flat_violation};
 ghost use Rattle.wl_server_model.specs.Lookups.{violation_of};
 

@@ -3,8 +3,8 @@
 ghost use Rattle.std.specs.Prelude.{None, ◌≡◌, ◌≢◌, option_map};
 ghost use Rattle.wl_c.specs.Calls.{Found};
 ghost use Rattle.wl_host.specs.Calls.{or_invalid};
-ghost use Rattle.wl_host.specs.Flat.{client_of};
-ghost use Rattle.wl_host.specs.Waiting.{waiting_on};
+ghost use Rattle.wl_flat.specs.Flat.{client_of};
+ghost use Rattle.wl_flat.specs.Waiting.{waiting_on};
 ghost use Rattle.wl_server_model.specs.Lookups.{client_of as stored_client};
 
 use super::place::ServerPlace;

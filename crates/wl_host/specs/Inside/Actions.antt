@@ -5,9 +5,9 @@ use Rattle.wl_server_client.specs.declared.error.ActionError.{ActionError}
 use Rattle.wl_server_client.specs.declared.reading.action.Action.{Action}
 use Rattle.wl_host.specs.Actions.{HandsFrom, Lent, ReadsAllowed, kills, with_kept}
 use Rattle.wl_host.specs.Calls.{CoreState}
-use Rattle.wl_host.specs.Status.{of_action}
+use Rattle.wl_flat.specs.Status.{of_action}
 use Rattle.wl_host.specs.declared.server.ledger.Ledger.{Ledger}
-use Rattle.wl_host.specs.declared.status.Status.{Status}
+use Rattle.wl_flat.specs.declared.status.Status.{Status}
 
 -- the status of an answer, or of why nothing was read
 abbrev pub status_of_next : Result Status ActionError → Status

@@ -12,7 +12,7 @@ use Rattle.std.specs.contracts.option.Option as option
 use Rattle.std.specs.contracts.vec.Vec as vec
 use denote.RattleType.{RattleType}
 use Rattle.wl_server_client.specs.Ids.{ClientParts}
-use Rattle.wl_host.specs.Descriptors.{Descriptors}
+use Rattle.wl_flat.specs.Descriptors.{Descriptors}
 use Rattle.wl_host.specs.declared.server.ledger.Departed.{Departed}
 use Rattle.wl_host.specs.declared.server.ledger.Ledger.{Ledger}
 use Rattle.wl_host.specs.declared.server.seats.Seats.TheInside.{Inside}

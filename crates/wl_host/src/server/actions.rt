@@ -2,33 +2,33 @@
 
 ghost use Rattle.std.specs.Prelude.{◌≡◌, ◌≤◌, [], ℤ, List, Bool, Result, MatchOption, None, Ok, Err, Some, IfOk, length, min};
 ghost use Rattle.std.specs.Result.{result_and};
-ghost use Rattle.wl_host.specs.declared.status.Status.{Status};
-ghost use Rattle.wl_host.specs.declared.status.Status.TheVariants as status;
+ghost use Rattle.wl_flat.specs.declared.status.Status.{Status};
+ghost use Rattle.wl_flat.specs.declared.status.Status.TheVariants as status;
 ghost use Rattle.wl_host.specs.Actions.{EndsBind, EndsRequest, HandsFrom, NextAction, ReadsAllowed, ReadsNext, args_of, ended, flat_action, flat_created, is_end, kills, marked_if, null_in, status_of_end, version_created};
-ghost use Rattle.wl_host.specs.Arguments.{all_bytes, flat_arguments, queue_after_all};
+ghost use Rattle.wl_flat.specs.Arguments.{all_bytes, flat_arguments, queue_after_all};
 ghost use Rattle.wl_host.specs.Calls.{bit_of, data_or_zero, global_data_or_zero, kept_by, version_or_zero};
-ghost use Rattle.wl_host.specs.Flat.{client_of, count_number, flat_resource, no_action, over_front};
-ghost use Rattle.wl_host.specs.Descriptors.{Conserves};
-ghost use Rattle.wl_host.specs.Kinds as kinds;
+ghost use Rattle.wl_flat.specs.Flat.{client_of, count_number, flat_resource, no_action, over_front};
+ghost use Rattle.wl_flat.specs.Descriptors.{Conserves};
+ghost use Rattle.wl_flat.specs.Kinds as kinds;
 ghost use Rattle.wl_host.specs.Inside.Actions.{NextOf, is_killed_in, status_of_next};
 ghost use Rattle.wl_host.specs.Seats.{ledger_of};
 ghost use Rattle.wl_host.specs.Server.{kept_by_server};
 ghost use Rattle.wl_host.specs.Tellings.{ReadsTold};
 ghost use Rattle.wl_server_client.specs.Deeds.{handed};
 
-use crate::arguments::{Needs, Objects, write_arguments};
-use crate::descriptors::DescriptorQueue;
-use crate::flat::{
-    BIND, FlatAction, FlatArgument, FlatClientId, FlatGlobalId, FlatObjectId, REGISTRY, REQUEST,
-    count_number,
-};
-use crate::nulls::{forbidden_null, is_refused};
 use crate::server::ledger::Ledger;
 use crate::server::refusals::refuse;
 use crate::server::{Core, Server, no_action};
-use crate::status::Status;
 use std::alloc::Global;
 use std::mem;
+use wl_flat::arguments::{Needs, Objects, write_arguments};
+use wl_flat::descriptors::DescriptorQueue;
+use wl_flat::flat::{
+    BIND, FlatAction, FlatArgument, FlatClientId, FlatGlobalId, FlatObjectId, REGISTRY, REQUEST,
+    count_number,
+};
+use wl_flat::nulls::{forbidden_null, is_refused};
+use wl_flat::status::Status;
 use wl_server::{Action, ActionError, ClientId, FinishRefused, GlobalId, ObjectId};
 use wl_wire::{IoFault, OutOfMemory};
 

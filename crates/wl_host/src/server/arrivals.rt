@@ -1,15 +1,15 @@
 //! What arrives of clients.
 
 ghost use Rattle.std.specs.Prelude.{[]};
-ghost use Rattle.wl_host.specs.Descriptors.{Conserves};
-ghost use Rattle.wl_host.specs.Flat.{client_of};
+ghost use Rattle.wl_flat.specs.Descriptors.{Conserves};
+ghost use Rattle.wl_flat.specs.Flat.{client_of};
 ghost use Rattle.wl_host.specs.Server.{Ends, FailsSends, Received, kept_by_server, went_in};
 ghost use Rattle.wl_link.specs.declared.mailbox.Ending.TheVariants as ending;
 ghost use Rattle.wl_wire.specs.declared.error.IoFault.TheVariants as fault;
 
-use crate::flat::FlatClientId;
 use crate::server::Server;
-use crate::status::Status;
+use wl_flat::flat::FlatClientId;
+use wl_flat::status::Status;
 use wl_link::Ending;
 use wl_server::DisconnectReason;
 use wl_wire::IoFault;

@@ -2,16 +2,16 @@
 
 ghost use Rattle.std.specs.Prelude.{[], ◌≡◌, ◌≢◌, Err};
 ghost use Rattle.wl_host.specs.Chosen.{CreatesObjectAt, SetsObjectVersion};
-ghost use Rattle.wl_host.specs.Descriptors.{Conserves};
+ghost use Rattle.wl_flat.specs.Descriptors.{Conserves};
 ghost use Rattle.wl_host.specs.Server.{kept_by_server};
-ghost use Rattle.wl_host.specs.Calls.{flattened, status_by};
-ghost use Rattle.wl_host.specs.Flat.{flat_resource};
-ghost use Rattle.wl_host.specs.Status.{of_create_at, of_version};
-ghost use Rattle.wl_host.specs.declared.status.Status.TheVariants as status;
+ghost use Rattle.wl_flat.specs.Status.{flattened, of_create_at, of_version};
+ghost use Rattle.wl_host.specs.Calls.{status_by};
+ghost use Rattle.wl_flat.specs.Flat.{flat_resource};
+ghost use Rattle.wl_flat.specs.declared.status.Status.TheVariants as status;
 
-use crate::flat::{FlatClientId, FlatObjectId};
 use crate::server::Server;
-use crate::status::Status;
+use wl_flat::flat::{FlatClientId, FlatObjectId};
+use wl_flat::status::Status;
 use wl_server::{CreateAtError, ObjectId, VersionError};
 use wl_wire::InterfaceId;
 

@@ -1,25 +1,25 @@
 //! The clients of a server's session.
 
 ghost use Rattle.std.specs.Prelude.{[], ◌≡◌, IfOk, length, map, min, option_map};
-ghost use Rattle.wl_host.specs.Descriptors.{Conserves};
+ghost use Rattle.wl_flat.specs.Descriptors.{Conserves};
 ghost use Rattle.wl_host.specs.Server.{kept_by_server};
 ghost use Rattle.wl_host.specs.Calls.{InsertsClient, TellsNextClient, or_invalid, world};
 ghost use Rattle.wl_host.specs.Clients.{SetsRoom, inserted, marked};
 ghost use Rattle.wl_host.specs.Lists.{Lists, filled};
-ghost use Rattle.wl_host.specs.Told.{first_telling};
-ghost use Rattle.wl_host.specs.Flat.{client_of, flat_client};
+ghost use Rattle.wl_flat.specs.Told.{first_telling};
+ghost use Rattle.wl_flat.specs.Flat.{client_of, flat_client};
 ghost use Rattle.wl_server_model.specs.Backend.{Calls};
 ghost use Rattle.wl_server_model.specs.Lookups.{client_data_of, live_clients};
 ghost use Rattle.wl_server_model.specs.declared.step.Reply.TheVariants as reply;
 ghost use Rattle.wl_server_model.specs.declared.step.Step.TheVariants as step;
 ghost use Rattle.wl_server_client.specs.declared.notes.DisconnectReason.TheVariants as reason;
-ghost use Rattle.wl_host.specs.declared.status.Status.TheVariants as status;
+ghost use Rattle.wl_flat.specs.declared.status.Status.TheVariants as status;
 
-use crate::flat::{FlatClientId, FlatGlobalId, count_number};
 use crate::server::listing::{put_next, room_for};
 use crate::server::{HostClient, Server, hidden};
-use crate::status::Status;
-use crate::telling::Telling;
+use wl_flat::flat::{FlatClientId, FlatGlobalId, count_number};
+use wl_flat::status::Status;
+use wl_flat::telling::Telling;
 use wl_link::Mailbox;
 use wl_server::{ClientId, DisconnectReason};
 use wl_wire::OutOfMemory;

@@ -2,18 +2,18 @@
 
 ghost use Rattle.std.specs.Prelude.{◌≡◌, [], if◌then◌else◌, map, not};
 ghost use Rattle.wl_host.specs.Cleaning.{CleansUp};
-ghost use Rattle.wl_host.specs.Descriptors.{Conserves};
-ghost use Rattle.wl_host.specs.Flat.{over_front};
+ghost use Rattle.wl_flat.specs.Descriptors.{Conserves};
+ghost use Rattle.wl_flat.specs.Flat.{over_front};
 ghost use Rattle.wl_host.specs.Seats.{gone_all};
-ghost use Rattle.wl_host.specs.Sending.{descriptors_of, shown};
+ghost use Rattle.wl_flat.specs.Sending.{descriptors_of, shown};
 ghost use Rattle.wl_host.specs.Server.{NextDropped, TakesOut, flat_gone, gone_with_first, handed, is_too_small, kept_by_server, next_gone};
 
-use crate::flat::{Counts, FlatClientId, Gone};
-use crate::outgoing::{copy_bytes, copy_descriptors};
 use crate::server::Server;
 use crate::server::ledger::Departed;
 use crate::server::seats::Seats;
-use crate::status::Status;
+use wl_flat::flat::{Counts, FlatClientId, Gone};
+use wl_flat::outgoing::{copy_bytes, copy_descriptors};
+use wl_flat::status::Status;
 use wl_link::Mailbox;
 use wl_server::ClientId;
 

@@ -1,17 +1,17 @@
 //! Events, and protocol errors that the program posts.
 
 ghost use Rattle.std.specs.Prelude.{◌≡◌, ◌⊎◌, [], IfErr, IfOk, OnErr, OnOk, length};
-ghost use Rattle.wl_host.specs.Descriptors.{Conserves, put_in};
-ghost use Rattle.wl_host.specs.Arguments.{descriptors_given};
+ghost use Rattle.wl_flat.specs.Descriptors.{Conserves, put_in};
+ghost use Rattle.wl_flat.specs.Arguments.{descriptors_given};
 ghost use Rattle.wl_host.specs.Events.{IsEvent, IsUnreadable, PostsError, SendsEvent, SendsFrom};
 ghost use Rattle.wl_host.specs.Server.{kept_by_server, went_in};
-ghost use Rattle.wl_host.specs.declared.status.Status.TheVariants as status;
+ghost use Rattle.wl_flat.specs.declared.status.Status.TheVariants as status;
 
-use crate::arguments::{read_arguments, text_of};
-use crate::descriptors::DescriptorQueue;
-use crate::flat::{FlatArgument, FlatObjectId};
 use crate::server::{Core, Server};
-use crate::status::Status;
+use wl_flat::arguments::{read_arguments, text_of};
+use wl_flat::descriptors::DescriptorQueue;
+use wl_flat::flat::{FlatArgument, FlatObjectId};
+use wl_flat::status::Status;
 use wl_server::ObjectId;
 use wl_wire::{Message, Token};
 

@@ -2,16 +2,16 @@
 
 ghost use Rattle.std.specs.Prelude.{◌≡◌, MatchOption, length, map, min, option_copied, option_map};
 ghost use Rattle.wl_host.specs.Calls.{or_invalid};
-ghost use Rattle.wl_host.specs.Flat.{client_of};
+ghost use Rattle.wl_flat.specs.Flat.{client_of};
 ghost use Rattle.wl_host.specs.Held.{flat_held};
 ghost use Rattle.wl_host.specs.Lists.{Lists, filled};
-ghost use Rattle.wl_host.specs.declared.status.Status.TheVariants as status;
+ghost use Rattle.wl_flat.specs.declared.status.Status.TheVariants as status;
 ghost use Rattle.wl_server_model.specs.Lookups.{held_by_number, held_of_client};
 
-use crate::flat::{FlatClientId, FlatHeldObject, FlatObjectId, count_number};
 use crate::server::Server;
 use crate::server::listing::{put_next, room_for};
-use crate::status::Status;
+use wl_flat::flat::{FlatClientId, FlatHeldObject, FlatObjectId, count_number};
+use wl_flat::status::Status;
 use wl_server::{AllHeldFor, ObjectId};
 
 /// The object with the program's data of it, or 0 if it has none.

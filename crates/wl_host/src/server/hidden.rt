@@ -7,9 +7,9 @@ ghost use Rattle.std.specs.Ordering.{eq_by_cmp};
 ghost use Rattle.wl_server_client.specs.Ids.{ClientParts, GlobalParts};
 ghost use Rattle.wl_host.specs.Visibility.{lists_client, lists_global};
 
-use crate::flat::{FlatClientId, FlatGlobalId};
 use std::alloc::Global;
 use std::collections::BTreeSet;
+use wl_flat::flat::{FlatClientId, FlatGlobalId};
 use wl_wire::OutOfMemory;
 
 /// Puts the key into the set.

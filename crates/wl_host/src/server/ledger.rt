@@ -1,20 +1,20 @@
 //! What a session keeps of a client beside the core.
 
 ghost use Rattle.std.specs.Prelude.{◌≡◌, ◌==◌, MatchOption, length};
-ghost use Rattle.wl_host.specs.Descriptors.{given_up};
-ghost use Rattle.wl_host.specs.Hearing.{Hears, LedgerCatchesUp, LedgerTells, TakesIn, ledger_after};
+ghost use Rattle.wl_flat.specs.Descriptors.{given_up};
+ghost use Rattle.wl_host.specs.Hearing.{LedgerCatchesUp, LedgerTells, TakesIn, ledger_after};
 ghost use Rattle.wl_host.specs.Seats.{HasNonePassed, LedgerPassesOut, departed, left_of, new_ledger};
-ghost use Rattle.wl_host.specs.Sending.{mailbox_after};
+ghost use Rattle.wl_flat.specs.Sending.{mailbox_after};
 
-use crate::descriptors::DescriptorQueue;
-use crate::flat::{FlatArgument, FlatTold};
-use crate::incoming::take_in;
-use crate::outgoing::{take_all_out, take_off};
-use crate::status::Status;
-use crate::telling::Telling;
 use std::alloc::Global;
+use wl_flat::descriptors::DescriptorQueue;
+use wl_flat::flat::{FlatArgument, FlatTold};
+use wl_flat::incoming::take_in;
+use wl_flat::outgoing::{take_all_out, take_off};
+use wl_flat::status::Status;
+use wl_flat::telling::Telling;
 use wl_follow::Side;
-use wl_link::{MAX_FDS_OUT, Mailbox};
+use wl_link::Mailbox;
 use wl_server::{Action, ClientId};
 use wl_wire::{OutOfMemory, Protocol};
 
@@ -51,30 +51,6 @@ pub struct Departed {
     pub mailbox: Mailbox,
 }
 
-/// Puts what arrived into the mailbox of a client whose messages are told. What is refused is not told.
-fn hear(
-    telling: &mut Telling,
-    mailbox: &mut Mailbox,
-    queue: &mut DescriptorQueue,
-    bytes: &[u8],
-    descriptors: &[i32],
-) -> Status
-    ensures { Hears mailbox.old queue.old telling.old bytes.now descriptors.now result mailbox.new queue.new telling.new }
-{
-    let come_alone = bytes.is_empty() && !descriptors.is_empty();
-    if come_alone || descriptors.len() > MAX_FDS_OUT {
-        return take_in(mailbox, queue, bytes, descriptors);
-    }
-    if telling.hear(Side::Client, bytes, descriptors).is_err() {
-        return Status::OutOfMemory;
-    }
-    let status = take_in(mailbox, queue, bytes, descriptors);
-    if status != Status::Ok {
-        telling.take_back(Side::Client, bytes, descriptors);
-    }
-    status
-}
-
 impl Ledger {
     /// What is kept of a client that was inserted just now.
     pub fn new(alloc: Global, id: ClientId, user_data: u64, telling: Option<Telling>) -> Self
@@ -98,7 +74,13 @@ impl Ledger {
         ensures { TakesIn mailbox.old self.old bytes.now descriptors.now result mailbox.new self.new }
     {
         match &mut self.telling {
-            Some(telling) => hear(telling, mailbox, &mut self.received, bytes, descriptors),
+            Some(telling) => telling.take_in(
+                Side::Client,
+                mailbox,
+                &mut self.received,
+                bytes,
+                descriptors,
+            ),
             None => take_in(mailbox, &mut self.received, bytes, descriptors),
         }
     }

@@ -2,16 +2,16 @@
 
 ghost use Rattle.std.specs.Prelude.{[], ◌≡◌};
 ghost use Rattle.wl_host.specs.Calls.{world};
-ghost use Rattle.wl_host.specs.Descriptors.{Conserves};
+ghost use Rattle.wl_flat.specs.Descriptors.{Conserves};
 ghost use Rattle.wl_host.specs.Limits.{object_limit_of};
 ghost use Rattle.wl_host.specs.Server.{kept_by_server};
-ghost use Rattle.wl_host.specs.declared.status.Status.TheVariants as status;
+ghost use Rattle.wl_flat.specs.declared.status.Status.TheVariants as status;
 ghost use Rattle.wl_server_model.specs.Backend.{Calls};
 ghost use Rattle.wl_server_model.specs.declared.step.Reply.TheVariants as reply;
 ghost use Rattle.wl_server_model.specs.declared.step.Step.TheVariants as step;
 
 use crate::server::Server;
-use crate::status::Status;
+use wl_flat::status::Status;
 
 /// The limit that a call passes; 0 is none.
 fn object_limit(limit: u32) -> Option<u32>

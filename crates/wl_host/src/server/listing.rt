@@ -3,7 +3,7 @@
 ghost use Rattle.std.specs.Prelude.{◌≡◌};
 ghost use Rattle.wl_host.specs.Lists.{next_count, room_for, with_next};
 
-use crate::status::Status;
+use wl_flat::status::Status;
 
 /// Writes the item behind those that were found before, if there is room.
 pub fn put_next<T: Copy>(lent: &mut [T], found: &mut usize, item: T)

@@ -2,18 +2,18 @@
 
 ghost use Rattle.std.specs.Prelude.{◌≡◌, ◌++◌, [], length, nat_lt, not};
 ghost use Rattle.wl_host.specs.Cleaning.{DropsNotes};
-ghost use Rattle.wl_host.specs.Descriptors.{Conserves};
+ghost use Rattle.wl_flat.specs.Descriptors.{Conserves};
 ghost use Rattle.wl_host.specs.Notes.{Fetches, NextNote, client_note, error_note, flat_note, text_of, with_text};
-ghost use Rattle.wl_host.specs.Nulls.{sets};
+ghost use Rattle.wl_flat.specs.Nulls.{sets};
 ghost use Rattle.wl_host.specs.Server.{kept_by_server};
-ghost use Rattle.wl_host.specs.declared.status.Status.TheVariants as status;
+ghost use Rattle.wl_flat.specs.declared.status.Status.TheVariants as status;
 
-use crate::flat::{
+use crate::server::Server;
+use std::collections::VecDeque;
+use wl_flat::flat::{
     DESTROYED, FlatClientId, FlatNote, FlatObjectId, INSERTED, KILLED, count_number,
 };
-use crate::server::Server;
-use crate::status::Status;
-use std::collections::VecDeque;
+use wl_flat::status::Status;
 use wl_server::{ClientId, DisconnectReason, Note, ObjectId};
 use wl_wire::ProtocolError;
 

@@ -1,20 +1,20 @@
 //! The objects of a server's session.
 
 ghost use Rattle.std.specs.Prelude.{[], ◌≡◌, ◌≢◌, Err, MatchOption, Ok, length, map, min, option_map};
-ghost use Rattle.wl_host.specs.Descriptors.{Conserves};
+ghost use Rattle.wl_flat.specs.Descriptors.{Conserves};
 ghost use Rattle.wl_host.specs.Server.{kept_by_server};
-ghost use Rattle.wl_host.specs.Status.{of_create};
-ghost use Rattle.wl_host.specs.declared.status.Status.TheVariants as status;
-ghost use Rattle.wl_host.specs.Calls.{CreatesObject, DestroysObject, SetsObjectData, flat_object_info, flattened, interface_of, of_invalid, or_invalid, status_by};
+ghost use Rattle.wl_flat.specs.Status.{of_create, flattened};
+ghost use Rattle.wl_flat.specs.declared.status.Status.TheVariants as status;
+ghost use Rattle.wl_host.specs.Calls.{CreatesObject, DestroysObject, SetsObjectData, flat_object_info, interface_of, of_invalid, or_invalid, status_by};
 ghost use Rattle.wl_host.specs.Clients.{told_at};
 ghost use Rattle.wl_host.specs.Lists.{Lists, filled};
-ghost use Rattle.wl_host.specs.Flat.{client_of, flat_resource, resource_of};
+ghost use Rattle.wl_flat.specs.Flat.{client_of, flat_resource, resource_of};
 ghost use Rattle.wl_server_model.specs.Lookups.{object_data_of, object_for_number, object_info_of, objects_of_client};
 
-use crate::flat::{FlatClientId, FlatObjectId, FlatObjectInfo, count_number, interface_number};
 use crate::server::Server;
 use crate::server::listing::{put_next, room_for};
-use crate::status::Status;
+use wl_flat::flat::{FlatClientId, FlatObjectId, FlatObjectInfo, count_number, interface_number};
+use wl_flat::status::Status;
 use wl_server::{ClientId, CreateError, InvalidId, ObjectId};
 use wl_wire::InterfaceId;
 

@@ -5,10 +5,10 @@ ghost use Rattle.std.specs.String.{string_bytes};
 ghost use Rattle.wl_host.specs.Actions.{KillsFor, Refuses, kept_unless_finished, null_in, refusal_text};
 ghost use Rattle.wl_server_client.specs.Deeds.{handed};
 
-use crate::nulls::{name_in, null_text};
 use crate::server::{Core, no_action};
 use std::alloc::Global;
 use std::mem;
+use wl_flat::nulls::{name_in, null_text};
 use wl_server::{Action, ClientId, DisconnectReason, FinishRefused, ObjectId};
 use wl_wire::{CString, DISPLAY, WL_DISPLAY_INTERFACE};
 

@@ -1,18 +1,18 @@
 //! What is to be sent, and to whom.
 
 ghost use Rattle.std.specs.Prelude.{◌≡◌, []};
-ghost use Rattle.wl_host.specs.Descriptors.{Conserves};
-ghost use Rattle.wl_host.specs.Flat.{client_of};
+ghost use Rattle.wl_flat.specs.Descriptors.{Conserves};
+ghost use Rattle.wl_flat.specs.Flat.{client_of};
 ghost use Rattle.wl_host.specs.Seats.{ledger_at};
 ghost use Rattle.wl_host.specs.Server.{Asks, AsksClient, AsksInTurn, FoundHasBytes, NextWritable, NoneAskedHasBytes, Sent, has_bytes, kept_by_server, sent_with, to_send};
 ghost use Rattle.wl_host.specs.Flushing.{FlushesClient, OkHasBytes, said_of};
 ghost use Rattle.wl_host.specs.Tellings.{CopiesTold, SendsTold, sent_told};
 
-use crate::flat::{Counts, FlatClientId};
-use crate::outgoing::copy_out;
 use crate::server::seats::Seats;
 use crate::server::{Core, Server};
-use crate::status::Status;
+use wl_flat::flat::{Counts, FlatClientId};
+use wl_flat::outgoing::copy_out;
+use wl_flat::status::Status;
 use wl_server::ClientId;
 use wl_wire::{IoFault, OutOfMemory};
 

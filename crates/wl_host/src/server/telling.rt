@@ -1,18 +1,18 @@
 //! What is told of clients: their messages, and those to them.
 
 ghost use Rattle.std.specs.Prelude.{◌≡◌, []};
-ghost use Rattle.wl_host.specs.Descriptors.{Conserves};
-ghost use Rattle.wl_host.specs.Flat.{client_of};
-ghost use Rattle.wl_host.specs.Nulls.{sets};
+ghost use Rattle.wl_flat.specs.Descriptors.{Conserves};
+ghost use Rattle.wl_flat.specs.Flat.{client_of};
+ghost use Rattle.wl_flat.specs.Nulls.{sets};
 ghost use Rattle.wl_host.specs.Server.{kept_by_server};
 ghost use Rattle.wl_host.specs.Tellings.{CatchesUpWith, NextTold, TellsNextOf};
 ghost use Rattle.wl_host.specs.Hearing.{is_told};
 ghost use Rattle.wl_host.specs.Seats.{ledger_of};
-ghost use Rattle.wl_host.specs.declared.status.Status.TheVariants as status;
+ghost use Rattle.wl_flat.specs.declared.status.Status.TheVariants as status;
 
-use crate::flat::{FlatArgument, FlatClientId, FlatTold};
 use crate::server::Server;
-use crate::status::Status;
+use wl_flat::flat::{FlatArgument, FlatClientId, FlatTold};
+use wl_flat::status::Status;
 use wl_server::ClientId;
 use wl_wire::OutOfMemory;
 

@@ -2,14 +2,14 @@
 
 ghost use Rattle.std.specs.Prelude.{◌≡◌, option_map};
 ghost use Rattle.wl_host.specs.Calls.{or_invalid};
-ghost use Rattle.wl_host.specs.Flat.{client_of};
-ghost use Rattle.wl_host.specs.Kinds as kinds;
+ghost use Rattle.wl_flat.specs.Flat.{client_of};
+ghost use Rattle.wl_flat.specs.Kinds as kinds;
 ghost use Rattle.wl_host.specs.Violations.{flat_violation, with_fault, with_wrong};
 ghost use Rattle.wl_server_model.specs.Lookups.{violation_of};
 
-use crate::flat::{FlatClientId, count_number, interface_number};
 use crate::server::Server;
-use crate::status::Status;
+use wl_flat::flat::{FlatClientId, count_number, interface_number};
+use wl_flat::status::Status;
 use wl_server::{MessageFault, RequestFault, Violation};
 
 /// The kind of a [`FlatViolation`]. `wl_server::MessageFault` and `wl_server::RequestFault` say what each means.

@@ -2,14 +2,14 @@
 
 ghost use Rattle.std.specs.Prelude.{◌≡◌, option_map};
 ghost use Rattle.wl_host.specs.Calls.{or_invalid};
-ghost use Rattle.wl_host.specs.Flat.{client_of};
-ghost use Rattle.wl_host.specs.Waiting.{waiting_on};
+ghost use Rattle.wl_flat.specs.Flat.{client_of};
+ghost use Rattle.wl_flat.specs.Waiting.{waiting_on};
 ghost use Rattle.wl_server_model.specs.Lookups.{client_of as stored_client};
 
-use crate::flat::{FlatClientId, Waiting};
 use crate::server::Server;
-use crate::status::Status;
-use crate::waiting::waiting_on;
+use wl_flat::flat::{FlatClientId, Waiting};
+use wl_flat::status::Status;
+use wl_flat::waiting::waiting_on;
 
 impl Server {
     /// How much waits for the client, in the core and in its mailbox: what the host received of it, and no action was read of; and

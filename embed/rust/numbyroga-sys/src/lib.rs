@@ -825,6 +825,20 @@ unsafe extern "C" {
         argument_count: usize,
         fault: &mut nb_extension_fault,
     ) -> nb_status;
+    /// Takes one whole interface into the table, and writes its number.
+    pub fn nb_server_join_interface(
+        place: &mut nb_server,
+        text: *const u8,
+        text_length: usize,
+        interfaces: *const nb_interface_row,
+        interface_count: usize,
+        messages: *const nb_message_row,
+        message_count: usize,
+        arguments: *const nb_argument_row,
+        argument_count: usize,
+        number: &mut u32,
+        fault: &mut nb_extension_fault,
+    ) -> nb_status;
     /// Whether malloc refused in the last call.
     pub safe fn nb_server_memory_refused(place: &mut nb_server, is_refused: &mut u32) -> nb_status;
     /// Sets how far the buffers of clients to come may grow.
@@ -1186,6 +1200,27 @@ unsafe extern "C" {
         argument_count: usize,
         fault: &mut nb_extension_fault,
     ) -> nb_status;
+    /// Takes one whole interface into the table, and writes its number.
+    pub fn nb_client_join_interface(
+        place: &mut nb_client,
+        text: *const u8,
+        text_length: usize,
+        interfaces: *const nb_interface_row,
+        interface_count: usize,
+        messages: *const nb_message_row,
+        message_count: usize,
+        arguments: *const nb_argument_row,
+        argument_count: usize,
+        number: &mut u32,
+        fault: &mut nb_extension_fault,
+    ) -> nb_status;
+    /// How many descriptors an event of an interface brings.
+    pub safe fn nb_client_event_descriptors(
+        place: &mut nb_client,
+        interface: u32,
+        opcode: u32,
+        count: &mut u32,
+    ) -> nb_status;
     /// Whether malloc refused in the last call.
     pub safe fn nb_client_memory_refused(place: &mut nb_client, is_refused: &mut u32) -> nb_status;
     /// Sets how far the buffers may grow.
@@ -1199,6 +1234,8 @@ unsafe extern "C" {
         place: &mut nb_client,
         passes: u32,
     ) -> nb_status;
+    /// Sets whether messages are told, of a session of which nothing was received or sent.
+    pub safe fn nb_client_tell_messages(place: &mut nb_client, is_on: u32) -> nb_status;
     /// Sets whether an event with a null that the table forbids ends the session.
     pub safe fn nb_client_refuse_nulls(place: &mut nb_client, is_on: u32) -> nb_status;
     /// Sets how many bytes wait for the host.
@@ -1237,6 +1274,15 @@ unsafe extern "C" {
         place: &mut nb_client,
         data: u64,
         is_kept: &mut u32,
+    ) -> nb_status;
+    /// Tells the next message that was read or written.
+    pub fn nb_client_next_told(
+        place: &mut nb_client,
+        told: &mut nb_told,
+        arguments: *mut nb_argument,
+        argument_room: usize,
+        bytes: *mut u8,
+        byte_room: usize,
     ) -> nb_status;
     /// Sends a request.
     pub fn nb_client_send_request(

@@ -1,7 +1,7 @@
 use Rattle.std.proofs.Common.{ap}
 use Rattle.wl_host.proofs.Beside.{told_action_settled, told_next_settled, told_sent_settled, told_to_send_settled}
 use Rattle.wl_host.proofs.Marking.{default_kills, hand_out_registries_kills, keep_names_kills, limit_kills, object_limit_kills}
-use Rattle.wl_host.proofs.Settled.{bind_settled, cleanup_settled, creates_at_settled, creates_settled, data_settled, ends_settled, error_settled, event_settled, extends_settled, flushes_settled, insert_settled, interfaces_settled, kills_same, new_settled, notes_settled, received_settled, refused_global_settled, request_settled, room_settled, stays_by, stays_marked, version_settled, writable_settled}
+use Rattle.wl_host.proofs.Settled.{bind_settled, cleanup_settled, creates_at_settled, creates_settled, data_settled, ends_settled, error_settled, event_settled, extends_settled, flushes_settled, insert_settled, interfaces_settled, joins_settled, kills_same, new_settled, notes_settled, received_settled, refused_global_settled, request_settled, room_settled, stays_by, stays_marked, version_settled, writable_settled}
 use Rattle.wl_host.specs.Server.{ServerState}
 use Rattle.wl_host.proofs.laws.a_cleanup_looks_for_the_killed.Goals as goal
 
@@ -25,6 +25,9 @@ returns-clause-add_interfaces c before after rows result h e = interfaces_settle
 
 pub returns-clause-extend_interfaces : goal.returns-clause-extend_interfaces
 returns-clause-extend_interfaces c before after rows result h e = extends_settled before after rows result h e
+
+pub returns-clause-join_interface : goal.returns-clause-join_interface
+returns-clause-join_interface c before after rows result h e = joins_settled before after rows result h e
 
 pub returns-clause-received : goal.returns-clause-received
 returns-clause-received c before after id bytes descriptors s h = received_settled before after id bytes descriptors s h

@@ -1,5 +1,5 @@
-use Rattle.wl_host.proofs.TellingNulls.{tells_null}
-use Rattle.wl_host.specs.Flat.{flat_proxy, flat_resource}
+use Rattle.wl_flat.proofs.TellingNulls.{tells_null}
+use Rattle.wl_flat.specs.Flat.{flat_proxy, flat_resource}
 use Rattle.wl_host.proofs.laws.a_forbidden_null_is_told.Goals as goal
 
 pub returns-clause-server : goal.returns-clause-server

@@ -1,5 +1,5 @@
-use Rattle.wl_host.proofs.ComingBack.{comes_back}
-use Rattle.wl_host.specs.Flat.{flat_proxy, flat_resource, proxy_of, resource_of}
+use Rattle.wl_flat.proofs.ComingBack.{comes_back}
+use Rattle.wl_flat.specs.Flat.{flat_proxy, flat_resource, proxy_of, resource_of}
 use Rattle.wl_host.proofs.laws.flat_arguments_come_back.Goals as goal
 
 pub returns-clause-server : goal.returns-clause-server

@@ -1,5 +1,5 @@
-use Rattle.wl_host.proofs.ReadingInPlace.{in_place}
-use Rattle.wl_host.specs.Flat.{flat_proxy, flat_resource}
+use Rattle.wl_flat.proofs.ReadingInPlace.{in_place}
+use Rattle.wl_flat.specs.Flat.{flat_proxy, flat_resource}
 use Rattle.wl_host.proofs.laws.strings_and_arrays_are_read_in_place.Goals as goal
 
 pub returns-clause-server : goal.returns-clause-server

@@ -1,11 +1,11 @@
 use Rattle.std.proofs.Common.{Ok, inl, inr}
 use Rattle.wl_server_model.specs.Backend.{IsGrowth}
-use Rattle.wl_host.proofs.RowsAreThere.{no_fault, rows_are_there}
+use Rattle.wl_flat.proofs.RowsAreThere.{no_fault, rows_are_there}
 use Rattle.wl_host.proofs.TablesGrow.{client_grows, server_grows}
 use Rattle.wl_host.specs.Calls.{CoreState, world}
-use Rattle.wl_host.specs.Client.{ClientCore}
-use Rattle.wl_host.specs.Extending.{fault_as_told}
-use Rattle.wl_host.specs.Tables.{ClientGrows}
+use Rattle.wl_host_client.specs.Client.{ClientCore}
+use Rattle.wl_flat.specs.Extending.{fault_as_told}
+use Rattle.wl_host_client.specs.Tables.{ClientGrows}
 use Rattle.wl_host.proofs.laws.whole_rows_are_there.Goals as goal
 
 pub returns-clause-server : goal.returns-clause-server

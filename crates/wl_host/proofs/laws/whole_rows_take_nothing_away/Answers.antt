@@ -1,11 +1,11 @@
 use Rattle.std.proofs.Common.{inl, inr, subst, sym}
 use Rattle.wl_server_model.specs.Backend.{IsGrowth}
-use Rattle.wl_host.proofs.NothingTakenAway.{keeps-same, nothing_taken_away}
+use Rattle.wl_flat.proofs.NothingTakenAway.{keeps-same, nothing_taken_away}
 use Rattle.wl_host.proofs.TablesGrow.{client_grows, server_grows}
 use Rattle.wl_host.specs.Calls.{CoreState, world}
-use Rattle.wl_host.specs.Client.{ClientCore}
-use Rattle.wl_host.specs.Extending.{KeepsInterfaces}
-use Rattle.wl_host.specs.Tables.{ClientGrows}
+use Rattle.wl_host_client.specs.Client.{ClientCore}
+use Rattle.wl_flat.specs.Extending.{KeepsInterfaces}
+use Rattle.wl_host_client.specs.Tables.{ClientGrows}
 use Rattle.wl_host.proofs.laws.whole_rows_take_nothing_away.Goals as goal
 
 pub returns-clause-server : goal.returns-clause-server

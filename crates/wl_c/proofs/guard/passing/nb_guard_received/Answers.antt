@@ -1,6 +1,6 @@
 use Rattle.wl_c.proofs.Calling.{lent}
-use Rattle.wl_host.specs.Guards.{Receives}
-use Rattle.wl_host.specs.declared.guards.Policy.{Policy}
+use Rattle.wl_flat.specs.Guards.{Receives}
+use Rattle.wl_flat.specs.declared.guards.Policy.{Policy}
 use Rattle.wl_c.proofs.guard.passing.nb_guard_received.Goals as goal
 
 pub returns-clause-call : goal.returns-clause-call

@@ -1,6 +1,6 @@
-use Rattle.wl_host.specs.declared.event_queues.EventQueues.{EventQueues}
-use Rattle.wl_host.specs.declared.status.Status.{Status}
-use Rattle.wl_host.specs.declared.status.Status.TheVariants as status
+use Rattle.wl_flat.specs.declared.event_queues.EventQueues.{EventQueues}
+use Rattle.wl_flat.specs.declared.status.Status.{Status}
+use Rattle.wl_flat.specs.declared.status.Status.TheVariants as status
 use Rattle.wl_queues.specs.Queues.{Fail}
 use Rattle.wl_queues.specs.States.{Calls}
 use Rattle.wl_c.proofs.Calling.{did}

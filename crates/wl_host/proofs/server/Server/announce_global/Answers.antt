@@ -1,6 +1,6 @@
 use Rattle.std.proofs.Common.{rules, ◌≡◌, Some, inr}
 use Rattle.wl_server_model.specs.Lookups.{global_info_by}
-use Rattle.wl_host.specs.Flat.{global_of}
+use Rattle.wl_flat.specs.Flat.{global_of}
 use Rattle.wl_host.proofs.server.Server.announce_global.Goals as goal
 
 pub returns-clause-call : goal.returns-clause-call

@@ -1,7 +1,7 @@
 use Rattle.std.proofs.Common.{◌≡◌, ap}
 use Rattle.wl_host.proofs.Handing.{bind_ends, ends_open}
 use Rattle.wl_host.specs.Actions.{EndsBindOf}
-use Rattle.wl_host.specs.Flat.{client_of}
+use Rattle.wl_flat.specs.Flat.{client_of}
 use Rattle.wl_host.specs.Seats.{ledger_of}
 use Rattle.wl_host.specs.Server.{ServerState}
 use Rattle.wl_host.proofs.server.Server.finish_bind.Goals as goal

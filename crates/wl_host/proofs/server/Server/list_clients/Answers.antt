@@ -1,5 +1,5 @@
 use Rattle.std.proofs.Common.{refl, rules, arith}
-use Rattle.wl_host.specs.Flat.{flat_client}
+use Rattle.wl_flat.specs.Flat.{flat_client}
 use Rattle.wl_host.proofs.Filling.{puts_all}
 use Rattle.wl_host.proofs.server.Server.list_clients.Goals as goal
 

@@ -1,5 +1,5 @@
 use Rattle.std.proofs.Common.{refl, rules, arith}
-use Rattle.wl_host.specs.Flat.{flat_resource}
+use Rattle.wl_flat.specs.Flat.{flat_resource}
 use Rattle.wl_host.proofs.Filling.{puts_all, found_all}
 use Rattle.wl_host.proofs.server.Server.list_objects.Goals as goal
 

@@ -1,7 +1,7 @@
 use Rattle.std.proofs.Common.{[], ap, refl}
 use Rattle.wl_host.proofs.Catching.{reads_caught, reads_nothing}
 use Rattle.wl_host.specs.Actions.{Lent}
-use Rattle.wl_host.specs.declared.flat.FlatAction.{FlatAction}
+use Rattle.wl_flat.specs.declared.flat.FlatAction.{FlatAction}
 use Rattle.wl_host.proofs.server.Server.next_action.Goals as goal
 
 pub returns-in-Ok : goal.returns-in-Ok

@@ -1,9 +1,9 @@
 use Rattle.std.proofs.Common.{ap, refl}
 use Rattle.wl_host.proofs.Catching.{tells_caught, tells_nothing}
 use Rattle.wl_host.proofs.Conserving.{conserves_caught}
-use Rattle.wl_host.proofs.Queues.{conserves_out}
-use Rattle.wl_host.specs.Told.{LentTold}
-use Rattle.wl_host.specs.declared.flat.FlatTold.{FlatTold}
+use Rattle.wl_flat.proofs.Queues.{conserves_out}
+use Rattle.wl_flat.specs.Told.{LentTold}
+use Rattle.wl_flat.specs.declared.flat.FlatTold.{FlatTold}
 use Rattle.wl_host.proofs.server.Server.next_told.Goals as goal
 
 pub returns-in-Ok-clause-told : goal.returns-in-Ok-clause-told

@@ -1,7 +1,7 @@
 use Rattle.std.proofs.Common.{◌≡◌, Some, rules}
 use Rattle.wl_host.proofs.Handing.{next_handed}
 use Rattle.wl_host.specs.Actions.{marked_if}
-use Rattle.wl_host.specs.Flat.{client_of}
+use Rattle.wl_flat.specs.Flat.{client_of}
 use Rattle.wl_host.specs.Inside.Actions.{is_killed_in}
 use Rattle.wl_host.specs.Seats.{ledger_of, listed, with_ledger}
 use Rattle.wl_host.proofs.server.Server.read_next.Goals as goal

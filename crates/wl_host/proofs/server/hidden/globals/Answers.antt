@@ -1,5 +1,5 @@
 use Rattle.std.proofs.Common.{rules}
-use Rattle.wl_host.specs.Flat.{flat_global}
+use Rattle.wl_flat.specs.Flat.{flat_global}
 use Rattle.wl_host.proofs.server.hidden.globals.Goals as goal
 
 -- two ids compare equal if their parts are equal

@@ -2,8 +2,8 @@ use Rattle.std.proofs.Common.{◌≡◌, [], ◌∷◌, drop}
 use Rattle.wl_wire.specs.declared.argument.Argument.TheVariants as arg
 use Rattle.wl_host.specs.Calls.{CoreState}
 use Rattle.wl_host.specs.Registries.{TellsRemovals, registries_told}
-use Rattle.wl_host.specs.declared.status.Status.{Status}
-use Rattle.wl_host.specs.declared.status.Status.TheVariants as status
+use Rattle.wl_flat.specs.declared.status.Status.{Status}
+use Rattle.wl_flat.specs.declared.status.Status.TheVariants as status
 use Rattle.wl_host.proofs.server.registries.tell_removals.Given as goal
 
 -- if those that are left are told, all were

@@ -1,6 +1,6 @@
 use Rattle.std.proofs.Common.{◌≡◌, ◌≤◌, ℤ, List}
 use Rattle.std.specs.VecDeque.{deque_capacity, deque_len}
-use Rattle.wl_host.specs.Descriptors.{Descriptors}
+use Rattle.wl_flat.specs.Descriptors.{Descriptors}
 use Rattle.wl_host.specs.Seats.{AllEmpty, LeftPassesOut}
 use Rattle.wl_host.proofs.server.seats.next_left.Given as goal
 

@@ -4,7 +4,7 @@ use Rattle.wl_c.proofs.Machine.{inside, is_inside, ptr_fits, alone, alone_fits, 
 use Rattle.std.specs.contracts.alloc.Global as heap
 use Rattle.wl_c.specs.Held.{owns_held}
 use Rattle.wl_c.specs.contracts.parts.Parts as parts
-use Rattle.wl_host.specs.contracts.client.Client as session
+use Rattle.wl_host_client.specs.contracts.client.Client as session
 use Rattle.wl_c.specs.contracts.client.kept.ClientKept as kept
 use Rattle.wl_c.specs.contracts.client.kept.ClientKept.unpack as f
 use Rattle.wl_c.proofs.client.kept.ClientKept.unpack.Statement.{statement}

@@ -4,7 +4,7 @@ use Rattle.wl_c.proofs.Machine.{inside, is_inside, ptr_fits, alone, alone_fits, 
 use Rattle.std.specs.contracts.alloc.Global as heap
 use Rattle.wl_c.specs.Held.{owns_held}
 use Rattle.wl_c.specs.contracts.parts.Parts as parts
-use Rattle.wl_host.specs.contracts.guards.Guard as guard
+use Rattle.wl_flat.specs.contracts.guards.Guard as guard
 use Rattle.wl_c.specs.contracts.guard.kept.GuardKept as kept
 use Rattle.wl_c.specs.contracts.guard.kept.GuardKept.unpack as f
 use Rattle.wl_c.proofs.guard.kept.GuardKept.unpack.Statement.{statement}

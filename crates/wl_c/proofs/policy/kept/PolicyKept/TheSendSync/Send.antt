@@ -1,8 +1,8 @@
 -- What is kept may go to another thread.
 use denote.Param.Send.{IsSend, owning_send, sendable}
 use Rattle.wl_c.proofs.Crossing.{held_crosses}
-use Rattle.wl_host.specs.contracts.guards.Policy as policy
-use Rattle.wl_host.proofs.guards.Policy.TheSendSync.{the_send as policy_send}
+use Rattle.wl_flat.specs.contracts.guards.Policy as policy
+use Rattle.wl_flat.proofs.guards.Policy.TheSendSync.{the_send as policy_send}
 use Rattle.wl_c.specs.contracts.policy.kept.PolicyKept.{the_row, the_type}
 
 pub send : IsSend the_row

@@ -4,7 +4,7 @@ use Rattle.wl_c.proofs.Machine.{inside, is_inside, ptr_fits, alone, alone_fits, 
 use Rattle.std.specs.contracts.alloc.Global as heap
 use Rattle.wl_c.specs.Held.{owns_held}
 use Rattle.wl_c.specs.contracts.parts.Parts as parts
-use Rattle.wl_host.specs.contracts.guards.Policy as policy
+use Rattle.wl_flat.specs.contracts.guards.Policy as policy
 use Rattle.wl_c.specs.contracts.policy.kept.PolicyKept as kept
 use Rattle.wl_c.specs.contracts.policy.kept.PolicyKept.unpack as f
 use Rattle.wl_c.proofs.policy.kept.PolicyKept.unpack.Statement.{statement}

@@ -1,7 +1,7 @@
 -- `pack` keeps the pointer, and owns what the parts owned.
 use Rattle.wl_c.proofs.Steps.{◌≡◌, [], ◌∷◌, refl, proved, leaves, Some, emp, ftrue, fact, fact_i, ‵, raw, ◌⊛◌, ◌$◌, ◌∵◌, !, qed, by, keep, drop, use0, split, fsplit, fjoin, enter, of_opd, fld, stop, and_then, no_more, returns, alloc_all, pass_all, free_all, look_at, get, get_in, sets, agg, sub, whole, yes, RattleType, owns, plain, types_at, nothing, walk_of, Stays, stay_dropped, Goes-dropped}
 use Rattle.wl_c.proofs.Machine.{ptr_fits, Alone, alone, alone_fits, alone_made, Parted, pair, pair_fits, pair_told}
-use Rattle.wl_host.specs.contracts.event_queues.EventQueues as queues
+use Rattle.wl_flat.specs.contracts.event_queues.EventQueues as queues
 use Rattle.wl_c.specs.contracts.queues.kept.QueuesKept as kept
 use Rattle.wl_c.specs.contracts.queues.kept.QueuesKept.pack as f
 use Rattle.wl_c.proofs.queues.kept.QueuesKept.pack.Statement.{statement}

@@ -4,7 +4,7 @@ use Rattle.wl_c.proofs.Machine.{inside, is_inside, ptr_fits, alone, alone_fits, 
 use Rattle.std.specs.contracts.alloc.Global as heap
 use Rattle.wl_c.specs.Held.{owns_held}
 use Rattle.wl_c.specs.contracts.parts.Parts as parts
-use Rattle.wl_host.specs.contracts.event_queues.EventQueues as queues
+use Rattle.wl_flat.specs.contracts.event_queues.EventQueues as queues
 use Rattle.wl_c.specs.contracts.queues.kept.QueuesKept as kept
 use Rattle.wl_c.specs.contracts.queues.kept.QueuesKept.unpack as f
 use Rattle.wl_c.proofs.queues.kept.QueuesKept.unpack.Statement.{statement}

@@ -1,0 +1,6 @@
+use Rattle.std.proofs.Common.{sym}
+use Rattle.wl_flat.proofs.RowsExtend.{types_unlike}
+use Rattle.wl_flat.proofs.extending.types_agree.Goals as goal
+
+pub returns-then-there-said : goal.returns-then-there-said
+returns-then-there-said c = sym (types_unlike c.args.there.now c.args.said.now c.if-there-said.true)

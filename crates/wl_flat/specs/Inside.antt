@@ -1,0 +1,2 @@
+-- What the functions inside promise each other; no public clause names these.
+pub mod Sending

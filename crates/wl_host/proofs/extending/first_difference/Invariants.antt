@@ -1,8 +1,0 @@
-use Rattle.std.proofs.Common.{◌≡◌, drop, map}
-use Rattle.wl_wire.specs.Table.{message_row}
-use Rattle.wl_host.specs.Extending.{differ_from}
-use Rattle.wl_host.proofs.extending.first_difference.Given as goal
-
-abbrev pub invariant-loop-opcode : goal.invariant-loop-opcode
-invariant-loop-opcode l =
-    differ_from 0 (map message_row l.there) (map message_row l.said) ≡ differ_from l.opcode (map message_row (drop l.opcode l.there)) (map message_row (drop l.opcode l.said))

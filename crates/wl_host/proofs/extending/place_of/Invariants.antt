@@ -1,7 +1,0 @@
-use Rattle.std.proofs.Common.{◌≡◌, drop}
-use Rattle.std.specs.List.{position_from}
-use Rattle.std.specs.Str.{bytes_eq}
-use Rattle.wl_host.proofs.extending.place_of.Given as goal
-
-abbrev pub invariant-loop-place : goal.invariant-loop-place
-invariant-loop-place l = position_from (λ row. bytes_eq l.name row.name) 0 l.protocol ≡ position_from (λ row. bytes_eq l.name row.name) l.place (drop l.place l.protocol)

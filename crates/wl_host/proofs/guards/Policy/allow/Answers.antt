@@ -1,6 +1,0 @@
-use Rattle.std.proofs.Common.{inr, refl, rules}
-use Rattle.wl_host.proofs.GuardNames.{is_no_text}
-use Rattle.wl_host.proofs.guards.Policy.allow.Goals as goal
-
-pub returns-in-Err : goal.returns-in-Err
-returns-in-Err c = record { call = (refl, inr (search (rules, is_no_text), refl)) }

@@ -1,6 +1,0 @@
-use Rattle.std.proofs.Common.{◌≡◌, map, take}
-use Rattle.wl_host.specs.Guards.{token_of}
-use Rattle.wl_host.proofs.guards.tokens_of.Given as goal
-
-abbrev pub invariant-loop-descriptor : goal.invariant-loop-descriptor
-invariant-loop-descriptor l = l.tokens.items ≡ map token_of (take l.descriptor-index l.descriptors)

@@ -1,6 +1,0 @@
-use Rattle.std.proofs.Common.{◌≡◌, drop}
-use Rattle.wl_host.specs.Sending.{all_taken_out}
-use Rattle.wl_host.proofs.outgoing.take_all_out.Given as goal
-
-abbrev pub invariant-loop-token : goal.invariant-loop-token
-invariant-loop-token l = all_taken_out l.queue (drop l.token-index l.tokens) ≡ all_taken_out l.fn.queue l.tokens

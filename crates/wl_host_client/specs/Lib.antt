@@ -1,0 +1,5 @@
+pub mod Allowed
+pub mod Client
+pub mod ClientTellings
+pub mod Faults
+pub mod Tables
