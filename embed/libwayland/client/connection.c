@@ -182,9 +182,9 @@ EXPORT struct wl_display *wl_display_connect(const char *name)
     return connection >= 0 ? wl_display_connect_to_fd(connection) : NULL;
 }
 
-static nb_status merge(void *session, const nb_table *rows, nb_extension_fault *fault)
+static nb_status join(void *session, const nb_table *rows, uint32_t *number, nb_extension_fault *fault)
 {
-    return nb_client_merge(session, rows, fault);
+    return nb_client_join(session, rows, number, fault);
 }
 
 /* Its events are handled here. A program that looks sees a listener, and cannot add another one. */
@@ -230,7 +230,7 @@ EXPORT struct wl_display *wl_display_connect_to_fd(int fd)
     wl_list_init(&display->made_queues);
     pthread_mutex_init(&display->lock, NULL);
     pthread_cond_init(&display->was_read, NULL);
-    table_begin(&display->table, merge, &display->session);
+    table_begin(&display->table, join, &display->session);
     display->table.is_of_client = true;
     if (begin(display))
         return display;

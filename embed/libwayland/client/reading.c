@@ -174,10 +174,13 @@ static int lacks_descriptor(const struct wl_proxy *sender, const struct head *he
 
 /* What the log calls an object that is not there. libwayland remembers those that the program has destroyed and whose
  * events may have descriptors. */
-static const char *word_for_missing(const struct wl_display *display, const nb_object_id *id)
+static const char *word_for_missing(struct wl_display *display, const nb_object_id *id)
 {
-    return !is_of_server(id->number) && table_brings_descriptors(&display->table, id->interface) ? "[zombie]"
-                                                                                                 : "[unknown]";
+    uint32_t count = 0;
+    for (uint32_t event = 0; count == 0 && !is_of_server(id->number) &&
+                             nb_client_event_descriptors(&display->session, id->interface, event, &count) == NB_OK;)
+        event++;
+    return count > 0 ? "[zombie]" : "[unknown]";
 }
 
 /* The server frees a number, whose object is this one. */
@@ -208,7 +211,8 @@ static int take_message(struct wl_display *display, struct run *run, const struc
     nb_object_id id = nb_null();
     nb_client_object_for_protocol_id(&display->session, head->sender, &id);
     const struct wl_proxy *sender = proxy_of_id_locked(display, &id);
-    const uint32_t needed = table_event_descriptors(&display->table, id.interface, head->opcode);
+    uint32_t needed = 0;
+    nb_client_event_descriptors(&display->session, id.interface, head->opcode, &needed);
     const bool is_delete = head->sender == 1 && head->opcode == 1 && head->size == 12;
     bool is_passed_over = is_delete && is_of_server(head->number);
     int error = 0;

@@ -154,28 +154,21 @@ static inline void packed_end(struct packed *packed, bool is_taken)
  * its own, under a name that nobody sees. Object arguments are of any interface: in a request the server judges them.
  */
 
-/* nb_server_merge or nb_client_merge, for the session that `session` points to. */
-typedef nb_status table_merge(void *session, const nb_table *rows, nb_extension_fault *fault);
+/* nb_server_join or nb_client_join, for the session that `session` points to. */
+typedef nb_status table_join(void *session, const nb_table *rows, uint32_t *number, nb_extension_fault *fault);
 
 struct table {
-    table_merge *merge;
+    table_join *join;
     void *session;
-    struct wl_array rows; /* those from NB_INTERFACE_FIRST on */
     struct wl_array keys; /* the structs that were named, with their numbers */
     bool is_of_client;
 };
 
-void table_begin(struct table *table, table_merge *merge, void *session);
+void table_begin(struct table *table, table_join *join, void *session);
 void table_end(struct table *table);
 
 /* The number of an interface, which is put into the session's table if it is not there. 0 if it cannot be, which is
  * logged. */
 uint32_t table_number(struct table *table, const struct wl_interface *interface);
-
-/* How many descriptors an event of this interface has; 0 if there is no such event. */
-uint32_t table_event_descriptors(const struct table *table, uint32_t number, uint32_t event);
-
-/* Whether any event of this interface has descriptors. */
-bool table_brings_descriptors(const struct table *table, uint32_t number);
 
 #endif

@@ -177,15 +177,7 @@ EXPORT int wl_client_get_fd(struct wl_client *client)
     return client->socket;
 }
 
-EXPORT void wl_client_add_destroy_listener(struct wl_client *client, struct wl_listener *listener)
-{
-    wl_signal_add(&client->destroy_signal, listener);
-}
-
-EXPORT struct wl_listener *wl_client_get_destroy_listener(struct wl_client *client, wl_notify_func_t notify)
-{
-    return wl_signal_get(&client->destroy_signal, notify);
-}
+LISTENERS(wl_client_add_destroy_listener, wl_client_get_destroy_listener, struct wl_client *, &of->destroy_signal)
 
 EXPORT void wl_client_add_resource_created_listener(struct wl_client *client, struct wl_listener *listener)
 {
@@ -194,15 +186,8 @@ EXPORT void wl_client_add_resource_created_listener(struct wl_client *client, st
 
 /* ======== Since 1.22 and 1.23 */
 
-EXPORT void wl_client_add_destroy_late_listener(struct wl_client *client, struct wl_listener *listener)
-{
-    wl_signal_add(&client->destroy_late_signal, listener);
-}
-
-EXPORT struct wl_listener *wl_client_get_destroy_late_listener(struct wl_client *client, wl_notify_func_t notify)
-{
-    return wl_signal_get(&client->destroy_late_signal, notify);
-}
+LISTENERS(wl_client_add_destroy_late_listener, wl_client_get_destroy_late_listener, struct wl_client *,
+          &of->destroy_late_signal)
 
 EXPORT void wl_client_set_user_data(struct wl_client *client, void *data, void (*dtor)(void *data))
 {

@@ -76,8 +76,7 @@ void dispatch(struct wl_client *client, const nb_action *action, const nb_argume
     else if (is_refused(client, resource, action, is_complete))
         close_descriptors(arguments, count);
     else {
-        if (trace_is_on(client->display))
-            trace_message(resource, false, action->opcode, values);
+        trace_message(resource, false, action->opcode, values);
         call_program(&resource->object, lent_of(client, resource) ? NULL : resource->dispatcher, client, action->opcode,
                      &resource->object.interface->methods[action->opcode], values, count);
     }

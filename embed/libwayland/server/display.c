@@ -13,9 +13,9 @@ static int wakes_up(int fd, uint32_t mask, void *data)
     return read(fd, &count, sizeof count) < 0 && errno != EAGAIN ? -1 : 1;
 }
 
-static nb_status merge(void *session, const nb_table *rows, nb_extension_fault *fault)
+static nb_status join(void *session, const nb_table *rows, uint32_t *number, nb_extension_fault *fault)
 {
-    return nb_server_merge(session, rows, fault);
+    return nb_server_join(session, rows, number, fault);
 }
 
 EXPORT struct wl_display *wl_display_create(void)
@@ -33,7 +33,7 @@ EXPORT struct wl_display *wl_display_create(void)
     wl_list_init(&display->loggers);
     wl_signal_init(&display->destroy_signal);
     wl_signal_init(&display->client_created_signal);
-    table_begin(&display->table, merge, &display->core);
+    table_begin(&display->table, join, &display->core);
     display->is_printing = print_is_asked("server");
     display->buffer = malloc(NB_MOST_WAITING);
     display->loop = wl_event_loop_create();
@@ -118,15 +118,7 @@ EXPORT uint32_t wl_display_next_serial(struct wl_display *display)
     return ++display->serial;
 }
 
-EXPORT void wl_display_add_destroy_listener(struct wl_display *display, struct wl_listener *listener)
-{
-    wl_signal_add(&display->destroy_signal, listener);
-}
-
-EXPORT struct wl_listener *wl_display_get_destroy_listener(struct wl_display *display, wl_notify_func_t notify)
-{
-    return wl_signal_get(&display->destroy_signal, notify);
-}
+LISTENERS(wl_display_add_destroy_listener, wl_display_get_destroy_listener, struct wl_display *, &of->destroy_signal)
 
 EXPORT void wl_display_add_client_created_listener(struct wl_display *display, struct wl_listener *listener)
 {

@@ -44,8 +44,7 @@ EXPORT void wl_resource_post_event_array(struct wl_resource *resource, uint32_t 
         log_and_abort("%s has no event %u\n", interface->name, opcode);
     const struct wl_message *message = &interface->events[opcode];
     if (pack(&packed, message->signature, args, true) && name_objects(&packed, args, resource, message)) {
-        if (trace_is_on(client->display))
-            trace_message(resource, true, opcode, args);
+        trace_message(resource, true, opcode, args);
         if (packed.descriptors > 0)
             nb_server_waiting(core, &client->id, &waiting);
         if (waiting.to_send.descriptors + packed.descriptors > MOST_UNSENT)
@@ -99,7 +98,7 @@ EXPORT void wl_resource_post_error_vargs(struct wl_resource *resource, uint32_t 
     if (client->has_error || !client->display_resource || !client_enter(client))
         return;
     vsnprintf(text, sizeof text, msg, argp);
-    trace_error(resource, code, text);
+    trace_event(client->display_resource, WL_DISPLAY_ERROR, &resource->object, code, text);
     if (nb_server_object_info(core, object, &info) != NB_OK)
         object = &client->display_resource->core;
     nb_server_post_error(core, object, code, (const uint8_t *)text, strlen(text));

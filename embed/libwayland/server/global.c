@@ -21,7 +21,7 @@ static void announce(struct wl_resource *registry, const struct wl_global *globa
     struct wl_client *client = registry->client;
     if (client->has_error || !client->is_inside || !global_is_visible(global, client))
         return;
-    trace_announcement(registry, global, false);
+    trace_event(registry, WL_REGISTRY_GLOBAL, global->id.name, global->interface->name, global->version);
     if (nb_server_announce_global(&client->display->core, &registry->core, &global->id) != NB_OK)
         client->has_error = true;
 }
@@ -93,7 +93,7 @@ EXPORT void wl_global_remove(struct wl_global *global)
     if (trace_is_on(global->display))
         wl_resource_for_each(registry, &global->display->registries)
             if (global_is_visible(global, registry->client))
-                trace_announcement(registry, global, true);
+                trace_event(registry, WL_REGISTRY_GLOBAL_REMOVE, global->id.name);
     nb_server_withdraw_global(&global->display->core, &global->id);
     nb_server_disable_global(&global->display->core, &global->id);
     global->is_removed = true;

@@ -319,15 +319,8 @@ EXPORT int wl_event_loop_get_fd(struct wl_event_loop *loop)
     return loop->epoll;
 }
 
-EXPORT void wl_event_loop_add_destroy_listener(struct wl_event_loop *loop, struct wl_listener *listener)
-{
-    wl_signal_add(&loop->destroy_signal, listener);
-}
-
-EXPORT struct wl_listener *wl_event_loop_get_destroy_listener(struct wl_event_loop *loop, wl_notify_func_t notify)
-{
-    return wl_signal_get(&loop->destroy_signal, notify);
-}
+LISTENERS(wl_event_loop_add_destroy_listener, wl_event_loop_get_destroy_listener, struct wl_event_loop *,
+          &of->destroy_signal)
 
 EXPORT void wl_event_loop_dispatch_idle(struct wl_event_loop *loop)
 {

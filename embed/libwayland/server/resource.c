@@ -301,15 +301,8 @@ static struct wl_signal *destroy_signal_of(struct wl_resource *resource)
     return lent_of(resource->client, resource) ? &resource->old_destroy_signal : &resource->destroy_signal;
 }
 
-EXPORT void wl_resource_add_destroy_listener(struct wl_resource *resource, struct wl_listener *listener)
-{
-    wl_signal_add(destroy_signal_of(resource), listener);
-}
-
-EXPORT struct wl_listener *wl_resource_get_destroy_listener(struct wl_resource *resource, wl_notify_func_t notify)
-{
-    return wl_signal_get(destroy_signal_of(resource), notify);
-}
+LISTENERS(wl_resource_add_destroy_listener, wl_resource_get_destroy_listener, struct wl_resource *,
+          destroy_signal_of(of))
 
 /* Since 1.24. */
 EXPORT const struct wl_interface *wl_resource_get_interface(struct wl_resource *resource)

@@ -28,6 +28,17 @@
 #define READ_ONLY(type)                                                                                                \
     __typeof__(_Generic(&wl_resource_get_id, uint32_t (*)(const struct wl_resource *): (const type *)0, default: (type *)0))
 
+/* The two public calls by which a program listens to a signal of `of`, which `type` points to. */
+#define LISTENERS(add, get, type, signal)                                                                              \
+    EXPORT void add(type of, struct wl_listener *listener)                                                             \
+    {                                                                                                                  \
+        wl_signal_add(signal, listener);                                                                               \
+    }                                                                                                                  \
+    EXPORT struct wl_listener *get(type of, wl_notify_func_t notify)                                                   \
+    {                                                                                                                  \
+        return wl_signal_get(signal, notify);                                                                          \
+    }
+
 /* The fields up to `data` are shown by wayland-server.h, so their order is fixed; a program may have such a struct of
  * its own, without those that follow (deprecated.c). */
 struct wl_resource {
@@ -184,13 +195,12 @@ static inline bool trace_is_on(const struct wl_display *display)
     return display->is_printing || display->loggers.next != &display->loggers;
 }
 
-/* An event or request, if it is on. */
+/* An event or request, if it is on; an event of these arguments. */
 void trace_message(struct wl_resource *resource, bool is_event, uint32_t opcode, union wl_argument *arguments);
+void trace_event(struct wl_resource *resource, uint32_t opcode, ...);
 /* Takes what the session tells of a client's messages. What it has asked of the display and of registries is told on, if
  * it `is_told`. */
 void trace_read(struct wl_client *client, bool is_told);
 void trace_delete_id(struct wl_client *client, uint32_t id);
-void trace_error(struct wl_resource *resource, uint32_t code, const char *text);
-void trace_announcement(struct wl_resource *registry, const struct wl_global *global, bool is_removal);
 
 #endif

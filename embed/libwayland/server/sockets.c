@@ -67,12 +67,16 @@ static int client_connects(int fd, uint32_t mask, void *data)
     return 1;
 }
 
-static bool listen_in(struct wl_display *display, struct listener *listener)
+/* Ends the listener if it cannot be, or if there is no socket (-1); one that it does not have yet stays open then. */
+static bool listen_in(struct wl_display *display, struct listener *listener, int socket)
 {
-    listener->source =
-        wl_event_loop_add_fd(display->loop, listener->socket, WL_EVENT_READABLE, client_connects, display);
-    if (!listener->source)
+    if (socket >= 0)
+        listener->source = wl_event_loop_add_fd(display->loop, socket, WL_EVENT_READABLE, client_connects, display);
+    if (!listener->source) {
+        listener_end(listener);
         return false;
+    }
+    listener->socket = socket;
     wl_list_insert(display->sockets.prev, &listener->link);
     return true;
 }
@@ -101,35 +105,31 @@ static bool take_lock(struct listener *listener)
     return false;
 }
 
-static bool open_socket(struct listener *listener)
+/* -1 if it cannot be opened. */
+static int open_socket(struct listener *listener)
 {
     const struct sockaddr_un *address = &listener->address;
     const socklen_t size = (socklen_t)(offsetof(struct sockaddr_un, sun_path) + strlen(address->sun_path));
     int made = socket(AF_UNIX, SOCK_STREAM | SOCK_CLOEXEC, 0);
     if (made < 0)
-        return false;
+        return -1;
     if (bind(made, (const struct sockaddr *)address, size) < 0) {
         log_line("bind() failed with error: %s\n", strerror(errno));
         close(made);
-        return false;
+        return -1;
     }
     listener->socket = made;
     if (listen(made, WAITING) == 0)
-        return true;
+        return made;
     log_line("listen() failed with error: %s\n", strerror(errno));
-    return false;
+    return -1;
 }
 
 EXPORT int wl_display_add_socket(struct wl_display *display, const char *name)
 {
     struct listener *listener = listener_begin();
-    if (!listener)
-        return -1;
-    if (find_address(&listener->address, name, "") && take_lock(listener) && open_socket(listener) &&
-        listen_in(display, listener))
-        return 0;
-    listener_end(listener);
-    return -1;
+    const bool is_locked = listener && find_address(&listener->address, name, "") && take_lock(listener);
+    return listener && listen_in(display, listener, is_locked ? open_socket(listener) : -1) ? 0 : -1;
 }
 
 EXPORT const char *wl_display_add_socket_auto(struct wl_display *display)
@@ -146,10 +146,8 @@ EXPORT const char *wl_display_add_socket_auto(struct wl_display *display)
         is_locked = take_lock(listener);
         errno = EINVAL;
     }
-    if (is_locked && open_socket(listener) && listen_in(display, listener))
-        return strrchr(listener->address.sun_path, '/') + 1;
-    listener_end(listener);
-    return NULL;
+    const bool is_open = listen_in(display, listener, is_locked ? open_socket(listener) : -1);
+    return is_open ? strrchr(listener->address.sun_path, '/') + 1 : NULL;
 }
 
 EXPORT int wl_display_add_socket_fd(struct wl_display *display, int sock_fd)
@@ -158,12 +156,5 @@ EXPORT int wl_display_add_socket_fd(struct wl_display *display, int sock_fd)
     if (sock_fd < 0 || fstat(sock_fd, &file) < 0 || !S_ISSOCK(file.st_mode))
         return -1;
     struct listener *listener = listener_begin();
-    if (!listener)
-        return -1;
-    listener->socket = sock_fd;
-    if (listen_in(display, listener))
-        return 0;
-    listener->socket = -1; /* it stays the program's */
-    listener_end(listener);
-    return -1;
+    return listener && listen_in(display, listener, sock_fd) ? 0 : -1;
 }

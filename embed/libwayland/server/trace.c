@@ -53,41 +53,34 @@ void trace_message(struct wl_resource *resource, bool is_event, uint32_t opcode,
 
 /* ======== What the session says by itself */
 
-enum { DISPLAY_SYNC = 0 };                                                                   /* a request */
-enum { DISPLAY_ERROR = 0, DISPLAY_DELETE_ID = 1, REGISTRY_GLOBAL = 0, REGISTRY_REMOVE = 1 }; /* events */
+void trace_event(struct wl_resource *resource, uint32_t opcode, ...)
+{
+    union wl_argument arguments[MOST_ARGUMENTS];
+    va_list list;
+    va_start(list, opcode);
+    arguments_from_list(resource->object.interface->events[opcode].signature, list, arguments);
+    va_end(list);
+    trace_message(resource, true, opcode, arguments);
+}
 
 void trace_delete_id(struct wl_client *client, uint32_t id)
 {
-    union wl_argument arguments[] = { { .u = id } };
     if (client->display_resource && !is_of_server(id) && !client->has_error && !client->is_ending)
-        trace_message(client->display_resource, true, DISPLAY_DELETE_ID, arguments);
-}
-
-void trace_error(struct wl_resource *resource, uint32_t code, const char *text)
-{
-    union wl_argument arguments[] = { { .o = &resource->object }, { .u = code }, { .s = text } };
-    trace_message(resource->client->display_resource, true, DISPLAY_ERROR, arguments);
-}
-
-void trace_announcement(struct wl_resource *registry, const struct wl_global *global, bool is_removal)
-{
-    union wl_argument arguments[] = { { .u = global->id.name },
-                                      { .s = global->interface->name },
-                                      { .u = global->version } };
-    trace_message(registry, true, is_removal ? REGISTRY_REMOVE : REGISTRY_GLOBAL, arguments);
+        trace_event(client->display_resource, WL_DISPLAY_DELETE_ID, id);
 }
 
 /* ======== What the session answers, and binds */
+
+enum { DISPLAY_SYNC = 0 }; /* a request */
 
 /* The callback has no resource. */
 static void tell_of_sync(struct wl_client *client, uint32_t id)
 {
     struct wl_resource callback = { .object = { &wl_callback_interface, NULL, id }, .client = client, .version = 1 };
-    union wl_argument arguments[] = { { .u = 0 } };
     wl_list_init(&callback.link);
     wl_signal_init(&callback.destroy_signal);
     wl_signal_init(&callback.old_destroy_signal);
-    trace_message(&callback, true, 0, arguments);
+    trace_event(&callback, WL_CALLBACK_DONE, 0);
     trace_delete_id(client, id);
 }
 
@@ -116,7 +109,7 @@ static bool is_news(const nb_told *told, const nb_argument *arguments, const nb_
     if (told->kind != NB_MESSAGE || told->interface > NB_INTERFACE_REGISTRY)
         return false;
     if (told->is_event)
-        return wrong->kind != 0 && told->interface == NB_INTERFACE_DISPLAY && told->opcode == DISPLAY_ERROR;
+        return wrong->kind != 0 && told->interface == NB_INTERFACE_DISPLAY && told->opcode == WL_DISPLAY_ERROR;
     if (told->number != wrong->sender || told->opcode != wrong->opcode)
         return true;
     return wrong->kind != NB_VIOLATION_NULL_NAME &&

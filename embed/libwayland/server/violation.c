@@ -26,16 +26,12 @@ void log_violation(struct wl_client *client)
         return;
     const struct wl_resource *sender = wl_client_get_object(client, it.sender),
                              *found = wl_client_get_object(client, it.number);
-    const struct wl_interface *interface = sender ? sender->object.interface : NULL;
-    const struct wl_message *request = NULL;
-    if (it.interface == NB_INTERFACE_DISPLAY) /* it may have no resource any more */
-        interface = &wl_display_interface;
-    if (interface && it.opcode < (uint32_t)interface->method_count)
-        request = &interface->methods[it.opcode];
-    if (it.kind == NB_VIOLATION_MISSING_BYTES)
-        snprintf(what, sizeof what, texts[it.kind], (int)it.sender);
-    else
-        snprintf(what, sizeof what, texts[it.kind], it.number, found ? found->object.interface->name : "unknown");
+    const bool is_display = it.interface == NB_INTERFACE_DISPLAY; /* which may have no resource any more */
+    const struct wl_interface *interface = is_display ? &wl_display_interface : sender ? sender->object.interface : NULL;
+    const bool is_known = interface && it.opcode < (uint32_t)interface->method_count;
+    const struct wl_message *request = is_known ? &interface->methods[it.opcode] : NULL;
+    snprintf(what, sizeof what, texts[it.kind], it.kind == NB_VIOLATION_MISSING_BYTES ? it.sender : it.number,
+             found ? found->object.interface->name : "unknown");
     log_line("%s, message %s(%s)\n",
              it.kind == NB_VIOLATION_INVALID_NEW_ID && it.number == 0 ? "NULL new ID received on non-nullable type"
                                                                       : what,
