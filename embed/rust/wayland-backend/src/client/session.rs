@@ -10,7 +10,7 @@ use rustix::io::Errno;
 
 use super::leaving::{ByNumber, Leaving};
 use super::reading::Readers;
-use super::unprinted::Unprinted;
+use super::unprinted;
 use super::{DisplayData, Mark, MissingData, ObjectData, ObjectId, WaylandError};
 use crate::data::Slab;
 use crate::library::{
@@ -48,8 +48,8 @@ pub(super) struct Session {
     /// Whether a call was answered that the session has an error. Nothing is received any more.
     has_failed: bool,
     pub(super) readers: Readers,
-    /// What came and is to be printed, if messages are.
-    unprinted: Option<Box<Unprinted>>,
+    /// Whether messages are printed.
+    prints: bool,
 }
 
 /// What ended a connection on this side.
@@ -234,13 +234,10 @@ impl Session {
             fault: None,
             has_failed: false,
             readers: Readers::default(),
-            unprinted: None,
+            prints,
         };
         if prints {
-            let mut unprinted = Box::new(Unprinted::default());
-            unprinted.know(session.display());
-            session.library.keep_bytes();
-            session.unprinted = Some(unprinted);
+            session.library.tell_messages();
         }
         let display = session.library.display();
         let interface = session.table.interface(display.interface);
@@ -406,13 +403,7 @@ impl Session {
         }
         let sent = self.send(message, &request);
         let created = match (sent, interface) {
-            (Ok(created), Some(interface)) if created.number != 0 => {
-                let created = self.id(&created, interface);
-                if let Some(unprinted) = &mut self.unprinted {
-                    unprinted.know(created.clone());
-                }
-                created
-            }
+            (Ok(created), Some(interface)) if created.number != 0 => self.id(&created, interface),
             (sent, _) => {
                 if request.has_data != 0 {
                     self.remove_data(request.data, leftovers);
@@ -484,11 +475,7 @@ impl Session {
         if self.fault.is_some() || self.has_failed {
             return Receipt::NOTHING;
         }
-        let receipt = self.library.receive(socket);
-        if let Some(unprinted) = &mut self.unprinted {
-            self.library.move_bytes(&mut unprinted.bytes);
-        }
-        receipt
+        self.library.receive(socket)
     }
 
     /// The next event. Its arguments are appended to `args`.
@@ -506,23 +493,14 @@ impl Session {
             table,
             data,
             event,
-            unprinted,
+            prints,
             ..
         } = self;
         let next = library.next_event(event, args, |event, argument| {
             argument_id(table, data, event, argument, *mark)
         });
-        if let Some(unprinted) = unprinted {
-            match next {
-                Ok(()) => {
-                    unprinted.print_before(event.sender.number, event.opcode as u16);
-                    if event.created.number != 0 {
-                        let interface = child_interface(table, data, event);
-                        unprinted.know(ObjectId::new(&event.created, interface, *mark));
-                    }
-                }
-                Err(_) => unprinted.print_passed(library),
-            }
+        if *prints {
+            unprinted::print_read(library, table, next.is_ok());
         }
         next?;
         let (receiver, interface) = match data.get(event.data) {

@@ -1,6 +1,6 @@
 //! A client's session.
 
-use std::os::fd::BorrowedFd;
+use std::os::fd::{BorrowedFd, RawFd};
 
 use numbyroga_sys as sys;
 use rustix::io::Errno;
@@ -11,8 +11,9 @@ use super::rows::table_answer;
 use super::transit::{with_transit, Transit};
 use super::{
     answer, done, send_once, take_back, Arguments, Event, Outgoing, RawArgument, RawObjectId,
-    RawObjectInfo, Receipt, Request, Rows, Sent, Status, TableFault, NO_DESCRIPTOR,
+    RawObjectInfo, Receipt, Request, Rows, Sent, Status, TableFault, Told, NO_DESCRIPTOR,
 };
+use crate::protocol::Argument;
 
 /// No limit of a session's buffers is lower.
 #[cfg(feature = "libwayland_client_1_23")]
@@ -53,8 +54,6 @@ pub(crate) struct Client {
     descriptors: usize,
     /// How often something was done that may have given the session an error. To receive and to take events does not count.
     dangers: usize,
-    /// The bytes that came, if they are kept.
-    kept: Option<Vec<u8>>,
 }
 
 impl Client {
@@ -87,20 +86,51 @@ impl Client {
             is_full: false,
             descriptors: 0,
             dangers: 0,
-            kept: None,
         }
     }
 
-    /// The bytes that come from now on are kept, too.
-    pub(crate) fn keep_bytes(&mut self) {
-        self.kept = Some(Vec::new());
+    /// Has [`Client::next_read`] tell what is read. Nothing was received or sent yet.
+    pub(crate) fn tell_messages(&mut self) {
+        done(sys::nb_client_tell_messages(&mut self.place, 1));
     }
 
-    /// Appends those that came since the last time.
-    pub(crate) fn move_bytes(&mut self, to: &mut Vec<u8>) {
-        if let Some(kept) = &mut self.kept {
-            to.append(kept);
+    /// The next event that was read, also one that is handed to nobody, with its arguments: `id` answers an id for an object
+    /// among them, and a descriptor is a number, which may be closed already. An event of an object that is not there is left
+    /// out.
+    pub(crate) fn next_read<Id>(
+        &mut self,
+        mut id: impl FnMut(&Told, &RawArgument) -> Id,
+    ) -> Option<(Told, Vec<Argument<Id, RawFd>>)> {
+        let mut told = Told::default();
+        loop {
+            let Lent {
+                arguments, bytes, ..
+            } = &mut self.lent;
+            // SAFETY: each slice is lent with its own length.
+            let status = unsafe {
+                sys::nb_client_next_told(
+                    &mut self.place,
+                    &mut told,
+                    arguments.as_mut_ptr(),
+                    arguments.len(),
+                    bytes.as_mut_ptr(),
+                    bytes.len(),
+                )
+            };
+            if status == sys::NB_TOO_SMALL {
+                self.lent.grow(told.arguments, told.bytes);
+                continue;
+            }
+            answer(status).ok()?;
+            if told.is_event != 0 && told.kind == sys::NB_MESSAGE {
+                break;
+            }
         }
+        let arguments = self
+            .lent
+            .told(told.arguments, |argument| id(&told, argument));
+        self.lent.shrink();
+        Some((told, arguments))
     }
 
     /// The session may get an error.
@@ -160,7 +190,6 @@ impl Client {
             place,
             inbox,
             descriptors,
-            kept,
             ..
         } = self;
         let arrive = |bytes: &[u8], numbers: &[i32]| {
@@ -175,9 +204,6 @@ impl Client {
                 )
             })?;
             *descriptors += numbers.len();
-            if let Some(kept) = kept {
-                kept.extend_from_slice(bytes);
-            }
             Ok(())
         };
         let (receipt, ending) = with_transit(|transit| {

@@ -204,6 +204,39 @@ impl Lent {
         )
     }
 
+    /// An argument of a message that was written here.
+    #[inline]
+    fn argument<Id, Fd>(
+        &self,
+        flat: &RawArgument,
+        id: impl FnOnce(&RawArgument) -> Id,
+        descriptor: impl FnOnce(i32) -> Fd,
+    ) -> Argument<Id, Fd> {
+        let range = || &self.bytes[flat.at as usize..][..flat.length as usize];
+        match flat.kind {
+            sys::NB_INT => Argument::Int(flat.value),
+            sys::NB_UINT => Argument::Uint(flat.value as u32),
+            sys::NB_FIXED => Argument::Fixed(flat.value),
+            sys::NB_STRING => Argument::Str(Some(Box::new(text(range())))),
+            sys::NB_NULL_STRING => Argument::Str(None),
+            sys::NB_OBJECT => Argument::Object(id(flat)),
+            sys::NB_NEW_ID => Argument::NewId(id(flat)),
+            sys::NB_ARRAY => Argument::Array(Box::new(range().to_vec())),
+            _ => Argument::Fd(descriptor(flat.value)),
+        }
+    }
+
+    /// The arguments of a message that is told. Its descriptors are numbers, which may be closed already.
+    pub(super) fn told<Id>(
+        &self,
+        count: u32,
+        mut id: impl FnMut(&RawArgument) -> Id,
+    ) -> Vec<Argument<Id, RawFd>> {
+        let flats = &self.arguments[..count as usize];
+        let argument = |flat| self.argument(flat, &mut id, |number| number);
+        flats.iter().map(argument).collect()
+    }
+
     /// Appends the arguments of a message that was written here. `id` answers the id for an object and its data, 0 if it has
     /// none. The answer is how many descriptors are among them.
     ///
@@ -217,7 +250,6 @@ impl Lent {
         to: &mut Arguments<Id>,
         mut id: impl FnMut(&RawArgument) -> Id,
     ) -> usize {
-        let range = |flat: &RawArgument| &self.bytes[flat.at as usize..][..flat.length as usize];
         let mut descriptors = 0;
         let flats = &self.arguments[..count as usize];
         let length = to.len();
@@ -227,21 +259,11 @@ impl Lent {
         // SAFETY: the arguments that are there are followed by as much room as was reserved.
         let mut place = unsafe { to.as_mut_ptr().add(length) };
         for flat in flats {
-            let argument = match flat.kind {
-                sys::NB_INT => Argument::Int(flat.value),
-                sys::NB_UINT => Argument::Uint(flat.value as u32),
-                sys::NB_FIXED => Argument::Fixed(flat.value),
-                sys::NB_STRING => Argument::Str(Some(Box::new(text(range(flat))))),
-                sys::NB_NULL_STRING => Argument::Str(None),
-                sys::NB_OBJECT => Argument::Object(id(flat)),
-                sys::NB_NEW_ID => Argument::NewId(id(flat)),
-                sys::NB_ARRAY => Argument::Array(Box::new(range(flat).to_vec())),
-                _ => {
-                    descriptors += 1;
-                    // SAFETY: the session has handed this descriptor out with the message, by the caller's promise.
-                    Argument::Fd(unsafe { take_back(flat.value) })
-                }
-            };
+            let argument = self.argument(flat, &mut id, |number| {
+                descriptors += 1;
+                // SAFETY: the session has handed this descriptor out with the message, by the caller's promise.
+                unsafe { take_back(number) }
+            });
             // SAFETY: room was reserved for all of them.
             unsafe {
                 place.write(argument);

@@ -24,6 +24,7 @@ pub(crate) use sys::{
     nb_action as Action, nb_argument as RawArgument, nb_client_id as RawClientId,
     nb_event as Event, nb_global_id as RawGlobalId, nb_global_info as RawGlobalInfo,
     nb_object_id as RawObjectId, nb_object_info as RawObjectInfo, nb_request as Request,
+    nb_told as Told,
 };
 
 mod client;
