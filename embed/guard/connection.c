@@ -104,26 +104,50 @@ static void look_for_end(struct connection *connection)
     watch_end(connection->seen, &end, is_told ? text_of_breach(connection) : (struct span){ "", 0 });
 }
 
+static bool is_over(const struct connection *connection)
+{
+    return connection->has_ended || connection->ends[NB_CLIENT_SIDE].is_over ||
+           connection->ends[NB_SERVER_SIDE].is_over;
+}
+
+/* Hands some of what a side sent to the guard. */
+static void hand_over(struct end *end, const uint8_t *some, const int32_t *with, struct part part)
+{
+    struct connection *connection = end->connection;
+    watch_bytes(connection->seen, end->side, some, part.length, with, part.count);
+    if (nb_guard_received(&connection->guard, connection->policy, end->side, some, part.length, with, part.count) !=
+        NB_OK) {
+        close_all(with, part.count);
+        end->is_over = true;
+    }
+    look_for_end(connection);
+    if (!is_over(connection))
+        watch_passed(connection->seen, end->side);
+}
+
 /* Hands what a side sent to the guard. */
 static void receive(struct end *end)
 {
     struct connection *connection = end->connection;
-    size_t count;
-    const ssize_t came = socket_receive(end->socket, bytes, sizeof bytes, descriptors, &count);
+    struct part left = { 0, 0 }, part;
+    int32_t came_with[NB_MOST_DESCRIPTORS]; /* what is sent to the client as it ends takes the place of the others */
+    const ssize_t came = socket_receive(end->socket, bytes, sizeof bytes, came_with, &left.count);
     if (came == -EAGAIN)
         return;
     if (came <= 0) {
         end->is_over = true;
         return;
     }
-    watch_bytes(connection->seen, end->side, bytes, (size_t)came);
-    const nb_status status =
-        nb_guard_received(&connection->guard, connection->policy, end->side, bytes, (size_t)came, descriptors, count);
-    if (status != NB_OK) {
-        close_all(descriptors, count);
-        end->is_over = true;
+    left.length = (size_t)came;
+    const uint8_t *at = bytes;
+    const int32_t *with = came_with;
+    for (; left.length + left.count > 0 && !is_over(connection); left.length -= part.length, left.count -= part.count) {
+        part = watch_part(connection->seen, end->side, at, left);
+        hand_over(end, at, with, part);
+        at += part.length;
+        with += part.count;
     }
-    look_for_end(connection);
+    close_all(with, left.count); /* they came behind the end */
     close_released(connection);
 }
 
@@ -132,12 +156,6 @@ static void receive(struct end *end)
 static struct end *other_of(struct end *end)
 {
     return &end->connection->ends[end->side == NB_CLIENT_SIDE ? NB_SERVER_SIDE : NB_CLIENT_SIDE];
-}
-
-static bool is_over(const struct connection *connection)
-{
-    return connection->has_ended || connection->ends[NB_CLIENT_SIDE].is_over ||
-           connection->ends[NB_SERVER_SIDE].is_over;
 }
 
 static bool may_read(struct end *end)

@@ -35,6 +35,8 @@ void table_begin(struct table *table);
  * which is said, too. */
 bool table_read(struct table *table, const char *file);
 struct span table_name(const nb_table *table, size_t place);
+/* The number of an interface; 0 if there is none of the name. */
+uint32_t table_number(const nb_table *table, struct span name);
 bool table_has(const nb_table *table, struct span name);
 void table_end(struct table *table);
 
@@ -48,24 +50,53 @@ bool policy_of_all(nb_policy *policy, const nb_table *table);
 
 /* Up to which version an interface of this name is allowed; 0 if it is not. */
 uint32_t policy_version(struct span name);
-/* Frees what policy_version looks at. */
+/* Whether this request of this interface is ignored. */
+bool policy_ignores(struct span interface, struct span request);
+/* Frees what these look at. */
 void policy_forget(void);
+
+/* ======== lines.c */
+
+/* What lines of messages need to know of a connection. */
+struct lines;
+
+/* Begins with a connection on which nothing was said. `table` lives longer. */
+struct lines *lines_new(const nb_table *table);
+void lines_free(struct lines *lines);
+/* How many descriptors a message of a side has, of which at least the header is there. */
+size_t lines_descriptors(struct lines *lines, uint32_t side, const uint8_t *bytes);
+/* Writes the line of a message that the guard has passed, with these descriptors. */
+void lines_put(struct lines *lines, uint32_t side, const uint8_t *bytes, const int32_t *descriptors, FILE *to);
 
 /* ======== watch.c */
 
-/* What a connection is seen to say of globals. It decides nothing. */
+/* What a connection is seen to say. It decides nothing. */
 struct watch;
 
 /* Begins to see a connection. `table` lives longer. */
 struct watch *watch_new(unsigned number, const nb_table *table);
-/* These bytes came from a side, and go into the guard. */
-void watch_bytes(struct watch *watch, uint32_t side, const uint8_t *bytes, size_t length);
+/* Some of what came from a side. */
+struct part {
+    size_t length, count; /* bytes, and descriptors */
+};
+/* How much of these bytes and descriptors is to go into the guard at once: all, unless each message is logged. Then it
+ * is one message, or the descriptors that one awaits, so that it is known which messages the guard passes. In these
+ * parts the guard decides as if all had come at once: none has a descriptor before its message needs it, but the last
+ * one. */
+struct part watch_part(const struct watch *watch, uint32_t side, const uint8_t *bytes, struct part came);
+/* These bytes, with these descriptors, go into the guard. */
+void watch_bytes(struct watch *watch, uint32_t side, const uint8_t *bytes, size_t length, const int32_t *descriptors,
+                 size_t count);
+/* They have, and the connection has not ended. */
+void watch_passed(struct watch *watch, uint32_t side);
 /* The connection has ended so, with this text for the client, which may be empty. */
 void watch_end(struct watch *watch, const nb_end *end, struct span text);
 void watch_free(struct watch *watch);
 
 /* Opens the file for what is seen. False if it cannot be opened, which is said. */
 bool log_open(const char *name);
+/* The file is told each message, too. False if there is none. */
+bool log_messages(void);
 /* Keeps in mind what is seen, for print_what. */
 void keep_what(void);
 /* Prints the policy that what was bound needs. */

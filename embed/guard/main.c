@@ -1,10 +1,11 @@
 /* numbyroga-guard: a guard between Wayland clients and their compositor. docs/GUARD.md says what it is for.
  *
- *   numbyroga-guard [-p POLICY] [-l LOG] [-x FILE.xml]... [-a APP_ID [-e ENGINE]] [-s SOCKET] [-- PROGRAM ..]
- *   numbyroga-guard --what [-l LOG] [-x FILE.xml]... -- PROGRAM ..
+ *   numbyroga-guard [-p POLICY] [-l LOG [-m]] [-x FILE.xml]... [-a APP_ID [-e ENGINE]] [-s SOCKET] [-- PROGRAM ..]
+ *   numbyroga-guard --what [-l LOG [-m]] [-x FILE.xml]... -- PROGRAM ..
  *
  *   -p POLICY    a file of rules (policy.c), or the name of one that comes with it; 'toolkit' without it
  *   -l LOG       a file that is told which globals clients see and bind, and which of them are refused
+ *   -m           the log is told each message, too
  *   -x FILE.xml  a protocol file whose interfaces the table lacks
  *   -s SOCKET    a path, or a name in $XDG_RUNTIME_DIR, to listen at; without it, one of its own
  *   -a APP_ID    the compositor is told, if it takes that, that its clients are this sandboxed application
@@ -29,7 +30,7 @@ enum { NOT_STARTED = 2, NOT_FOUND = 127 };
 /* What was asked for. */
 struct options {
     const char *policy, *socket, *application, *engine;
-    bool says_what;
+    bool says_what, has_messages;
     char **program; /* NULL without one */
 };
 
@@ -48,9 +49,10 @@ struct signals {
 
 static int usage(void)
 {
-    fprintf(stderr, "usage: numbyroga-guard [-p POLICY] [-l LOG] [-x FILE.xml]... [-a APP_ID [-e ENGINE]] [-s SOCKET]\n"
-                    "                       [-- PROGRAM [ARGUMENT]...]\n"
-                    "       numbyroga-guard --what [-l LOG] [-x FILE.xml]... -- PROGRAM [ARGUMENT]...\n");
+    fprintf(stderr,
+            "usage: numbyroga-guard [-p POLICY] [-l LOG [-m]] [-x FILE.xml]... [-a APP_ID [-e ENGINE]] [-s SOCKET]\n"
+            "                       [-- PROGRAM [ARGUMENT]...]\n"
+            "       numbyroga-guard --what [-l LOG [-m]] [-x FILE.xml]... -- PROGRAM [ARGUMENT]...\n");
     return NOT_STARTED;
 }
 
@@ -59,13 +61,14 @@ static bool read_options(int argc, char **argv, struct options *options, struct 
 {
     static const struct option words[] = { { "what", no_argument, NULL, 'w' }, { NULL, 0, NULL, 0 } };
     int option;
-    while ((option = getopt_long(argc, argv, "+p:l:x:s:a:e:", words, NULL)) != -1)
+    while ((option = getopt_long(argc, argv, "+p:l:mx:s:a:e:", words, NULL)) != -1)
         switch (option) {
         case 'p': options->policy = optarg; break;
         case 's': options->socket = optarg; break;
         case 'a': options->application = optarg; break;
         case 'e': options->engine = optarg; break;
         case 'w': options->says_what = true; break;
+        case 'm': options->has_messages = true; break;
         case 'l':
             if (!log_open(optarg))
                 return false;
@@ -77,7 +80,7 @@ static bool read_options(int argc, char **argv, struct options *options, struct 
         default: usage(); return false;
         }
     options->program = optind < argc ? argv + optind : NULL;
-    if (options->program || (options->socket && !options->says_what))
+    if ((options->program || (options->socket && !options->says_what)) && (!options->has_messages || log_messages()))
         return true;
     usage();
     return false;

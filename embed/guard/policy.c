@@ -33,6 +33,10 @@ static struct allowed {
 } * all_allowed;
 static size_t allowed_count;
 
+/* The words of those rules that ignore: INTERFACE.REQUEST. */
+static char **all_ignored;
+static size_t ignored_count;
+
 uint32_t policy_version(struct span name)
 {
     for (size_t i = allowed_count; i-- > 0;)
@@ -41,12 +45,27 @@ uint32_t policy_version(struct span name)
     return 0;
 }
 
+bool policy_ignores(struct span interface, struct span request)
+{
+    for (size_t i = 0; i < ignored_count; i++) {
+        const size_t length = strcspn(all_ignored[i], ".");
+        if (length == interface.length && memcmp(all_ignored[i], interface.at, length) == 0 &&
+            span_is(request, all_ignored[i] + length + 1))
+            return true;
+    }
+    return false;
+}
+
 void policy_forget(void)
 {
     while (allowed_count > 0)
         free(all_allowed[--allowed_count].name);
+    while (ignored_count > 0)
+        free(all_ignored[--ignored_count]);
     free(all_allowed);
+    free(all_ignored);
     all_allowed = NULL;
+    all_ignored = NULL;
 }
 
 static nb_status allow(nb_policy *policy, struct span name, uint32_t version)
@@ -135,10 +154,16 @@ static bool take_request(const struct reading *reading, nb_policy *policy)
         return refuse(reading, both, "it is no INTERFACE.REQUEST");
     const uint8_t *interface = (const uint8_t *)both.at, *request = (const uint8_t *)point + 1;
     const size_t length = (size_t)(point - both.at), rest = both.length - length - 1;
-    const nb_status status = span_is(reading->words[0], "ignore")
-                                 ? nb_policy_ignore(policy, interface, length, request, rest)
-                                 : nb_policy_refuse(policy, interface, length, request, rest);
-    return status == NB_OK || refuse(reading, both, reason_of(status));
+    const bool ignores = span_is(reading->words[0], "ignore");
+    const nb_status status = ignores ? nb_policy_ignore(policy, interface, length, request, rest)
+                                     : nb_policy_refuse(policy, interface, length, request, rest);
+    if (status != NB_OK)
+        return refuse(reading, both, reason_of(status));
+    if (ignores) {
+        all_ignored = checked(realloc(all_ignored, (ignored_count + 1) * sizeof *all_ignored));
+        all_ignored[ignored_count++] = checked(strndup(both.at, both.length));
+    }
+    return true;
 }
 
 /* Takes a rule, whose limits were taken before if there is a policy. */

@@ -96,8 +96,7 @@ struct span table_name(const nb_table *table, size_t place)
     return (struct span){ (const char *)table->text + row->name_at, row->name_length };
 }
 
-/* The number of an interface; 0 if there is none of the name. */
-static uint32_t number_of(const nb_table *table, struct span name)
+uint32_t table_number(const nb_table *table, struct span name)
 {
     static const char *const fixed[] = { "wl_display", "wl_registry", "wl_callback" };
     for (uint32_t i = 0; i < 3; i++)
@@ -113,7 +112,7 @@ static uint32_t number_of(const nb_table *table, struct span name)
 
 bool table_has(const nb_table *table, struct span name)
 {
-    return number_of(table, name) != 0;
+    return table_number(table, name) != 0;
 }
 
 /* Appends the name to the text. Returns where it begins. */
@@ -202,7 +201,7 @@ static bool add_argument(nb_table *rows, const struct source *source, const stru
     if (row.kind == 8)
         return refuse(source, message, "an argument has no type");
     if (row.kind == NB_OBJECT || row.kind == NB_NEW_ID)
-        row.interface = number_of(rows, tag->attributes[INTERFACE]);
+        row.interface = table_number(rows, tag->attributes[INTERFACE]);
     if (row.kind == NB_NEW_ID && row.interface == 0)
         return refuse(source, message, "it makes an object of an interface that the table does not have");
     nb_argument_row *arguments = grown(rows->arguments, rows->argument_count, 1, sizeof row);
@@ -259,7 +258,7 @@ static size_t add_interfaces(nb_table *rows, const struct source *source)
         const struct span name = tag->attributes[NAME];
         if (!span_is(tag->name, "interface"))
             continue;
-        if (name.length == 0 || number_of(rows, name) != 0) {
+        if (name.length == 0 || table_number(rows, name) != 0) {
             refuse(source, name, "the table has this interface already");
             tag->attributes[NAME].length = 0;
             continue;

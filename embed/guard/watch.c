@@ -1,5 +1,5 @@
-/* What is seen of globals: for the log, and for --what. It decides nothing, and reads no more than it has to: the
- * numbers of registries, announcements and binds. */
+/* What is seen of a connection: for the log, and for --what. It decides nothing, and reads no more than it has to: the
+ * numbers of registries, announcements and binds; and what lines.c reads, if each message is logged. */
 #define _GNU_SOURCE
 #include "guard.h"
 #include <errno.h>
@@ -9,10 +9,13 @@
 /* MOST_SEEN: more interfaces than any server has. */
 enum { HEADER = 8, MOST_SEEN = 4096 };
 
-/* A message that is not whole yet. */
+/* What is not read yet: a message that is not whole; where each one is logged, also those that the guard has not
+ * passed, since they await a descriptor. */
 struct stream {
     uint8_t *bytes;
-    size_t length;
+    size_t length, seen; /* the messages of the first `seen` bytes are whole, and were looked at for globals */
+    int32_t *descriptors;
+    size_t count;
     bool is_broken;
 };
 
@@ -22,6 +25,7 @@ struct watch {
     struct stream streams[2];
     uint32_t *registries; /* the guard's limit of objects bounds them: none of them ever ends */
     size_t registry_count, registry_room;
+    struct lines *lines; /* NULL if no message is logged */
 };
 
 /* An interface that was announced, and up to which version it was bound. */
@@ -31,7 +35,7 @@ struct seen {
 };
 
 static FILE *log_file;
-static bool keeps;
+static bool keeps, has_messages;
 static struct seen *all_seen;
 static size_t seen_count;
 
@@ -46,6 +50,12 @@ bool log_open(const char *name)
     return true;
 }
 
+bool log_messages(void)
+{
+    has_messages = true;
+    return log_file != NULL;
+}
+
 void keep_what(void)
 {
     keeps = true;
@@ -58,6 +68,7 @@ struct watch *watch_new(unsigned number, const nb_table *table)
     struct watch *watch = checked(calloc(1, sizeof *watch));
     watch->number = number;
     watch->table = table;
+    watch->lines = log_file && has_messages ? lines_new(table) : NULL;
     return watch;
 }
 
@@ -65,9 +76,12 @@ void watch_free(struct watch *watch)
 {
     if (!watch)
         return;
-    free(watch->streams[0].bytes);
-    free(watch->streams[1].bytes);
+    for (size_t side = 0; side < 2; side++) {
+        free(watch->streams[side].bytes);
+        free(watch->streams[side].descriptors);
+    }
     free(watch->registries);
+    lines_free(watch->lines);
     free(watch);
 }
 
@@ -171,25 +185,93 @@ static void see_message(struct watch *watch, uint32_t side, const uint8_t *messa
         see_global(watch, side == NB_CLIENT_SIDE, name, version);
 }
 
-void watch_bytes(struct watch *watch, uint32_t side, const uint8_t *bytes, size_t length)
+/* How many descriptors the message lacks that stands in front in the stream, or behind these first bytes of it. */
+static size_t lacks(const struct watch *watch, uint32_t side, const uint8_t *message)
+{
+    const size_t needed = lines_descriptors(watch->lines, side, message), there = watch->streams[side].count;
+    return needed > there ? needed - there : 0;
+}
+
+struct part watch_part(const struct watch *watch, uint32_t side, const uint8_t *bytes, struct part came)
+{
+    if (!watch || !watch->lines || watch->streams[side].is_broken)
+        return came;
+    const struct stream *stream = &watch->streams[side];
+    uint8_t header[HEADER];
+    if (stream->seen > 0) { /* a whole message awaits descriptors, and all others wait behind it */
+        const size_t lacking = lacks(watch, side, stream->bytes);
+        return came.count == 0 || lacking == 0 ? came : (struct part){ 0, lacking < came.count ? lacking : came.count };
+    }
+    if (stream->length + came.length < HEADER)
+        return came;
+    for (size_t i = 0; i < HEADER; i++)
+        header[i] = i < stream->length ? stream->bytes[i] : bytes[i - stream->length];
+    const size_t size = word_at(header + 4) >> 16, lacking = lacks(watch, side, header);
+    if (size < HEADER || size >= stream->length + came.length)
+        return came;
+    return (struct part){ size - stream->length, lacking < came.count ? lacking : came.count };
+}
+
+/* Takes the first bytes and descriptors off. */
+static void drop(struct stream *stream, size_t length, size_t count)
+{
+    stream->length -= length;
+    stream->seen -= length;
+    stream->count -= count;
+    memmove(stream->bytes, stream->bytes + length, stream->length);
+    memmove(stream->descriptors, stream->descriptors + count, stream->count * sizeof *stream->descriptors);
+}
+
+static void append(struct stream *stream, const uint8_t *bytes, size_t length, const int32_t *descriptors, size_t count)
+{
+    stream->bytes = checked(realloc(stream->bytes, stream->length + length));
+    memcpy(stream->bytes + stream->length, bytes, length);
+    stream->length += length;
+    stream->descriptors =
+        checked(realloc(stream->descriptors, (stream->count + count + 1) * sizeof *stream->descriptors));
+    if (count > 0)
+        memcpy(stream->descriptors + stream->count, descriptors, count * sizeof *descriptors);
+    stream->count += count;
+}
+
+void watch_bytes(struct watch *watch, uint32_t side, const uint8_t *bytes, size_t length, const int32_t *descriptors,
+                 size_t count)
 {
     if (!watch || watch->streams[side].is_broken)
         return;
     struct stream *stream = &watch->streams[side];
-    size_t at = 0;
-    stream->bytes = checked(realloc(stream->bytes, stream->length + length));
-    memcpy(stream->bytes + stream->length, bytes, length);
-    stream->length += length;
-    while (stream->length - at >= HEADER) {
-        const size_t size = word_at(stream->bytes + at + 4) >> 16;
+    append(stream, bytes, length, descriptors, watch->lines ? count : 0);
+    while (stream->length - stream->seen >= HEADER) {
+        const size_t size = word_at(stream->bytes + stream->seen + 4) >> 16;
         stream->is_broken = size < HEADER;
-        if (stream->is_broken || stream->length - at < size)
+        if (stream->is_broken || stream->length - stream->seen < size)
             break;
-        see_message(watch, side, stream->bytes + at, size);
-        at += size;
+        see_message(watch, side, stream->bytes + stream->seen, size);
+        stream->seen += size;
     }
-    stream->length -= at;
-    memmove(stream->bytes, stream->bytes + at, stream->length);
+    if (!watch->lines)
+        drop(stream, stream->seen, 0);
+}
+
+/* Logs the messages that are there with their descriptors, up to the one that broke a rule, if `end` is not NULL. */
+static void log_passed(struct watch *watch, uint32_t side, const nb_end *end)
+{
+    struct stream *stream = &watch->streams[side];
+    while (stream->seen > 0) {
+        const size_t count = lines_descriptors(watch->lines, side, stream->bytes);
+        if (count > stream->count ||
+            (end && word_at(stream->bytes) == end->object && (word_at(stream->bytes + 4) & 0xffff) == end->opcode))
+            return;
+        fprintf(log_file, "%u: ", watch->number);
+        lines_put(watch->lines, side, stream->bytes, stream->descriptors, log_file);
+        drop(stream, word_at(stream->bytes + 4) >> 16, count);
+    }
+}
+
+void watch_passed(struct watch *watch, uint32_t side)
+{
+    if (watch && watch->lines)
+        log_passed(watch, side, NULL);
 }
 
 /* ======== What is told */
@@ -212,6 +294,8 @@ void watch_end(struct watch *watch, const nb_end *end, struct span text)
 {
     if (!watch || !log_file)
         return;
+    if (watch->lines && end->reason != NB_END_OUT_OF_MEMORY)
+        log_passed(watch, end->side, end);
     const char *reason = end->reason < sizeof reasons / sizeof reasons[0] ? reasons[end->reason] : "?";
     fprintf(log_file, "%u: [refused: %s] ", watch->number, reason);
     if (text.length > 0)

@@ -136,6 +136,56 @@ def said_on(connections, policy, files):
     return {"binds": binds, "made": made, "frames": frames}
 
 
+def text_of(argument, body, at, objects):
+    """An argument as libwayland prints it, where the next one stands, and the last string or number, for binds and delete_id."""
+    kind, interface = argument
+    if kind == "fd":
+        return "fd N", at, None
+    number = struct.unpack_from("=I", body, at)[0]
+    signed = number - (number >> 31 << 32)
+    if kind in ("string", "array"):
+        data, end = body[at + 4:at + 4 + number], at + 4 + (number + 3) // 4 * 4
+        if kind == "array":
+            return f"array[{number}]", end, None
+        if number == 0:
+            return "nil", end, None
+        return '"' + "".join(chr(it) if 32 <= it <= 126 else f"\\x{it:02x}" for it in data[:-1]) + '"', end, data[:-1].decode(errors="replace")
+    texts = {"int": str(signed), "uint": str(number), "fixed": f"{'-' if signed < 0 else ''}{abs(signed) // 256}.{abs(signed) % 256 * 390625:08}",
+             "object": f"{objects.get(number, '[unknown]')}@{number}" if number else "nil", "new_id": f"new id {interface or '[unknown]'}@{number}"}
+    return texts[kind], at + 4, number
+
+
+def lines_on(kept, files):
+    """What was said on a connection, as libwayland before 1.23 prints it: the lines of the requests, and those of the events. A descriptor is
+    `fd N`."""
+    table = rows(files)
+    objects, lines, left = {1: "wl_display"}, [[], []], [b"", b""]
+    for is_event, data in kept:
+        data = left[is_event] + data
+        while len(data) >= 8 and len(data) >= struct.unpack_from("=I", data, 4)[0] >> 16:
+            sender, rest = struct.unpack_from("=II", data)
+            body, data, at = data[8:rest >> 16], data[rest >> 16:], 0
+            messages = table.get(objects.get(sender), ([], []))[is_event]
+            if (rest & 0xFFFF) >= len(messages):
+                lines[is_event].append(f"object {sender} has no message {rest & 0xFFFF}")
+                continue
+            name, arguments = messages[rest & 0xFFFF]
+            if name == "bind" and objects[sender] == "wl_registry":
+                arguments = [("uint", None), ("string", None), ("uint", None), ("new_id", None)]
+            texts, values, line = [], [], f"{objects[sender]}@{sender}.{name}"
+            for it in arguments:
+                text, at, value = text_of(it, body, at, objects)
+                texts.append(text)
+                values.append(value)
+                if it[0] == "new_id":
+                    objects[value] = it[1] or values[1]
+            if sender == 1 and name == "delete_id":
+                objects.pop(values[0], None)
+            lines[is_event].append(f"{line}({', '.join(texts)})")
+        left[is_event] = data
+    return lines
+
+
 def faults(kept, policy, files):
     """What is wrong with what went to the compositor on one connection, and how many requests there were."""
     table = rows(files)
