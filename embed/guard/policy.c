@@ -3,7 +3,7 @@
  *   allow INTERFACE VERSION       the client is told of such globals, and may bind them, up to this version
  *   refuse INTERFACE.REQUEST      this request ends the connection
  *   ignore INTERFACE.REQUEST      this request is dropped, and its descriptors are closed
- *   limit objects NUMBER          each side may give so many numbers to objects; 10000 without it
+ *   limit objects NUMBER          each side gives objects the numbers below this one, from its first; 10000 without it
  *   limit globals NUMBER          so many numbers of globals are remembered; 1000 without it
  *
  * A # begins a comment. The rule of a later line takes the place of an earlier one of the same interface. */
