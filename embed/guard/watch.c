@@ -16,7 +16,7 @@ struct stream {
     size_t length, seen; /* the messages of the first `seen` bytes are whole, and were looked at for globals */
     int32_t *descriptors;
     size_t count;
-    bool is_broken;
+    bool is_broken; /* what stands behind `seen` is no message */
 };
 
 struct watch {
@@ -194,7 +194,7 @@ static size_t lacks(const struct watch *watch, uint32_t side, const uint8_t *mes
 
 struct part watch_part(const struct watch *watch, uint32_t side, const uint8_t *bytes, struct part came)
 {
-    if (!watch || !watch->lines || watch->streams[side].is_broken)
+    if (!watch || !watch->lines)
         return came;
     const struct stream *stream = &watch->streams[side];
     uint8_t header[HEADER];
@@ -202,7 +202,7 @@ struct part watch_part(const struct watch *watch, uint32_t side, const uint8_t *
         const size_t lacking = lacks(watch, side, stream->bytes);
         return came.count == 0 || lacking == 0 ? came : (struct part){ 0, lacking < came.count ? lacking : came.count };
     }
-    if (stream->length + came.length < HEADER)
+    if (stream->is_broken || stream->length + came.length < HEADER)
         return came;
     for (size_t i = 0; i < HEADER; i++)
         header[i] = i < stream->length ? stream->bytes[i] : bytes[i - stream->length];
@@ -237,11 +237,11 @@ static void append(struct stream *stream, const uint8_t *bytes, size_t length, c
 void watch_bytes(struct watch *watch, uint32_t side, const uint8_t *bytes, size_t length, const int32_t *descriptors,
                  size_t count)
 {
-    if (!watch || watch->streams[side].is_broken)
+    if (!watch || (watch->streams[side].is_broken && !watch->lines))
         return;
     struct stream *stream = &watch->streams[side];
     append(stream, bytes, length, descriptors, watch->lines ? count : 0);
-    while (stream->length - stream->seen >= HEADER) {
+    while (!stream->is_broken && stream->length - stream->seen >= HEADER) {
         const size_t size = word_at(stream->bytes + stream->seen + 4) >> 16;
         stream->is_broken = size < HEADER;
         if (stream->is_broken || stream->length - stream->seen < size)
