@@ -138,6 +138,20 @@ class Peer:
         self.descriptors = []
 
 
+def connected(path):
+    """A client of who listens there, once it does: a socket that is there may not listen yet."""
+    client = socket.socket(socket.AF_UNIX)
+    end = time.monotonic() + WAIT
+    while True:
+        try:
+            client.connect(path)
+            return Peer(client)
+        except (ConnectionRefusedError, FileNotFoundError):
+            if time.monotonic() > end:
+                raise
+            time.sleep(0.01)
+
+
 # ---- the guard and its compositor
 
 
@@ -235,16 +249,7 @@ class Guard:
             time.sleep(0.01)
 
     def connect(self):
-        connected = socket.socket(socket.AF_UNIX)
-        end = time.monotonic() + WAIT
-        while True:
-            try:
-                connected.connect(self.path)
-                return Peer(connected)
-            except (ConnectionRefusedError, FileNotFoundError):
-                if time.monotonic() > end:
-                    raise
-                time.sleep(0.01)
+        return connected(self.path)
 
     def descriptors(self):
         """How many descriptors it has open."""
