@@ -505,6 +505,26 @@ typedef struct {
     uint32_t is_last;   /* whether no more is told of the side that sent it (0 or 1) */
 } nb_told;
 
+enum { NB_PLAIN_RUN = 0, NB_DELETES_ID = 1, NB_PASSED_OVER = 2, NB_LACKS_DESCRIPTORS = 3 };
+
+/* Messages that came and that a client's session is to have together: 44 bytes. */
+typedef struct {
+    uint32_t bytes;       /* how many of the bytes they are: hand these to nb_client_received, */
+    uint32_t descriptors; /* with so many of the descriptors */
+    uint32_t skipped;     /* how many bytes behind them are a message that the session is not to have */
+    uint32_t kind;        /* what is to be known of the message that is last, or skipped. NB_PLAIN_RUN: nothing; what
+                             follows is 0. NB_DELETES_ID: it is wl_display.delete_id. NB_PASSED_OVER: no event comes of
+                             it, since its sender is no object, or one that you destroyed. NB_LACKS_DESCRIPTORS: it
+                             stands behind them, and too few descriptors came for it */
+    uint32_t sender;      /* the number of the object that sent it */
+    uint32_t interface;   /* that object's; 0 if there is none */
+    uint32_t opcode;
+    uint32_t size;      /* how many bytes it has */
+    uint32_t needed;    /* how many descriptors it brings; 0 if that is not known */
+    uint32_t may_bring; /* of NB_PASSED_OVER: whether some event of the interface brings descriptors (0 or 1) */
+    uint32_t number;    /* of NB_DELETES_ID: the id */
+} nb_run;
+
 /* A client that is gone: 32 bytes. `data` is the client's; `waiting` is what is still to be sent. */
 typedef struct {
     nb_client_id client;
@@ -765,6 +785,13 @@ nb_status nb_server_finish_request_with(nb_server *place, const nb_client_id *cl
  * NB_WRONG_KIND (it is a request; it is still open). */
 nb_status nb_server_finish_bind(nb_server *place, const nb_client_id *client, uint64_t data, uint32_t *is_kept);
 
+/* Finishes the open action, whatever it is: pass it as nb_server_next_action wrote it. An object that it made gets the
+ * data 0. For a host that gives its objects data later, as by nb_server_claim_object.
+ *
+ * This is nb_server_finish_bind for a bind or a registry, nb_server_finish_request_with for a request that made an
+ * object, and nb_server_finish_request for any other. Statuses: those of that call. */
+nb_status nb_server_finish_action(nb_server *place, const nb_client_id *client, const nb_action *action);
+
 /* Sends an event of an object: it waits until the host sends it. Strings and arrays are ranges of `bytes`; ranges may
  * overlap. An event that is a destructor ends its sender. To a client that was killed nothing is sent, and the event is
  * not checked beyond NB_INVALID_INPUT: the answer is NB_OK.
@@ -835,6 +862,21 @@ nb_status nb_server_create_object(nb_server *place, const nb_client_id *client, 
  * NB_SERIALS_EXHAUSTED; NB_NOT_FREE (or the number is not one of the client's own); NB_OUT_OF_MEMORY. */
 nb_status nb_server_create_object_at(nb_server *place, const nb_client_id *client, uint32_t interface, uint32_t version,
                                      uint32_t number, uint32_t has_data, uint64_t data, nb_object_id *object);
+
+/* Finds or makes the object that is to stand for something of the host's, as a wl_resource of libwayland is one, and
+ * gives it the version and the data:
+ *
+ *   - With the number 0 it is a new object of the server, as by nb_server_create_object.
+ *   - Else it is the client's object with this number, if that is of the interface and has no data, or 0: a request has
+ *     made it, and was finished with the data 0. It gets the version, as by nb_server_set_object_version.
+ *   - Else it is a new object at the number, as by nb_server_create_object_at.
+ *
+ * Statuses: NB_INVALID_ID (the client is not there). Of a new object: NB_UNKNOWN_INTERFACE; NB_IDS_EXHAUSTED (with the
+ * number 0); NB_SERIALS_EXHAUSTED; NB_NOT_FREE (with another one: it holds an object that has data or is of another
+ * interface, or it is not free, or none of the client's own); NB_OUT_OF_MEMORY. Of one that is there:
+ * NB_VERSION_TOO_HIGH. After an error nothing is changed. */
+nb_status nb_server_claim_object(nb_server *place, const nb_client_id *client, uint32_t interface, uint32_t version,
+                                 uint32_t number, uint64_t data, nb_object_id *object);
 
 /* Sets an object's version. From then on the requests of that version are served, and an object that a request of this
  * one makes gets it, too. Statuses: NB_INVALID_ID; NB_VERSION_TOO_HIGH (it is above that of the object's interface in the
@@ -1066,10 +1108,6 @@ nb_status nb_client_join_interface(nb_client *place, const uint8_t *text, size_t
                                    const nb_argument_row *arguments, size_t argument_count, uint32_t *number,
                                    nb_extension_fault *fault);
 
-/* Writes how many descriptors an event brings: the one of this opcode, of the interface with this number. Statuses:
- * NB_UNKNOWN_INTERFACE; NB_UNKNOWN_OPCODE. */
-nb_status nb_client_event_descriptors(nb_client *place, uint32_t interface, uint32_t opcode, uint32_t *count);
-
 /* Writes 1 if malloc refused in the last call that asked the core, as nb_server_memory_refused, and else 0. It says nothing
  * of the text for a null that nb_client_next_event refused (nb_client_refuse_nulls). */
 nb_status nb_client_memory_refused(nb_client *place, uint32_t *is_refused);
@@ -1117,6 +1155,20 @@ nb_status nb_client_display(nb_client *place, nb_object_id *display);
  * NB_OUT_OF_MEMORY. */
 nb_status nb_client_received(nb_client *place, const uint8_t *bytes, size_t length, const int32_t *descriptors,
                              size_t count);
+
+/* Which messages at the front of what came the session is to have together, for a host that wants to know what no event
+ * tells. With the bytes so many descriptors came. They are as many as there are whole, up to the first one that makes or
+ * ends an object or comes from the display: so of each the sender is known before it is read. The run ends, too, behind a
+ * message of which no event comes, before one for which too few descriptors came, before a 29th descriptor, and behind
+ * 512 messages. A message that counts less than its header takes all that came.
+ *
+ * A message that deletes an id of the server's, which would end the session, is skipped, and so is one of which no event
+ * comes and for which too few descriptors came: the session would wait for them.
+ *
+ * Hand the run in, take its events out, pass over what is skipped, and ask again for what is left, as long as `bytes` and
+ * `skipped` are not both 0. Then there is no whole message left, or it lacks descriptors. Nothing is changed. The session
+ * is meant to pass over unknown senders (nb_client_pass_over_unknown_senders). */
+nb_status nb_client_next_run(nb_client *place, const uint8_t *bytes, size_t length, uint32_t descriptors, nb_run *run);
 
 /* recvmsg answered 0: the server has closed the connection. The reading that gets to it answers NB_FAILED. */
 nb_status nb_client_received_end(nb_client *place);
@@ -1222,6 +1274,11 @@ nb_status nb_client_set_object_data(nb_client *place, const nb_object_id *object
 /* Destroys an object on the client's side, without a request. Statuses: NB_INVALID_ID (also of the display, and of one
  * that was destroyed); NB_OUT_OF_MEMORY. */
 nb_status nb_client_destroy_object(nb_client *place, const nb_object_id *object);
+
+/* Gives an object up for good: it is destroyed, if it was not, and no note tells of that; its data are 0 from then on; and
+ * if the server had deleted its id its number is free, as by nb_client_reclaim. Statuses: NB_INVALID_ID (also of the
+ * display); NB_OUT_OF_MEMORY. */
+nb_status nb_client_give_up_object(nb_client *place, const nb_object_id *object);
 
 /* Takes an object out that both sides have given up: the client has destroyed it, by nb_client_destroy_object, by a
  * request or by an event, and the server deleted its id (wl_display.delete_id) before that. Its number can be used
@@ -1341,7 +1398,8 @@ nb_status nb_readers_ended(const nb_readers *readers, uint64_t *ended);
  * libwayland-client these are wl_event_queue and the references of proxies. The queues stand beside the session: they
  * know no messages, and make no call of it.
  *
- *   1. Add each object of the program by nb_queues_add. It has a *slot*, by which you find what you keep of it.
+ *   1. Add each object of the program by nb_queues_add. It has a *slot*, by which you name it in the calls below. Its
+ *      content is a number of yours, often a pointer to what you keep of it.
  *   2. Put each event that the session handed out by nb_queues_put, once you have made of it what you need. Its content
  *      is a number of yours, often a pointer to that. It waits in the queue that its sender has then.
  *   3. To dispatch a queue, call nb_queues_next_of until it answers NB_WOULD_BLOCK. An event whose outcome is NB_HANDED
@@ -1351,8 +1409,8 @@ nb_status nb_readers_ended(const nb_readers *readers, uint64_t *ended);
  *   4. An event with another outcome is dropped: it is yours at once, and no listener is called. Close its descriptors,
  *      and destroy the object that it made, unless an event of another queue has told the program of it.
  *   5. After nb_queues_finish, nb_queues_destroy and a dropped event, call nb_queues_next_unused until it answers
- *      NB_WOULD_BLOCK, and free what you keep of each object that it tells. No event that waits or is in hand names it,
- *      and none ever will: let this be the one place where you free any.
+ *      NB_WOULD_BLOCK, and free what you keep of each object that it tells: its content comes with it. No event that
+ *      waits or is in hand names it, and none ever will: let this be the one place where you free any.
  *
  * A queue's number and a ticket are never used again, so a queue that was dropped keeps some 50 bytes until
  * nb_queues_end. A slot is, once nb_queues_next_unused has told it: it is no id. Queue 0, the default queue, is there
@@ -1393,10 +1451,11 @@ enum {
     NB_SLOT_DESTROYED = 2 /* it was destroyed, and nb_queues_next_unused has not told it yet */
 };
 
-/* What a slot says of its object: 16 bytes. */
+/* What a slot says of its object: 24 bytes. */
 typedef struct {
-    size_t queue;  /* in which its events wait that are still to come; 0 if the slot has no object */
-    uint32_t fate; /* NB_SLOT_FREE, NB_SLOT_ALIVE or NB_SLOT_DESTROYED */
+    size_t queue;     /* in which its events wait that are still to come; 0 if the slot has no object */
+    uint64_t content; /* yours, as the object was added; 0 if the slot has none */
+    uint32_t fate;    /* NB_SLOT_FREE, NB_SLOT_ALIVE or NB_SLOT_DESTROYED */
 } nb_queued_object;
 
 /* Makes queues in the place: the default queue alone, and no object. Statuses: NB_IN_USE; NB_OUT_OF_MEMORY. */
@@ -1420,10 +1479,10 @@ nb_status nb_queues_has_events(nb_queues *place, size_t queue, uint32_t *has_eve
 /* The session has failed: nb_client_next_event answered NB_FAILED, or you ended it. No event is handed out any more. */
 nb_status nb_queues_fail(nb_queues *place);
 
-/* Adds an object, whose events wait in this queue, and answers its slot. A slot that is free is used before a new one
- * is made, and slots count from 0: so an array by slots needs as many places as there were objects at once. Statuses:
- * NB_NO_QUEUE (no such queue was made, or it was dropped); NB_OUT_OF_MEMORY. */
-nb_status nb_queues_add(nb_queues *place, size_t queue, size_t *object);
+/* Adds an object, whose events wait in this queue, and answers its slot. The content is a number of yours, which
+ * nb_queues_object and nb_queues_next_unused tell again. Slots count from 0, and one that is free is used before a new
+ * one is made. Statuses: NB_NO_QUEUE (no such queue was made, or it was dropped); NB_OUT_OF_MEMORY. */
+nb_status nb_queues_add(nb_queues *place, size_t queue, uint64_t content, size_t *object);
 
 /* Events of the object that are still to come wait in this queue; those that wait stay where they are. Statuses:
  * NB_INVALID_ID (the slot has no object, or one that was destroyed); NB_NO_QUEUE (as for nb_queues_add). */
@@ -1436,9 +1495,10 @@ nb_status nb_queues_destroy(nb_queues *place, size_t object);
 /* What the slot says of its object, of any number of a slot. */
 nb_status nb_queues_object(nb_queues *place, size_t slot, nb_queued_object *object);
 
-/* An object that is unused: it was destroyed, and no event that waits or is in hand names it. Each is told once, and
- * its slot is free from now on: free what you keep of it. Statuses: NB_WOULD_BLOCK (there is none). */
-nb_status nb_queues_next_unused(nb_queues *place, size_t *object);
+/* An object that is unused: it was destroyed, and no event that waits or is in hand names it. Each is told once, by its
+ * slot and with the content with which it was added, and the slot is free from now on: free what you keep of it.
+ * Statuses: NB_WOULD_BLOCK (there is none). */
+nb_status nb_queues_next_unused(nb_queues *place, size_t *object, uint64_t *content);
 
 /* Puts an event for this object into the queue that the object has now, behind those that wait there. `arguments` are
  * the slots of the objects among its arguments, in their order, also of one that it makes; leave out those that are

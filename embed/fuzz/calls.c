@@ -378,7 +378,8 @@ static void call_of_server(void)
     case 5: next_action(); break;
     case 6:
         id = any_client();
-        see(nb_server_finish_request(&server, &id));
+        if (see(nb_server_finish_request(&server, &id)) != NB_OK)
+            see(nb_server_finish_action(&server, &id, &action));
         break;
     case 7:
         id = any_client();
@@ -489,6 +490,8 @@ static void call_of_server(void)
         if (see(nb_server_waiting(&server, &id, &waiting)) == NB_OK)
             saw(waiting.received.bytes + waiting.to_send.bytes);
         if (see(nb_server_create_object_at(&server, &id, NB_INTERFACE_FIRST, take() % 4, take() % 9, take() % 2, take(), &made)) == NB_OK)
+            keep(objects, made);
+        if (see(nb_server_claim_object(&server, &id, NB_INTERFACE_FIRST, kept % 4, kept % 9, kept, &made)) == NB_OK)
             keep(objects, made);
         if (see(nb_server_object_by_number(&server, &id, take() % 9, held)) == NB_OK)
             saw_object(&held[0].object);
@@ -607,6 +610,7 @@ static void call_of_client(void)
     case 10:
         object = any_object(own);
         see(nb_client_destroy_object(&session, &object));
+        see(nb_client_give_up_object(&session, &object));
         see(nb_client_reclaim(&session, &object));
         while (see(nb_client_next_note(&session, &object, &number)) == NB_OK) {
             saw_object(&object);

@@ -314,6 +314,30 @@ static void reclaimed(void)
     OK(nb_client_end(&session));
 }
 
+/* An object that is given up for good has no data any more, and no note tells of it. */
+static void given_up(void)
+{
+    uint64_t data = 9;
+    nb_object_id made, noted;
+    connect_session();
+    IS(nb_client_give_up_object(&session, &display), NB_INVALID_ID);
+    HOLDS(makes(&made) && made.number == 4);
+    OK(nb_client_give_up_object(&session, &made));
+    OK(nb_client_give_up_object(&session, &made));
+    OK(nb_client_object_data(&session, &made, &data));
+    HOLDS(data == 0);
+    HOLDS(is_deleted(4));
+    IS(nb_client_give_up_object(&session, &made), NB_INVALID_ID);
+    IS(nb_client_object_data(&session, &made, &data), NB_INVALID_ID);
+    /* If the server deleted its id before, its number is free at once. */
+    for (int i = 0; i < 1000; i++) {
+        HOLDS(makes(&made) && made.number == 4 && is_deleted(4));
+        OK(nb_client_give_up_object(&session, &made));
+    }
+    IS(nb_client_next_note(&session, &noted, &data), NB_WOULD_BLOCK);
+    OK(nb_client_end(&session));
+}
+
 /* What a number holds, as long as it is not free. */
 static void by_number(void)
 {
@@ -368,6 +392,61 @@ static void unknown_senders(void)
     put(3, NB_QUAD_EVENT_MOVED, "u", 1);
     OK(come(NULL, 0));
     IS(next_event(), NB_FAILED);
+    OK(nb_client_end(&session));
+}
+
+/* The run at the front of what was put. */
+static nb_run run_of(uint32_t count)
+{
+    nb_run run = { .bytes = 7 };
+    OK(nb_client_next_run(&session, wire, wire_length, count, &run));
+    wire_length = 0;
+    return run;
+}
+
+/* Which messages the session is to have together. */
+static void runs(void)
+{
+    nb_run run;
+    connect_session();
+    OK(nb_client_pass_over_unknown_senders(&session, 1));
+    for (int i = 0; i < 600; i++)
+        put(3, NB_QUAD_EVENT_MOVED, "u", i);
+    run = run_of(0);
+    HOLDS(run.bytes == 512 * 12 && run.kind == NB_PLAIN_RUN && run.skipped == 0 && run.sender == 0 && run.size == 0);
+    /* An event that makes an object, or ends one, is the last. */
+    put(3, NB_QUAD_EVENT_MOVED, "u", 1);
+    put(3, NB_QUAD_EVENT_MADE, "u", 0xff000000);
+    put(3, NB_QUAD_EVENT_MOVED, "u", 1);
+    run = run_of(3);
+    HOLDS(run.bytes == 24 && run.descriptors == 0 && run.kind == NB_PLAIN_RUN);
+    put(3, NB_QUAD_EVENT_MOVED, "u", 1);
+    put(3, NB_QUAD_EVENT_GONE, "");
+    put(3, NB_QUAD_EVENT_MOVED, "u", 1);
+    HOLDS(run_of(0).bytes == 20);
+    /* So is one that deletes an id, and one of which no event comes. */
+    put(1, 1, "u", 2);
+    put(3, NB_QUAD_EVENT_MOVED, "u", 1);
+    run = run_of(0);
+    HOLDS(run.bytes == 12 && run.kind == NB_DELETES_ID && run.sender == 1 && run.opcode == 1 && run.number == 2);
+    put(1, 1, "u", 0xff000007);
+    run = run_of(0);
+    HOLDS(run.bytes == 0 && run.skipped == 12 && run.kind == NB_DELETES_ID && run.number == 0xff000007);
+    put(9, 5, "uu", 1, 2);
+    put(3, NB_QUAD_EVENT_MOVED, "u", 1);
+    run = run_of(0);
+    HOLDS(run.bytes == 16 && run.kind == NB_PASSED_OVER && run.sender == 9 && run.interface == 0 && run.opcode == 5 &&
+          run.size == 16 && run.needed == 0 && run.may_bring == 0 && run.number == 0);
+    OK(nb_client_destroy_object(&session, &object));
+    put(3, NB_QUAD_EVENT_MOVED, "u", 1);
+    run = run_of(0);
+    HOLDS(run.bytes == 12 && run.kind == NB_PASSED_OVER && run.interface == NB_QUAD && run.may_bring == 0);
+    /* What is not whole is in no run. */
+    put(3, NB_QUAD_EVENT_MOVED, "u", 1);
+    wire_length -= 1;
+    run = run_of(0);
+    HOLDS(run.bytes == 0 && run.skipped == 0 && run.kind == NB_PLAIN_RUN);
+    HOLDS(run_of(0).bytes == 0);
     OK(nb_client_end(&session));
 }
 
@@ -639,8 +718,10 @@ int main(void)
     waiting();
     not_kept();
     reclaimed();
+    given_up();
     by_number();
     unknown_senders();
+    runs();
     freed();
     messages();
     ends();

@@ -45,10 +45,12 @@ static void server_calls(void)
     NONE(nb_server_finish_request(&server, &id));
     NONE(nb_server_finish_request_with(&server, &id, 1, &number));
     NONE(nb_server_finish_bind(&server, &id, 1, &number));
+    NONE(nb_server_finish_action(&server, &id, &action));
     NONE(nb_server_send_event(&server, &object, 0, arguments, 0, bytes, 0));
     NONE(nb_server_post_error(&server, &object, 0, bytes, 3));
     NONE(nb_server_create_object(&server, &id, 4, 1, 1, 1, &object));
     NONE(nb_server_create_object_at(&server, &id, 4, 1, 2, 1, 1, &object));
+    NONE(nb_server_claim_object(&server, &id, 4, 1, 2, 1, &object));
     NONE(nb_server_set_object_version(&server, &object, 1));
     NONE(nb_server_destroy_object(&server, &object));
     NONE(nb_server_object_info(&server, &object, &info));
@@ -95,10 +97,10 @@ static void client_calls(void)
     nb_error error;
     nb_waiting waiting;
     nb_told told;
+    nb_run run = { 7, 0, 0, 0, 0, 0, 0, 0, 0, 0, 0 };
     NONE(nb_client_end(&session));
     NONE(nb_client_extend(&session, &quad, &fault));
     NONE(nb_client_join(&session, &quad, &number, &why));
-    NONE(nb_client_event_descriptors(&session, NB_INTERFACE_CALLBACK, 0, &number));
     NONE(nb_client_memory_refused(&session, &number));
     NONE(nb_client_set_max_buffer_size(&session, 1, 1));
     NONE(nb_client_refuse_nulls(&session, 1));
@@ -107,6 +109,7 @@ static void client_calls(void)
     NONE(nb_client_tell_messages(&session, 1));
     NONE(nb_client_display(&session, &object));
     NONE(nb_client_received(&session, bytes, 8, descriptors, 1));
+    NONE(nb_client_next_run(&session, bytes, 8, 1, &run));
     NONE(nb_client_received_end(&session));
     NONE(nb_client_receive_failed(&session, 5));
     NONE(nb_client_fail(&session, 5));
@@ -121,6 +124,7 @@ static void client_calls(void)
     NONE(nb_client_object_data(&session, &object, &data));
     NONE(nb_client_set_object_data(&session, &object, 1));
     NONE(nb_client_destroy_object(&session, &object));
+    NONE(nb_client_give_up_object(&session, &object));
     NONE(nb_client_reclaim(&session, &object));
     NONE(nb_client_flush(&session));
     NONE(nb_client_to_send(&session, bytes, 9, descriptors, NB_MOST_DESCRIPTORS, &counts));
@@ -138,7 +142,7 @@ static void queue_calls(void)
 {
     nb_queues queues = NB_EMPTY;
     nb_queued_event event = { 7, 7, 7, 7, 7 };
-    nb_queued_object object = { 7, 7 };
+    nb_queued_object object = { 7, 7, 7 };
     size_t slot = 7;
     uint64_t content = 7;
     uint32_t flag = 7;
@@ -148,11 +152,11 @@ static void queue_calls(void)
         NONE(nb_queues_drop_queue(&queues, 1));
         NONE(nb_queues_has_events(&queues, 0, &flag));
         NONE(nb_queues_fail(&queues));
-        NONE(nb_queues_add(&queues, 0, &slot));
+        NONE(nb_queues_add(&queues, 0, 9, &slot));
         NONE(nb_queues_set_queue(&queues, 0, 0));
         NONE(nb_queues_destroy(&queues, 0));
         NONE(nb_queues_object(&queues, 0, &object));
-        NONE(nb_queues_next_unused(&queues, &slot));
+        NONE(nb_queues_next_unused(&queues, &slot, &content));
         NONE(nb_queues_put(&queues, 0, &slot, 1, 9));
         NONE(nb_queues_next_of(&queues, 0, &event));
         NONE(nb_queues_event(&queues, 0, &event));

@@ -19,6 +19,7 @@ enum state { NOT_THERE, WAITS, IN_HAND };
 static struct {
     uint32_t fate;
     size_t queue;
+    uint64_t content;
 } slots[SLOTS + 1]; /* the last one is never used */
 
 static struct {
@@ -118,17 +119,19 @@ static void drop_queue(size_t queue)
 
 static void add(size_t queue)
 {
+    const uint64_t content = state; /* one of many */
     size_t slot = SLOTS, free = 0;
     for (size_t i = 0; i < SLOTS; i++)
         free += slots[i].fate == NB_SLOT_FREE;
     if (free == 0)
         return;
-    expect(nb_queues_add(&queues, queue, &slot) == (is_open(queue) ? NB_OK : NB_NO_QUEUE));
+    expect(nb_queues_add(&queues, queue, content, &slot) == (is_open(queue) ? NB_OK : NB_NO_QUEUE));
     if (!is_open(queue))
         return;
     expect(slot < SLOTS && slots[slot].fate == NB_SLOT_FREE);
     slots[slot < SLOTS ? slot : 0].fate = NB_SLOT_ALIVE;
     slots[slot < SLOTS ? slot : 0].queue = queue;
+    slots[slot < SLOTS ? slot : 0].content = content;
 }
 
 static void set_queue(size_t slot, size_t queue)
@@ -218,14 +221,16 @@ static void look(uint64_t ticket, size_t place)
     expect(slot == (is_there ? events[event].objects[place] : 77));
 }
 
-/* Each that is unused is told once, and no other. */
+/* Each that is unused is told once, with its content, and no other. */
 static void take_unused(void)
 {
     size_t slot = 77;
-    while (nb_queues_next_unused(&queues, &slot) == NB_OK && is_right) {
-        expect(slot < SLOTS && is_unused(slot));
+    uint64_t content = 77;
+    while (nb_queues_next_unused(&queues, &slot, &content) == NB_OK && is_right) {
+        expect(slot < SLOTS && is_unused(slot) && content == slots[slot].content);
         slots[slot < SLOTS ? slot : 0].fate = NB_SLOT_FREE;
         slots[slot < SLOTS ? slot : 0].queue = 0;
+        slots[slot < SLOTS ? slot : 0].content = 0;
     }
     for (size_t i = 0; i < SLOTS; i++)
         expect(!is_unused(i));
@@ -236,7 +241,7 @@ static void compare(void)
     for (size_t i = 0; i <= SLOTS; i++) {
         nb_queued_object object;
         expect(nb_queues_object(&queues, i, &object) == NB_OK && object.fate == slots[i].fate &&
-               object.queue == slots[i].queue);
+               object.queue == slots[i].queue && object.content == slots[i].content);
     }
     for (size_t i = 0; i <= QUEUES; i++) {
         uint32_t has_events;

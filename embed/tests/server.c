@@ -188,6 +188,64 @@ static void chosen(void)
     OK(nb_server_end(&server));
 }
 
+/* Objects for something of the host's: at 0, at the number of one that is there, at one that is free. The actions that
+ * made them are finished with the data 0. */
+static void claimed(void)
+{
+    nb_object_id made = begin();
+    nb_object_info info;
+    nb_held_object held;
+    uint64_t data;
+    put(3, NB_QUAD_REQUEST_MAKE, "u", 4);
+    OK(arrive(NULL, 0));
+    OK(next_action());
+    HOLDS(action.created.number == 4 && action.version == 3);
+    action.kind = NB_BIND;
+    IS(nb_server_finish_action(&server, &client, &action), NB_WRONG_KIND);
+    action.kind = NB_REQUEST;
+    OK(nb_server_finish_action(&server, &client, &action));
+    IS(nb_server_finish_action(&server, &client, &action), NB_NOT_OPEN);
+    /* `quad` has the version 3 in the table. Where another one is refused, the data are, too. */
+    IS(nb_server_claim_object(&server, &client, NB_QUAD, 4, 4, 50, &made), NB_VERSION_TOO_HIGH);
+    IS(nb_server_claim_object(&server, &client, NB_QUAD, 0, 4, 50, &made), NB_VERSION_TOO_HIGH);
+    IS(nb_server_claim_object(&server, &client, NB_INTERFACE_CALLBACK, 1, 4, 50, &made), NB_NOT_FREE);
+    OK(nb_server_object_by_number(&server, &client, 4, &held));
+    HOLDS(nb_same_object(&held.object, &action.created) && held.data == 0 && made.number == 3);
+    OK(nb_server_claim_object(&server, &client, NB_QUAD, 2, 4, 50, &made));
+    HOLDS(nb_same_object(&made, &action.created));
+    OK(nb_server_object_info(&server, &made, &info));
+    OK(nb_server_object_data(&server, &made, &data));
+    HOLDS(info.version == 2 && data == 50);
+    IS(nb_server_claim_object(&server, &client, NB_QUAD, 2, 4, 51, &made), NB_NOT_FREE);
+    IS(nb_server_claim_object(&server, &client, NB_QUAD, 2, 6, 51, &made), NB_NOT_FREE);
+    IS(nb_server_claim_object(&server, &client, 99, 2, 5, 51, &made), NB_UNKNOWN_INTERFACE);
+    OK(nb_server_claim_object(&server, &client, NB_QUAD, 2, 5, 51, &made));
+    HOLDS(made.number == 5 && made.interface == NB_QUAD);
+    IS(nb_server_claim_object(&server, &client, 99, 2, 0, 52, &made), NB_UNKNOWN_INTERFACE);
+    OK(nb_server_claim_object(&server, &client, NB_QUAD, 2, 0, 52, &made));
+    OK(nb_server_object_data(&server, &made, &data));
+    HOLDS(made.number == 0xff000000 && data == 52);
+    put(2, 0, "usuu", 1, "quad", 3, 6);
+    put(3, NB_QUAD_REQUEST_POKE, "u", 1);
+    put(3, NB_QUAD_REQUEST_DESTROY, "");
+    OK(arrive(NULL, 0));
+    OK(next_action());
+    HOLDS(action.kind == NB_BIND && action.created.number == 6);
+    OK(nb_server_finish_action(&server, &client, &action));
+    OK(nb_server_claim_object(&server, &client, NB_QUAD, 1, 6, 53, &made));
+    HOLDS(nb_same_object(&made, &action.created));
+    OK(next_action());
+    OK(nb_server_finish_action(&server, &client, &action));
+    OK(next_action());
+    OK(nb_server_finish_action(&server, &client, &action));
+    put(1, 1, "u", 3);
+    HOLDS(sends(&client));
+    client.serial += 9;
+    IS(nb_server_claim_object(&server, &client, NB_QUAD, 2, 7, 54, &made), NB_INVALID_ID);
+    IS(nb_server_finish_action(&server, &client, &action), NB_INVALID_ID);
+    OK(nb_server_end(&server));
+}
+
 /* One client is flushed, and the others are left. Names of globals are kept. */
 static void one_flushed(void)
 {
@@ -712,6 +770,7 @@ int main(void)
     events();
     messages();
     chosen();
+    claimed();
     one_flushed();
     object_limit();
     notes_unkept();

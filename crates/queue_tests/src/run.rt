@@ -3,15 +3,15 @@
 use std::alloc::{AllocError, Global};
 use std::fmt::Write;
 use std::test::Fail;
-use wl_queues::{Event, Next, PutRefused, Queues};
+use wl_queues::{Event, Next, PutRefused, Queues, UnusedObject};
 
 /// A call. Objects are named by their slots.
 #[derive(Clone, Copy)]
 pub enum Act {
     NewQueue,
     DropQueue(usize),
-    /// Adds an object of the queue.
-    Add(usize),
+    /// Adds an object of the queue, with this number as its content.
+    Add(usize, u64),
     /// Gives the object another queue.
     SetQueue(usize, usize),
     Destroy(usize),
@@ -26,7 +26,7 @@ pub enum Act {
     /// The number in the event in hand.
     Content(u64),
     HasEvents(usize),
-    /// The queue of the object's later events, and what has become of it.
+    /// The queue of the object's later events, what has become of it, and its content.
     Object(usize),
 }
 
@@ -88,12 +88,20 @@ fn write_number(log: &mut String, number: Option<usize>) -> Result<(), AllocErro
     }
 }
 
+/// Tells an object that is unused with its content, or that there is none.
+fn write_unused(log: &mut String, unused: Option<UnusedObject>) -> Result<(), AllocError> {
+    match unused {
+        Some(unused) => writeln!(log, "{} with {}", unused.object, unused.content),
+        None => writeln!(log, "none"),
+    }
+}
+
 /// Makes the call, which changes no queue and no event, and tells what it answers.
 fn perform_quiet(queues: &mut Queues<u32>, log: &mut String, act: Act) -> Result<(), AllocError> {
     match act {
         Act::NewQueue => writeln!(log, "{:?}", queues.new_queue()),
         Act::DropQueue(queue) => writeln!(log, "{:?}", queues.drop_queue(queue)),
-        Act::Add(queue) => writeln!(log, "{:?}", queues.add(queue)),
+        Act::Add(queue, content) => writeln!(log, "{:?}", queues.add(queue, content)),
         Act::SetQueue(object, queue) => writeln!(log, "{:?}", queues.set_queue(object, queue)),
         Act::Destroy(object) => writeln!(log, "{:?}", queues.destroy(object)),
         Act::HasEvents(queue) => writeln!(log, "{}", queues.has_events(queue)),
@@ -122,7 +130,7 @@ pub fn perform(
         Act::Finish(ticket) => write_content(log, queues.finish(ticket).as_ref()),
         Act::Content(ticket) => write_content(log, queues.event(ticket)),
         Act::Argument(ticket, place) => write_number(log, queues.argument(ticket, place)),
-        Act::Unused => write_number(log, queues.next_unused()),
+        Act::Unused => write_unused(log, queues.next_unused()),
         Act::Fail => {
             queues.fail();
             Ok(())

@@ -2,9 +2,9 @@
 
 ghost use Rattle.std.specs.Prelude.{◌≡◌, ◌≢◌};
 ghost use Rattle.wl_c.specs.Calls.{Written, WrittenExtension, WrittenFault, WrittenNumber, fault_code, flagged};
-ghost use Rattle.wl_c.specs.Queues.{number_of};
+ghost use Rattle.wl_c.specs.Queues.{number_of, unused};
 
-use wl_host::{ExtensionFault, Status, TableFault, fault};
+use wl_host::{ExtensionFault, Status, TableFault, UnusedObject, fault};
 
 /// Writes what a call answers, unless it was refused, and answers the number of its status.
 pub fn write_answer<T: Drop>(answer: Result<T, Status>, out: &mut T) -> u32
@@ -28,6 +28,25 @@ pub fn write_flag(answer: Result<bool, Status>, out: &mut u32) -> u32
     match answer {
         Ok(yes) => {
             *out = if yes { 1 } else { 0 };
+            Status::Ok.code()
+        }
+        Err(status) => status.code(),
+    }
+}
+
+/// Writes the slot of an object that is unused, and its content, unless there is none, and answers the number of the status.
+pub fn write_unused(
+    answer: Result<UnusedObject, Status>,
+    object: &mut usize,
+    content: &mut u64,
+) -> u32
+    ensures answered { Written answer result (unused object.old content.old) (unused object.new content.new) }
+    ensures unwritten { result ≢ 0 → (object.new ≡ object.old) × (content.new ≡ content.old) }
+{
+    match answer {
+        Ok(told) => {
+            *object = told.object;
+            *content = told.content;
             Status::Ok.code()
         }
         Err(status) => status.code(),

@@ -4,7 +4,8 @@
 //! |---|---|
 //! | `connect`, `end`, `add_interfaces`, `extend_interfaces`, `memory_refused`, the limits, `pass_over_unknown_senders`, `refuse_nulls`, `last_error` | `session` |
 //! | `tell_messages`, `next_told` | `telling` |
-//! | `join_interface`, `event_descriptors` | `joining` |
+//! | `join_interface` | `joining` |
+//! | `next_run` | `runs` |
 //! | `received`, `next_event`, `finish_event`, `send_request`, .. | `events` |
 //! | `display`, `object_data`, .. | `objects` |
 //! | `flush`, `to_send`, `sent`, `next_note`, `keep_freed`, `next_freed`, `next_dropped` | `sending` |
@@ -15,6 +16,7 @@ mod joining;
 mod kept;
 mod objects;
 mod place;
+mod runs;
 mod sending;
 mod session;
 mod telling;

@@ -6,7 +6,7 @@
 //! | `insert_client`, `received`, .. | `clients` |
 //! | `next_action`, `finish_request`, `send_event`, .. | `actions` |
 //! | `create_object`, `object_data`, .. | `objects` |
-//! | `create_object_at`, `set_object_version`, `object_by_number`, `held_objects` | `chosen` |
+//! | `create_object_at`, `claim_object`, `set_object_version`, `object_by_number`, `held_objects` | `chosen` |
 //! | `create_global`, `global_name`, .. | `globals` |
 //! | `join_interface` | `joining` |
 //! | `set_object_limit` | `limits` |

@@ -11,7 +11,7 @@ use std::mem::size_of;
 use wl_host::{
     ArgumentRow, Counts, ExtensionFault, FlatAction, FlatArgument, FlatClientId, FlatEnd,
     FlatError, FlatEvent, FlatGlobalId, FlatGlobalInfo, FlatHeldObject, FlatNote, FlatObjectId,
-    FlatObjectInfo, FlatQueuedEvent, FlatQueuedObject, FlatReaders, FlatRequest, FlatTold,
+    FlatObjectInfo, FlatQueuedEvent, FlatQueuedObject, FlatReaders, FlatRequest, FlatRun, FlatTold,
     FlatTurn, FlatViolation, Gone, InterfaceRow, MessageRow, TableFault, Waiting,
 };
 
@@ -53,6 +53,8 @@ const _: () = prove!(size_of::<FlatNote>() == 80);
 
 const _: () = prove!(size_of::<FlatTold>() == 32);
 
+const _: () = prove!(size_of::<FlatRun>() == 44);
+
 const _: () = prove!(size_of::<FlatError>() == 28);
 
 const _: () = prove!(size_of::<Counts>() == 8);
@@ -65,7 +67,7 @@ const _: () = prove!(size_of::<QueuesPlace>() == 16);
 
 const _: () = prove!(size_of::<FlatQueuedEvent>() == 40);
 
-const _: () = prove!(size_of::<FlatQueuedObject>() == 16);
+const _: () = prove!(size_of::<FlatQueuedObject>() == 24);
 
 const _: () = prove!(size_of::<FlatReaders>() == 24);
 

@@ -6,6 +6,7 @@ use Rattle.wl_queues.specs.declared.events.Reason.TheVariants.{QueueDropped, Sen
 use Rattle.wl_queues.specs.declared.objects.Fate.{Fate}
 use Rattle.wl_queues.specs.declared.objects.Fate.TheVariants.{Alive, Destroyed, Free}
 use Rattle.wl_queues.specs.declared.objects.Object.{Object}
+use Rattle.wl_queues.specs.declared.objects.UnusedObject.{UnusedObject}
 use Rattle.wl_queues.specs.Nexts.{LacksTicket, NeedsPlace}
 use Rattle.wl_queues.specs.Queues.{Add, Destroy, DropQueue, Dropped, Finish, Handed, HasNoTicket, IsOpen, IsUnused, NewQueue, Next, NextUnused, Outcome, QueuesState, SetQueue, event_of, put_of}
 use Rattle.wl_queues.specs.States.{Calls, IsLive, IsUnchanged, state_of}
@@ -44,7 +45,7 @@ flat_out (Handed ticket) e = flat_handed ticket e
 flat_out (Dropped reason) e = flat_dropped reason e
 
 abbrev pub flat_object : Object → FlatQueuedObject
-flat_object o = record { queue = o.queue; fate = number_of_fate o.fate }
+flat_object o = record { queue = o.queue; content = o.content; fate = number_of_fate o.fate }
 
 -- ---- queues
 
@@ -67,9 +68,9 @@ RefusesToAdd queue before status.NoQueue = ¬ IsOpen (now_in before) queue
 RefusesToAdd queue before status.OutOfMemory = ¬ ¬ IsOpen (now_in before) queue
 RefusesToAdd queue before _ = ⊥
 
-abbrev pub Adds : ℕ → EventQueues → Result ℕ Status → EventQueues → Type 0
-Adds queue before (Ok object) after = Calls before.core (Add object queue) after.core
-Adds queue before (Err s) after = IsUnchanged before.core after.core × RefusesToAdd queue before s
+abbrev pub Adds : ℕ → ℕ → EventQueues → Result ℕ Status → EventQueues → Type 0
+Adds queue content before (Ok object) after = Calls before.core (Add object queue content) after.core
+Adds queue content before (Err s) after = IsUnchanged before.core after.core × RefusesToAdd queue before s
 
 -- why the queue of an object is not set
 abbrev pub RefusesToSet : ℕ → ℕ → EventQueues → Status → Type 0
@@ -86,9 +87,9 @@ abbrev pub Destroys : ℕ → EventQueues → Result (Unit {0}) Status → Event
 Destroys object before (Ok u) after = Calls before.core (Destroy object) after.core
 Destroys object before (Err s) after = IsUnchanged before.core after.core × (s ≡ status.InvalidId) × ¬ IsLive before.core object
 
--- an object is told unused; or none is
-abbrev pub TellsUnused : EventQueues → Result ℕ Status → EventQueues → Type 0
-TellsUnused before (Ok object) after = Calls before.core (NextUnused object) after.core
+-- an object is told unused, with its content; or none is
+abbrev pub TellsUnused : EventQueues → Result UnusedObject Status → EventQueues → Type 0
+TellsUnused before (Ok u) after = Calls before.core (NextUnused u.object u.content) after.core
 TellsUnused before (Err s) after =
     IsUnchanged before.core after.core × (s ≡ status.WouldBlock) × ((o : ℕ) → ¬ IsUnused (now_in before) o)
 

@@ -128,3 +128,17 @@ unknown_message = 2
 
 abbrev pub no_message : ℕ
 no_message = 3
+
+-- ---- runs of messages
+
+abbrev pub plain_run : ℕ
+plain_run = 0
+
+abbrev pub deletes_id : ℕ
+deletes_id = 1
+
+abbrev pub passed_over : ℕ
+passed_over = 2
+
+abbrev pub lacks_descriptors : ℕ
+lacks_descriptors = 3

@@ -11,6 +11,7 @@ use crate::status::Status;
 use std::alloc::{AllocError, Global};
 use wl_queues::{
     AddError, Event, Fate, Next, NextError, Object, PutError, Queues, Reason, SetQueueError,
+    UnusedObject,
 };
 
 /// The outcome of a [`FlatQueuedEvent`]: it is handed out.
@@ -56,6 +57,8 @@ pub struct FlatQueuedEvent {
 pub struct FlatQueuedObject {
     /// The queue in which its events wait that are still to come.
     pub queue: usize,
+    /// The host's own, as the object was added. Of a slot that has no object it is 0.
+    pub content: u64,
     /// What has become of it.
     pub fate: u32,
 }
@@ -108,8 +111,8 @@ fn dropped(reason: Reason, event: &Event<u64>) -> FlatQueuedEvent
     }
 }
 
-/// Queues of events (`wl_queues::Queues`), for a host that keeps the events themselves: the content of an event is a number of the
-/// host's, often a pointer.
+/// Queues of events (`wl_queues::Queues`), for a host that keeps the events and the objects themselves: the content of each is a
+/// number of the host's, often a pointer.
 ///
 /// A call that is refused changes nothing.
 #[derive(Drop)]
@@ -154,14 +157,14 @@ impl EventQueues {
         }
     }
 
-    /// Adds an object, whose events wait in this queue. The answer is its slot, which had no object.
+    /// Adds an object with this content, whose events wait in this queue. The answer is its slot, which had no object.
     ///
     /// The status is `NoQueue` if no such queue was made, or it was dropped; and else `OutOfMemory` if there is no memory for the
     /// object.
-    pub fn add(&mut self, queue: usize) -> Result<usize, Status>
-        ensures call { Adds queue self.old result self.new }
+    pub fn add(&mut self, queue: usize, content: u64) -> Result<usize, Status>
+        ensures call { Adds queue content self.old result self.new }
     {
-        match self.core.add(queue) {
+        match self.core.add(queue, content) {
             Ok(object) => Ok(object),
             Err(AddError::NoQueue) => Err(Status::NoQueue),
             Err(AddError::OutOfMemory) => Err(Status::OutOfMemory),
@@ -262,26 +265,31 @@ impl EventQueues {
         self.core.fail();
     }
 
-    /// Tells an object that was destroyed, and that no event names any more. Its slot is free from now on.
+    /// Tells an object that was destroyed, and that no event names any more, with its content. Its slot is free from now on.
     ///
     /// The status is `WouldBlock` if there is none.
-    pub fn next_unused(&mut self) -> Result<usize, Status>
+    pub fn next_unused(&mut self) -> Result<UnusedObject, Status>
         ensures call { TellsUnused self.old result self.new }
     {
         match self.core.next_unused() {
-            Some(object) => Ok(object),
+            Some(unused) => Ok(unused),
             None => Err(Status::WouldBlock),
         }
     }
 
-    /// What the slot says of its object. Of one that has none, also of one that was never used, it is [`SLOT_FREE`], and the default
-    /// queue.
+    /// What the slot says of its object. Of one that has none, also of one that was never used, it is [`SLOT_FREE`], the default queue,
+    /// and 0.
     pub fn object(&self, object: usize) -> FlatQueuedObject
         ensures { result ≡ flat_object ((now_in self.now).objects object) }
     {
-        let Object { queue, fate } = self.core.object(object);
+        let Object {
+            queue,
+            fate,
+            content,
+        } = self.core.object(object);
         FlatQueuedObject {
             queue,
+            content,
             fate: number_of_fate(fate),
         }
     }

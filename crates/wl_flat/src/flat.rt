@@ -52,6 +52,18 @@ pub const KILLED: u32 = 2;
 /// The kind of a [`FlatNote`]: an object that had data is gone.
 pub const DESTROYED: u32 = 3;
 
+/// The kind of a [`FlatRun`]: nothing is to be known.
+pub const PLAIN_RUN: u32 = 0;
+
+/// The kind of a [`FlatRun`]: the message deletes an id.
+pub const DELETES_ID: u32 = 1;
+
+/// The kind of a [`FlatRun`]: the message's sender is no object, or one that the client has destroyed. No event comes of it.
+pub const PASSED_OVER: u32 = 2;
+
+/// The kind of a [`FlatRun`]: the message behind it lacks descriptors.
+pub const LACKS_DESCRIPTORS: u32 = 3;
+
 /// The kind of a [`FlatTold`]: a message that was read.
 pub const MESSAGE: u32 = 1;
 
@@ -299,6 +311,35 @@ pub struct FlatTold {
     pub bytes: u32,
     /// 1 if nothing is told of this side any more: what it sent cannot be followed further; else 0.
     pub is_last: u32,
+}
+
+/// Messages that arrived and that a client's session is to have together, and what is to be known of the last one, or of the one behind
+/// them: [`PLAIN_RUN`], [`DELETES_ID`], [`PASSED_OVER`] or [`LACKS_DESCRIPTORS`].
+#[repr(C)]
+#[derive(Clone, Copy, Debug, PartialEq, Eq, Drop)]
+pub struct FlatRun {
+    /// How many of the bytes are the run's.
+    pub bytes: u32,
+    /// How many of the descriptors are the run's.
+    pub descriptors: u32,
+    /// How many bytes behind the run are a message that the session is not to have.
+    pub skipped: u32,
+    /// Which of them it is. If it is a plain run, what follows is 0.
+    pub kind: u32,
+    /// The number of the object that sent the message.
+    pub sender: u32,
+    /// The place of that object's interface in the table; 0 if there is no such object.
+    pub interface: u32,
+    /// The opcode of the message.
+    pub opcode: u32,
+    /// How many bytes the message has.
+    pub size: u32,
+    /// How many descriptors the message brings.
+    pub needed: u32,
+    /// 1 if the client destroyed the sender, and some event of its interface brings descriptors; else 0.
+    pub may_bring: u32,
+    /// The id that it deletes; 0 if it deletes none.
+    pub number: u32,
 }
 
 /// A client that the session let go, with what is still to be sent to it.

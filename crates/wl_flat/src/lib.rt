@@ -46,10 +46,11 @@ pub use event_queues::{
 };
 pub use extending::ExtensionFault;
 pub use flat::{
-    BIND, Counts, DESTROYED, FlatAction, FlatArgument, FlatClientId, FlatError, FlatEvent,
-    FlatGlobalId, FlatGlobalInfo, FlatHeldObject, FlatNote, FlatObjectId, FlatObjectInfo,
-    FlatRequest, FlatTold, Gone, INSERTED, IO, KILLED, MESSAGE, NO_MESSAGE, PROTOCOL, REGISTRY,
-    REQUEST, UNKNOWN_MESSAGE, Waiting, kind,
+    BIND, Counts, DELETES_ID, DESTROYED, FlatAction, FlatArgument, FlatClientId, FlatError,
+    FlatEvent, FlatGlobalId, FlatGlobalInfo, FlatHeldObject, FlatNote, FlatObjectId,
+    FlatObjectInfo, FlatRequest, FlatRun, FlatTold, Gone, INSERTED, IO, KILLED, LACKS_DESCRIPTORS,
+    MESSAGE, NO_MESSAGE, PASSED_OVER, PLAIN_RUN, PROTOCOL, REGISTRY, REQUEST, UNKNOWN_MESSAGE,
+    Waiting, kind,
 };
 pub use guards::{CLIENT_SIDE, FlatEnd, Guard, Policy, SERVER_SIDE, reason};
 pub use readers::{FlatReaders, FlatTurn};
@@ -57,3 +58,4 @@ pub use rows::{ArgumentRow, InterfaceRow, MessageRow, Rows, TableFault, fault};
 pub use signatures::read_signature;
 pub use status::Status;
 pub use wl_guard::Limits;
+pub use wl_queues::UnusedObject;

@@ -2,7 +2,7 @@
 use Rattle.std.proofs.Common.{◌≡◌, ℕ, ℤ, Bool, true, false, inl, inr, List, [], ◌∷◌, Option, None, Some, Result, Ok, Err, is_some, refl, ap, sym, subst, ◌∙◌, true≢false}
 use Rattle.std.proofs.lemmas.Bool.{false≢true}
 use Rattle.std.specs.Global.{Global}
-use Rattle.std.specs.Prelude.{MatchOption, MatchResult, Vec, length, nat_lt}
+use Rattle.std.specs.Prelude.{◌==◌, MatchOption, MatchResult, Vec, length, nat_lt}
 use Rattle.wl_link.proofs.Calls.Branches.{either_bool, either_option}
 use Rattle.wl_link.specs.Mailbox.{MailboxState}
 use Rattle.wl_link.specs.declared.mailbox.Ending.{Ending}
@@ -25,10 +25,10 @@ use Rattle.wl_wire.specs.declared.error.OutOfMemory.{OutOfMemory}
 use Rattle.wl_host.proofs.JoinsOnce.{rows_once}
 use Rattle.wl_host.proofs.Killing.{says_killed}
 use Rattle.wl_host.proofs.Marking.{KillsNobody, action_kills, cleanup_leaves_none, creates_at_kills, creates_kills, finish_bind_kills, finish_request_kills, flush_kills, insert_kills, growth_kills, mailbox_kills, notes_kill, refused_global_kills, set_data_kills, set_version_kills}
-use Rattle.wl_host.specs.Actions.{EndsBind, EndsRequest, Lent, NextAction, ReadsAllowed, ReadsIfAllowed, ReadsNext, ended, is_killed_by, marked_if, null_in}
+use Rattle.wl_host.specs.Actions.{EndsAsAction, EndsBind, EndsRequest, Lent, NextAction, ReadsAllowed, ReadsIfAllowed, ReadsNext, ended, is_killed_by, marked_if, null_in, zero_for}
 use Rattle.wl_host.specs.Calls.{CoreState, CreatesGlobal, CreatesObject, InsertsClient, SetsObjectData, interface_of, world}
-use Rattle.wl_flat.specs.Status.{flattened, of_global}
-use Rattle.wl_host.specs.Chosen.{CreatesObjectAt, SetsObjectVersion}
+use Rattle.wl_flat.specs.Status.{flattened, is_done, of_global}
+use Rattle.wl_host.specs.Chosen.{ClaimsObject, CreatesObjectAt, SetsObjectVersion, TakesObject, unclaimed}
 use Rattle.wl_host.specs.Cleaning.{CleansUp, DropsNotes, DropsUnlessKept}
 use Rattle.wl_host.specs.Clients.{SetsRoom, inserted}
 use Rattle.wl_flat.specs.Extending.{Lengthens, Parts, Takes, parts_of, told_at, told_of_new}
@@ -38,10 +38,12 @@ use Rattle.wl_host.specs.Flushing.{FlushesClient}
 use Rattle.wl_host.specs.Killed.{IsSettled, KnowsEnd, StaysSettled}
 use Rattle.wl_host.specs.Notes.{Fetches, NextNote, noted, noted_if, text_of}
 use Rattle.wl_flat.specs.Nulls.{is_refused}
+use Rattle.wl_flat.specs.Kinds as kinds
 use Rattle.wl_flat.specs.Rows.{fault_of}
 use Rattle.wl_host.specs.Seats.{SeatsState, added, gone_all, ledger_at, ledger_of}
 use Rattle.wl_host.specs.Server.{Asks, AsksInTurn, Ends, NextWritable, Received, ReceivedBy, Sent, SentBy, ServerState, TakesOut}
 use Rattle.wl_host.specs.Tables.{AddsInterfaces, ExtendsInterfaces, IsNewServer, JoinsServer}
+use Rattle.wl_flat.specs.declared.flat.FlatAction.{FlatAction}
 use Rattle.wl_flat.specs.declared.flat.FlatArgument.{FlatArgument}
 use Rattle.wl_flat.specs.declared.flat.FlatClientId.{FlatClientId}
 use Rattle.wl_flat.specs.declared.flat.FlatGlobalId.{FlatGlobalId}
@@ -170,6 +172,26 @@ creates_at_settled b a client i version n u result h e =
 pub version_settled : (b a : ServerState) (o : FlatObjectId) (version : ℕ) (s : Status) → SetsObjectVersion b.core o version s a.core → a ≡ record b { core = a.core }
     → StaysSettled b a
 version_settled b a o version s h e = stays_by b a (set_version_kills b.core a.core _ version h.0 h.1) (ap (λ (s : ServerState). s.may_clean_up) e)
+
+take_kills : (b a : CoreState) (o : FlatObjectId) (version u : ℕ) (result : Result FlatObjectId Status) → TakesObject b o version u result a → KillsNobody b a
+take_kills b a o version u result (s, mid, set, by) =
+    kills_then b mid a (set_version_kills b mid _ version set.0 set.1)
+    (elim (either_bool (is_done s) by) [
+      | inl given ↦ set_data_kills mid a _ u given.1.0 given.1.1
+      | inr refused ↦ kills_same mid a refused.1
+    ])
+
+pub claims_settled : (b a : ServerState) (client : FlatClientId) (i version n u : ℕ) (result : Result FlatObjectId Status)
+    → ClaimsObject b.core client i version n u result a.core → a ≡ record b { core = a.core } → StaysSettled b a
+claims_settled b a client i version n u result h e =
+    elim (either_bool (n == 0) h) [
+      | inl new ↦ creates_settled b a client i version u result new e
+      | inr chosen ↦
+          elim (either_option (unclaimed b.core client i n) chosen) [
+            | inl (none, at) ↦ creates_at_settled b a client i version n u result at e
+            | inr (o, is, takes) ↦ stays_by b a (take_kills b.core a.core o version u result takes) (ap (λ (s : ServerState). s.may_clean_up) e)
+          ]
+    ]
 
 pub flushes_settled : (b a : ServerState) (id : ClientParts) (s : Status) → FlushesClient b id s a → StaysSettled b a
 flushes_settled b a id s h =
@@ -323,6 +345,14 @@ request_settled b a id u result knows h =
         let e = after ∙ ap (λ k. ended k id (record b { core = core })) off in
         stays_core b a core (kills (λ sender ends created open'. sym (knows l sender ends created is none open') ∙ off))
         (ap (λ (s : ServerState). s.core) e) (ap (λ (s : ServerState). s.may_clean_up) e)
+
+pub action_ends_settled : (b a : ServerState) (id : ClientParts) (action : FlatAction) (result : Result Bool Status) → KnowsEnd b id → EndsAsAction b id action result a
+    → StaysSettled b a
+action_ends_settled b a id action result knows h =
+    elim (either_bool (action.kind == kinds.request) h) [
+      | inl request ↦ request_settled b a id (zero_for action.created) result knows request
+      | inr bind ↦ bind_settled b a id 0 result bind
+    ]
 
 -- ---- notes, and a cleanup
 

@@ -2,20 +2,22 @@
 use Rattle.std.proofs.Common.{◌≡◌, ◌∙◌, ℕ, ℤ, Bool, true, false, List, [], Option, None, Some, Result, Ok, Err, refl, ap}
 use mathlib.Core.Logic.{inl, inr}
 use Rattle.std.specs.Global.{Global}
-use Rattle.std.specs.Prelude.{MatchResult, Vec}
-use Rattle.wl_link.proofs.Calls.Branches.{either_option}
+use Rattle.std.specs.Prelude.{◌==◌, MatchResult, Vec}
+use Rattle.wl_link.proofs.Calls.Branches.{either_bool, either_option}
 use Rattle.wl_link.specs.Mailbox.{MailboxState}
 use Rattle.wl_server_client.specs.declared.notes.Note.{Note}
 use Rattle.wl_server_client.specs.Ids.{ClientParts}
 use Rattle.wl_server_model.specs.Lookups.{transport_of}
 use Rattle.wl_wire.specs.declared.error.OutOfMemory.{OutOfMemory}
-use Rattle.wl_host.specs.Actions.{EndsBind, EndsRequest, Lent, NextAction, ended, is_killed_by, marked_if}
+use Rattle.wl_host.specs.Actions.{EndsAsAction, EndsBind, EndsRequest, Lent, NextAction, ended, is_killed_by, marked_if, zero_for}
 use Rattle.wl_host.specs.Cleaning.{CleansUp, DropsNotes, DropsUnlessKept}
 use Rattle.wl_host.specs.Events.{Passed, SendsEvent}
 use Rattle.wl_flat.specs.Flat.{client_of}
 use Rattle.wl_host.specs.Notes.{Fetches}
 use Rattle.wl_host.specs.Seats.{gone_all, ledger_of}
 use Rattle.wl_host.specs.Server.{Received, ReceivedBy, Sent, SentBy, ServerState, TakesOut}
+use Rattle.wl_flat.specs.Kinds as kinds
+use Rattle.wl_flat.specs.declared.flat.FlatAction.{FlatAction}
 use Rattle.wl_flat.specs.declared.flat.FlatArgument.{FlatArgument}
 use Rattle.wl_host.specs.declared.server.ledger.Ledger.{Ledger}
 use Rattle.wl_flat.specs.declared.status.Status.{Status}
@@ -85,6 +87,13 @@ bind_told b a id u result h =
             | inr (kept, at, f) ↦ same_told b a f.1
             | inl (none, (answer, core, call, returns, told, after)) ↦ ap (λ (s : ServerState). s.told) after
           ]
+    ]
+
+pub action_ends_told : (b a : ServerState) (id : ClientParts) (action : FlatAction) (result : Result Bool Status) → EndsAsAction b id action result a → a.told ≡ b.told
+action_ends_told b a id action result h =
+    elim (either_bool (action.kind == kinds.request) h) [
+      | inl request ↦ request_told b a id (zero_for action.created) result request
+      | inr bind ↦ bind_told b a id 0 result bind
     ]
 
 pub event_told : (b a : ServerState) (p : Passed) (s : Status) → SendsEvent b p s a → a.told ≡ b.told

@@ -1,5 +1,5 @@
 -- The actions of clients: as flat structs, and what the calls that hand them out and end them do.
-use Rattle.std.specs.Prelude.{◌≡◌, ◌⊎◌, ◌&&◌, ℕ, ℤ, List, [], codes, length, nat_le, Bool, true, false, MatchBool, Option, None, Some, Result, Ok, Err, MatchOption, MatchResult, if◌then◌else◌}
+use Rattle.std.specs.Prelude.{◌≡◌, ◌==◌, ◌⊎◌, ◌&&◌, ℕ, ℤ, List, [], codes, length, nat_le, Bool, true, false, MatchBool, Option, None, Some, Result, Ok, Err, MatchOption, MatchResult, if◌then◌else◌}
 use Rattle.wl_wire.specs.MessageRows.{request_row}
 use Rattle.wl_wire.specs.Table.{name_of}
 use Rattle.wl_wire.specs.declared.argument.Argument.{Argument}
@@ -278,6 +278,15 @@ EndsBindOf before id data_given l result after =
 
 abbrev pub EndsBind : ServerState → ClientParts → ℕ → Result Bool Status → ServerState → Type 0
 EndsBind before id data_given result after = EndsAction before id (EndsBindOf before id data_given) result after
+
+-- the data 0, for the object that the action made, if it made one
+abbrev pub zero_for : FlatObjectId → Option ℕ
+zero_for created = if created.number == 0 then None else Some 0
+
+-- the action is ended as what it is, a request or a bind or registry, with the data 0 for what it made
+abbrev pub EndsAsAction : ServerState → ClientParts → FlatAction → Result Bool Status → ServerState → Type 0
+EndsAsAction before id action result after =
+    MatchBool (action.kind == kinds.request) (EndsRequest before id (zero_for action.created) result after) (EndsBind before id 0 result after)
 
 -- the status of an answer that says whether data are kept
 abbrev pub status_of_end : Result Bool Status → Status

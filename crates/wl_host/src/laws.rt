@@ -17,12 +17,12 @@ ghost use Rattle.wl_wire.specs.declared.argument.ArgumentType.{ArgumentType};
 ghost use Rattle.wl_wire.specs.declared.argument.Token.{Token};
 ghost use Rattle.wl_wire.specs.declared.error.OutOfMemory.{OutOfMemory};
 ghost use Rattle.wl_wire.specs.Table.{InterfaceRow};
-ghost use Rattle.wl_host.specs.Actions.{EndsBind, EndsRequest, Lent, NextAction};
+ghost use Rattle.wl_host.specs.Actions.{EndsAsAction, EndsBind, EndsRequest, Lent, NextAction};
 ghost use Rattle.wl_host.specs.Allowed.{LendsAllowedAction};
 ghost use Rattle.wl_host_client.specs.Allowed.{LendsAllowedEvent};
 ghost use Rattle.wl_flat.specs.Arguments.{ComesBack, IsReadInPlace, all_bytes, arguments_of, flat_arguments, moved};
 ghost use Rattle.wl_host.specs.Calls.{CoreState, CreatesGlobal, CreatesObject, InsertsClient, SetsObjectData, world};
-ghost use Rattle.wl_host.specs.Chosen.{CreatesObjectAt, SetsObjectVersion};
+ghost use Rattle.wl_host.specs.Chosen.{ClaimsObject, CreatesObjectAt, SetsObjectVersion};
 ghost use Rattle.wl_host.specs.Cleaning.{CleansUp};
 ghost use Rattle.wl_host_client.specs.Client.{ClientCore, HandsNext, HostedClient, LentForEvent, Receives, has_failed, sent, to_send as client_to_send};
 ghost use Rattle.wl_host_client.specs.ClientTellings as of_client;
@@ -49,6 +49,7 @@ ghost use Rattle.wl_flat.specs.Told.{LentTold, said_part, waiting_in};
 ghost use Rattle.wl_flat.specs.ToldRuns.{AreTold, CaughtUp, Deed, FoundNone, Heard, Leads, NothingWaits, SentOff, Watched, Wrote, all_found, all_handed, all_heard, all_read, all_sent, all_told, kept_in, new_watched};
 ghost use Rattle.wl_host.specs.Watching.{ComesTo, ComesToAll, Watches};
 ghost use Rattle.wl_flat.specs.declared.extending.ExtensionFault.{ExtensionFault};
+ghost use Rattle.wl_flat.specs.declared.flat.FlatAction.{FlatAction};
 ghost use Rattle.wl_flat.specs.declared.flat.FlatArgument.{FlatArgument};
 ghost use Rattle.wl_flat.specs.declared.flat.FlatClientId.{FlatClientId};
 ghost use Rattle.wl_flat.specs.declared.flat.FlatGlobalId.{FlatGlobalId};
@@ -144,11 +145,13 @@ pub fn a_cleanup_looks_for_the_killed()
     ensures next_action { (before after : ServerState) (id : ClientParts) (arguments : List FlatArgument) (bytes : List ℕ) (s : Status) (lent : Lent) (came_out : List ℤ) → ReadsTold before id arguments bytes s lent came_out after → StaysSettled before after }
     ensures finish_request { (before after : ServerState) (id : ClientParts) (user_data : Option ℕ) (result : Result Bool Status) → KnowsEnd before id → EndsRequest before id user_data result after → StaysSettled before after }
     ensures finish_bind { (before after : ServerState) (id : ClientParts) (user_data : ℕ) (result : Result Bool Status) → EndsBind before id user_data result after → StaysSettled before after }
+    ensures finish_action { (before after : ServerState) (id : ClientParts) (action : FlatAction) (result : Result Bool Status) → KnowsEnd before id → EndsAsAction before id action result after → StaysSettled before after }
     ensures send_event { (before after : ServerState) (passed : Passed) (s : Status) → SendsEvent before passed s after → StaysSettled before after }
     ensures post_error { (before after : ServerState) (object : FlatObjectId) (code : ℕ) (message : List ℕ) (s : Status) → PostsError before object code message s after → StaysSettled before after }
     ensures create_object { (before after : ServerState) (client : FlatClientId) (interface version user_data : ℕ) (result : Result FlatObjectId Status) → CreatesObject before.core client interface version user_data result after.core → after ≡ record before { core = after.core } → StaysSettled before after }
     ensures set_object_data { (before after : ServerState) (object : FlatObjectId) (user_data : ℕ) (s : Status) → SetsObjectData before.core object user_data s after.core → after ≡ record before { core = after.core } → StaysSettled before after }
     ensures create_object_at { (before after : ServerState) (client : FlatClientId) (interface version number user_data : ℕ) (result : Result FlatObjectId Status) → CreatesObjectAt before.core client interface version number user_data result after.core → after ≡ record before { core = after.core } → StaysSettled before after }
+    ensures claim_object { (before after : ServerState) (client : FlatClientId) (interface version number user_data : ℕ) (result : Result FlatObjectId Status) → ClaimsObject before.core client interface version number user_data result after.core → after ≡ record before { core = after.core } → StaysSettled before after }
     ensures set_object_version { (before after : ServerState) (object : FlatObjectId) (version : ℕ) (s : Status) → SetsObjectVersion before.core object version s after.core → after ≡ record before { core = after.core } → StaysSettled before after }
     ensures keep_global_names { (before after : ServerState) (keep : Bool) → Calls world before.core (step.KeepGlobalNames keep) reply.KeepGlobalNames after.core → after ≡ record before { core = after.core } → StaysSettled before after }
     ensures set_object_limit { (before after : ServerState) (limit : Option ℕ) → Calls world before.core (step.SetObjectLimit limit) reply.SetObjectLimit after.core → after ≡ record before { core = after.core } → StaysSettled before after }
@@ -184,6 +187,7 @@ pub fn a_registry_is_told_of_the_removal_of_what_it_was_told_of()
     ensures next_told { (before after : ServerState) (id : ClientParts) (lent : LentTold) (s : Status) (lent' : LentTold) → NextTold before id lent s lent' after → Tells before Neither after }
     ensures finish_request { (before after : ServerState) (id : ClientParts) (user_data : Option ℕ) (result : Result Bool Status) → EndsRequest before id user_data result after → Tells before Neither after }
     ensures finish_bind { (before after : ServerState) (id : ClientParts) (user_data : ℕ) (result : Result Bool Status) → EndsBind before id user_data result after → Tells before Neither after }
+    ensures finish_action { (before after : ServerState) (id : ClientParts) (action : FlatAction) (result : Result Bool Status) → EndsAsAction before id action result after → Tells before Neither after }
     ensures send_event { (before after : ServerState) (passed : Passed) (s : Status) → SendsEvent before passed s after → Tells before Neither after }
     ensures cleanup { (before after : ServerState) (s : Status) → CleansUp before s after → Tells before Neither after }
     ensures beside { (before after : ServerState) → after.told ≡ before.told → Tells before Neither after }

@@ -22,12 +22,13 @@ pub use laws::{a_forbidden_null_is_told, flat_arguments_come_back};
 pub use server::violations::{FlatViolation, violation};
 pub use server::{HostClient, HostGlobal, Server};
 pub use wl_flat::{
-    ArgumentRow, BIND, CLIENT_SIDE, Counts, DESTROYED, EventQueues, ExtensionFault, FlatAction,
-    FlatArgument, FlatClientId, FlatEnd, FlatError, FlatEvent, FlatGlobalId, FlatGlobalInfo,
-    FlatHeldObject, FlatNote, FlatObjectId, FlatObjectInfo, FlatQueuedEvent, FlatQueuedObject,
-    FlatReaders, FlatRequest, FlatTold, FlatTurn, Gone, Guard, HANDED, INSERTED, IO, InterfaceRow,
-    KILLED, Limits, MESSAGE, MessageRow, NO_MESSAGE, PROTOCOL, Policy, QUEUE_DROPPED, REGISTRY,
-    REQUEST, Rows, SENDER_DESTROYED, SERVER_SIDE, SESSION_FAILED, SLOT_ALIVE, SLOT_DESTROYED,
-    SLOT_FREE, Status, TableFault, UNKNOWN_MESSAGE, Waiting, fault, kind, read_signature, reason,
+    ArgumentRow, BIND, CLIENT_SIDE, Counts, DELETES_ID, DESTROYED, EventQueues, ExtensionFault,
+    FlatAction, FlatArgument, FlatClientId, FlatEnd, FlatError, FlatEvent, FlatGlobalId,
+    FlatGlobalInfo, FlatHeldObject, FlatNote, FlatObjectId, FlatObjectInfo, FlatQueuedEvent,
+    FlatQueuedObject, FlatReaders, FlatRequest, FlatRun, FlatTold, FlatTurn, Gone, Guard, HANDED,
+    INSERTED, IO, InterfaceRow, KILLED, LACKS_DESCRIPTORS, Limits, MESSAGE, MessageRow, NO_MESSAGE,
+    PASSED_OVER, PLAIN_RUN, PROTOCOL, Policy, QUEUE_DROPPED, REGISTRY, REQUEST, Rows,
+    SENDER_DESTROYED, SERVER_SIDE, SESSION_FAILED, SLOT_ALIVE, SLOT_DESTROYED, SLOT_FREE, Status,
+    TableFault, UNKNOWN_MESSAGE, UnusedObject, Waiting, fault, kind, read_signature, reason,
 };
 pub use wl_host_client::Client;

@@ -5,4 +5,6 @@ pub mod ClientNotes
 pub mod ClientReading
 pub mod ClientUntold
 pub mod ClientWatching
+pub mod Runs
 pub mod EventsAllowed
+pub mod GivingUp

@@ -12,6 +12,7 @@ use Rattle.wl_link.specs.Exchange.{Queue, nothing}
 use Rattle.wl_link.specs.Link.{LinkState, LimitSet}
 use Rattle.wl_link.specs.Mailbox.{MailboxState, MailboxReceives, MailboxSends}
 use Rattle.wl_client.specs.declared.error.DestroyError.{DestroyError}
+use Rattle.wl_client.specs.declared.error.DestroyError.TheVariants as destroy
 use Rattle.wl_client.specs.declared.error.EventError.{EventError}
 use Rattle.wl_client.specs.declared.error.FinishRefused.{FinishRefused}
 use Rattle.wl_client.specs.declared.error.FlushError.{FlushError}
@@ -243,6 +244,26 @@ Destroys before id s after =
     ⊎ ((answer : Result (Unit {0}) DestroyError) × (core : ClientCore)
     × DestroyedBy before.core.session id answer core.session × (core.refused ≡ refused_destroy answer)
     × (s ≡ status_of of_proxy_destroy answer) × (after ≡ with_notes_of before core))
+
+-- An object that the client has destroyed: its data are 0, it leaves if both sides have given it up, and no note tells of it.
+abbrev pub LeavesUnnoted : ClientCore → IdParts → Status → ClientCore → Type 0
+LeavesUnnoted destroyed id s after =
+    (cleared left : ClientCore) × (reclaimed : Status) × GivesData destroyed id 0 s cleared × Reclaims cleared id reclaimed left
+    × (after ≡ without_notes left)
+
+-- there was no memory, or it is the display: the object stays
+abbrev pub stays : Result (Unit {0}) DestroyError → IdParts → Bool
+stays (Ok u) id = false
+stays (Err destroy.InvalidId) id = id.number == 1
+stays (Err destroy.OutOfMemory) id = true
+
+-- The object is given up for good, also one that was destroyed before.
+abbrev pub GivesUp : HostedClient → IdParts → Status → HostedClient → Type 0
+GivesUp before id s after =
+    (answer : Result (Unit {0}) DestroyError) × (core : ClientCore)
+    × DestroyedBy before.core.session id answer core.session × (core.refused ≡ refused_destroy answer)
+    × MatchBool (stays answer id) ((s ≡ status_of of_proxy_destroy answer) × (after.core ≡ core)) (LeavesUnnoted core id s after.core)
+    × (after ≡ record before { core = after.core })
 
 -- The first of these objects is handed out and leaves them; or there is none, and nothing is changed.
 abbrev pub HandsNote : List DestroyedObject → HostedClient → FlatObjectId → ℕ → Status → HostedClient → FlatObjectId → ℕ → Type 0

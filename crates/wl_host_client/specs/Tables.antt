@@ -1,18 +1,14 @@
 -- Which table a client's session has: when it is made for rows, when the interfaces of more rows are added, and when whole rows extend it.
-use Rattle.std.specs.Prelude.{◌≡◌, ◌⊎◌, ℕ, [], List, true, false, Option, None, Some, Result, Ok, Err, slice_get}
+use Rattle.std.specs.Prelude.{◌≡◌, ◌⊎◌, ℕ, [], List, true, false, None, Result, Ok, Err}
 use Rattle.wl_wire.specs.declared.protocol.TableError.{TableError}
-use Rattle.wl_wire.specs.Parse.{fd_count}
-use Rattle.wl_wire.specs.Table.{AnswersGrowth, AnswersTo, Growth, InterfaceRow, MessageRow, grown, refused_growth, table_after}
+use Rattle.wl_wire.specs.Table.{AnswersGrowth, AnswersTo, Growth, InterfaceRow, grown, refused_growth, table_after}
 use Rattle.wl_client.specs.Session.{IsConnected}
 use Rattle.wl_flat.specs.declared.extending.ExtensionFault.{ExtensionFault}
 use Rattle.wl_flat.specs.declared.rows.Rows.{Rows}
 use Rattle.wl_flat.specs.declared.rows.TableFault.{TableFault}
-use Rattle.wl_flat.specs.declared.status.Status.{Status}
-use Rattle.wl_flat.specs.declared.status.Status.TheVariants as status
 use Rattle.wl_flat.specs.Rows.{RefusesRows, said_by, table_answer}
 use Rattle.wl_host_client.specs.Client.{ClientCore, HostedClient}
 use Rattle.wl_flat.specs.Extending.{Extends, fault_as_told}
-use Rattle.wl_flat.specs.Flat.{count_number}
 use Rattle.wl_flat.specs.Joining.{JoinsOthers, JoinsRows}
 use Rattle.wl_flat.specs.Sending.{empty_mailbox}
 use Rattle.wl_flat.specs.Descriptors.{no_descriptors}
@@ -67,15 +63,3 @@ ExtendsClient rows before result after =
 -- The interface of the rows joins the table of a client's session, in which others may have its name.
 abbrev pub JoinsClient : Rows → ClientCore → Result ℕ ExtensionFault → ClientCore → Type 0
 JoinsClient rows before result after = JoinsRows (JoinsOthers ClientGrows before.session.table) rows before result after
-
-abbrev pub descriptors_of : Option MessageRow → Result ℕ Status
-descriptors_of None = Err status.UnknownOpcode
-descriptors_of (Some event) = Ok (count_number (fd_count event.signature))
-
-abbrev pub event_descriptors_of : Option InterfaceRow → ℕ → Result ℕ Status
-event_descriptors_of None opcode = Err status.UnknownInterface
-event_descriptors_of (Some row) opcode = descriptors_of (slice_get row.events opcode)
-
--- how many descriptors the event of that opcode brings, of the interface at that place
-abbrev pub event_descriptors : List InterfaceRow → ℕ → ℕ → Result ℕ Status
-event_descriptors table interface opcode = event_descriptors_of (slice_get table interface) opcode

@@ -3,8 +3,9 @@
 //! | Calls | Code |
 //! |---|---|
 //! | `connect`, the table, the limits, `pass_over_unknown_senders`, `refuse_nulls`, `fail`, `last_error` | this file, `client::faults` |
-//! | `join_interface`, `event_descriptors` | `client::joining` |
+//! | `join_interface` | `client::joining` |
 //! | `received`, `received_end`, `receive_failed` | `client::receiving` |
+//! | `next_run` | `client::runs` |
 //! | `next_event`, `finish_event` | `client::events`, `client::flattening`, `client::refusals` |
 //! | `send_request` | `client::requests` |
 //! | the calls about one object | `client::objects` |
@@ -34,6 +35,7 @@ mod objects;
 mod receiving;
 mod refusals;
 mod requests;
+mod runs;
 mod sending;
 mod telling;
 mod waiting;
@@ -178,6 +180,7 @@ impl Client {
     pub fn add_interfaces(&mut self, rows: &Rows) -> Result<(), TableFault>
         ensures call { AddsToClient rows.now self.old.core result self.new.core }
         ensures beside { self.new ≡ record self.old { core = self.new.core } }
+        ensures descriptors { ConservesClient self.old [] [] self.new }
     {
         let alloc = *self.notes.allocator();
         let interfaces = interfaces_of(alloc, rows)?;
@@ -188,6 +191,7 @@ impl Client {
     pub fn extend_interfaces(&mut self, rows: &Rows) -> Result<(), ExtensionFault>
         ensures call { ExtendsClient rows.now self.old.core result self.new.core }
         ensures beside { self.new ≡ record self.old { core = self.new.core } }
+        ensures descriptors { ConservesClient self.old [] [] self.new }
     {
         let alloc = *self.notes.allocator();
         let interfaces = interfaces_of(alloc, rows)?;

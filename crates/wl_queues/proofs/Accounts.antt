@@ -30,12 +30,12 @@ module _ {E : Type 0} where
       ∙ sym (ap (λ ws. leaves_by q (Next queue e outcome) ++ ws) (d.leaves.waiting q))
   step s m q (NewQueue queue) d = as-it-was s m q (d.leaves.waiting q)
   step s m q (DropQueue queue) d = as-it-was s m q (d.leaves.waiting q)
-  step s m q (Add object queue) d = as-it-was s m q (d.leaves.waiting q)
+  step s m q (Add object queue content) d = as-it-was s m q (d.leaves.waiting q)
   step s m q (SetQueue object queue) d = as-it-was s m q (d.leaves.waiting q)
   step s m q (Destroy object) d = as-it-was s m q (d.leaves.waiting q)
   step s m q (Finish ticket e) d = as-it-was s m q (d.leaves.waiting q)
   step s m q Fail d = as-it-was s m q (d.leaves.waiting q)
-  step s m q (NextUnused object) d = as-it-was s m q (d.leaves.waiting q)
+  step s m q (NextUnused object content) d = as-it-was s m q (d.leaves.waiting q)
 
   accounts : (s t : QueuesState E) (q : ℕ) (calls : List (Call E)) → Runs s calls t →
       s.waiting q ++ all_by (comes_by q) calls ≡ all_by (leaves_by q) calls ++ t.waiting q

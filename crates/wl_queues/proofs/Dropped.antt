@@ -52,10 +52,10 @@ module _ {E : Type 0} where
   open-left s queue x some first its false other = grind (arith, nat_tests, other, its)
 
   open-step : (s m : QueuesState E) (c : Call E) → Does s c m → AreOpen s → AreOpen m
-  open-step s m (Add object queue) d was = open-with s m object (alive_in queue) d.leaves.objects d.leaves.is_dropped (λ alive. d.answers.1.kept) was
+  open-step s m (Add object queue content) d was = open-with s m object (alive_in queue content) d.leaves.objects d.leaves.is_dropped (λ alive. d.answers.1.kept) was
   open-step s m (SetQueue object queue) d was = open-with s m object (in_queue queue (s.objects object)) d.leaves.objects d.leaves.is_dropped (λ alive. d.answers.1.kept) was
   open-step s m (Destroy object) d was = open-with s m object (destroyed (s.objects object)) d.leaves.objects d.leaves.is_dropped (λ alive. absurd (grind (arith, alive))) was
-  open-step s m (NextUnused object) d was = open-with s m object nobody d.leaves.objects d.leaves.is_dropped (λ alive. absurd (grind (arith, alive))) was
+  open-step s m (NextUnused object content) d was = open-with s m object nobody d.leaves.objects d.leaves.is_dropped (λ alive. absurd (grind (arith, alive))) was
   open-step s m (DropQueue queue) d was = record {
     first = d.leaves.is_dropped 0 ∙ grind (arith, nat_tests, d.answers.1, was.first);
     each = λ o alive.
@@ -84,14 +84,14 @@ module _ {E : Type 0} where
   dropped-step : (s m : QueuesState E) (q : ℕ) (c : Call E) → Does s c m → s.is_dropped q ≡ true → m.is_dropped q ≡ true
   dropped-step s m q (DropQueue queue) d dropped = d.leaves.is_dropped q ∙ dropped-more s q (q == queue) dropped
   dropped-step s m q (NewQueue queue) d dropped = d.leaves.is_dropped q ∙ dropped
-  dropped-step s m q (Add object queue) d dropped = d.leaves.is_dropped q ∙ dropped
+  dropped-step s m q (Add object queue content) d dropped = d.leaves.is_dropped q ∙ dropped
   dropped-step s m q (SetQueue object queue) d dropped = d.leaves.is_dropped q ∙ dropped
   dropped-step s m q (Destroy object) d dropped = d.leaves.is_dropped q ∙ dropped
   dropped-step s m q (Put queue e) d dropped = d.leaves.is_dropped q ∙ dropped
   dropped-step s m q (Next queue e outcome) d dropped = d.leaves.is_dropped q ∙ dropped
   dropped-step s m q (Finish ticket e) d dropped = d.leaves.is_dropped q ∙ dropped
   dropped-step s m q Fail d dropped = d.leaves.is_dropped q ∙ dropped
-  dropped-step s m q (NextUnused object) d dropped = d.leaves.is_dropped q ∙ dropped
+  dropped-step s m q (NextUnused object content) d dropped = d.leaves.is_dropped q ∙ dropped
 
   none-put : (s : QueuesState E) (q queue : ℕ) (e : Event E) → s.is_dropped q ≡ true → s.is_dropped queue ≡ false → (b : Bool) → (q == queue) ≡ b → (if b then e ∷ [] else []) ≡ []
   none-put s q queue e dropped kept true here = let same : q ≡ queue = grind (arith, nat_tests, here) in absurd (clash (sym dropped ∙ (ap s.is_dropped same ∙ kept)))
@@ -105,13 +105,13 @@ module _ {E : Type 0} where
       none-put s q queue e dropped (ap s.is_dropped d.answers.1 ∙ was.each e.sender d.answers.0.sender) (q == queue) refl
   comes-none s m q (NewQueue queue) d was dropped = refl
   comes-none s m q (DropQueue queue) d was dropped = refl
-  comes-none s m q (Add object queue) d was dropped = refl
+  comes-none s m q (Add object queue content) d was dropped = refl
   comes-none s m q (SetQueue object queue) d was dropped = refl
   comes-none s m q (Destroy object) d was dropped = refl
   comes-none s m q (Next queue e outcome) d was dropped = refl
   comes-none s m q (Finish ticket e) d was dropped = refl
   comes-none s m q Fail d was dropped = refl
-  comes-none s m q (NextUnused object) d was dropped = refl
+  comes-none s m q (NextUnused object content) d was dropped = refl
 
   none-handed : (e : Event E) (outcome : Outcome) (b : Bool) → is_handed outcome ≡ false → (if b then (if is_handed outcome then e ∷ [] else []) else []) ≡ []
   none-handed e outcome true against = ap (λ h. if h then e ∷ [] else []) against
@@ -131,13 +131,13 @@ module _ {E : Type 0} where
   hands-none s m q (Next queue e outcome) d dropped = hands-dropped s q queue e outcome dropped d.answers.1 (q == queue) refl
   hands-none s m q (NewQueue queue) d dropped = refl
   hands-none s m q (DropQueue queue) d dropped = refl
-  hands-none s m q (Add object queue) d dropped = refl
+  hands-none s m q (Add object queue content) d dropped = refl
   hands-none s m q (SetQueue object queue) d dropped = refl
   hands-none s m q (Destroy object) d dropped = refl
   hands-none s m q (Put queue e) d dropped = refl
   hands-none s m q (Finish ticket e) d dropped = refl
   hands-none s m q Fail d dropped = refl
-  hands-none s m q (NextUnused object) d dropped = refl
+  hands-none s m q (NextUnused object content) d dropped = refl
 
   both-none : (xs ys : List (Event E)) → xs ≡ [] → ys ≡ [] → xs ++ ys ≡ []
   both-none xs ys x y = ap (λ zs. zs ++ ys) x ∙ y
@@ -155,13 +155,13 @@ module _ {E : Type 0} where
   failed-step s m Fail d failed = d.leaves.failed
   failed-step s m (NewQueue queue) d failed = d.leaves.failed ∙ failed
   failed-step s m (DropQueue queue) d failed = d.leaves.failed ∙ failed
-  failed-step s m (Add object queue) d failed = d.leaves.failed ∙ failed
+  failed-step s m (Add object queue content) d failed = d.leaves.failed ∙ failed
   failed-step s m (SetQueue object queue) d failed = d.leaves.failed ∙ failed
   failed-step s m (Destroy object) d failed = d.leaves.failed ∙ failed
   failed-step s m (Put queue e) d failed = d.leaves.failed ∙ failed
   failed-step s m (Next queue e outcome) d failed = d.leaves.failed ∙ failed
   failed-step s m (Finish ticket e) d failed = d.leaves.failed ∙ failed
-  failed-step s m (NextUnused object) d failed = d.leaves.failed ∙ failed
+  failed-step s m (NextUnused object content) d failed = d.leaves.failed ∙ failed
 
   hands-failed : (s m : QueuesState E) (q : ℕ) (c : Call E) → Does s c m → s.failed ≡ true → hands_by q c ≡ []
   hands-failed s m q (Next queue e outcome) d failed =
@@ -169,13 +169,13 @@ module _ {E : Type 0} where
       (ap is_handed d.answers.1 ∙ ap (λ f. is_handed (outcome_by s.tickets (reason_against f (s.is_dropped queue) (is_alive (s.objects e.sender).fate)))) failed)
   hands-failed s m q (NewQueue queue) d failed = refl
   hands-failed s m q (DropQueue queue) d failed = refl
-  hands-failed s m q (Add object queue) d failed = refl
+  hands-failed s m q (Add object queue content) d failed = refl
   hands-failed s m q (SetQueue object queue) d failed = refl
   hands-failed s m q (Destroy object) d failed = refl
   hands-failed s m q (Put queue e) d failed = refl
   hands-failed s m q (Finish ticket e) d failed = refl
   hands-failed s m q Fail d failed = refl
-  hands-failed s m q (NextUnused object) d failed = refl
+  hands-failed s m q (NextUnused object content) d failed = refl
 
   failed-run : (s t : QueuesState E) (q : ℕ) (calls : List (Call E)) → Runs s calls t → s.failed ≡ true → (t.failed ≡ true) × (all_by (hands_by q) calls ≡ [])
   failed-run s t q [] r failed = (r.failed ∙ failed, refl)

@@ -1,4 +1,5 @@
 pub mod Accounts
+pub mod Contents
 pub mod Dropped
 pub mod Lists
 pub mod Reading

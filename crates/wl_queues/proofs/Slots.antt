@@ -116,7 +116,7 @@ module _ {A : Type 0} where
   -- an object is destroyed that nothing refers to
   pub listed-destroyed : (slots : List Slot) (u v : VecDeque ℕ A) (o : ℕ) (x y : Slot) → (slot_at slots o).object.fate ≡ Alive → x ≡ get_or slots o x → y ≡ get_or slots o y → IsListed slots u → y.references ≡ 0 →
       v.items ≡ u.items ++ o ∷ [] → deque_len v ≡ deque_len u + 1 → deque_capacity v ≡ deque_capacity u →
-      IsListed (slice_set slots o (record { object = record { queue = x.object.queue; fate = Destroyed }; references = x.references; next = x.next })) v
+      IsListed (slice_set slots o (record { object = record { queue = x.object.queue; fate = Destroyed; content = x.object.content }; references = x.references; next = x.next })) v
   listed-destroyed slots u v o x y alive isx isy l none items len capacity =
       let lt = slot-alive slots o alive in
       let same = slot-is slots o x lt isx ∙ sym (slot-is slots o y lt isy) in

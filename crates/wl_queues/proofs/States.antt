@@ -10,6 +10,7 @@ use Rattle.wl_queues.specs.declared.events.Reason.{Reason}
 use Rattle.wl_queues.specs.Events.{IsFirstSender, has_ticket, reason_against}
 use Rattle.wl_queues.specs.Nexts.{HandsNext}
 use Rattle.wl_queues.specs.declared.objects.Fate.TheVariants.{Destroyed}
+use Rattle.wl_queues.specs.declared.objects.UnusedObject.{UnusedObject}
 use Rattle.wl_queues.specs.declared.queues.Queues.{Queues}
 use Rattle.wl_queues.specs.Inside.Objects.{object_of, references_of}
 use Rattle.wl_queues.specs.Objects.{given_up, is_alive}
@@ -19,23 +20,25 @@ use Rattle.wl_queues.proofs.Lists.{unnamed-of-zero, zero-of-unnamed}
 
 module _ {E : Type 0} where
   -- an object that is destroyed and that nothing refers to is unused
-  pub unused-of : (q : Queues E) (r : Option ℕ) → IfSome r (λ o. ((object_of q.objects o).fate ≡ Destroyed) × (references_of q.objects o ≡ 0)) → IfSome r (λ o. IsUnused (state_of q) o)
+  pub unused-of : (q : Queues E) (r : Option UnusedObject) → IfSome r (λ u. ((object_of q.objects u.object).fate ≡ Destroyed) × (references_of q.objects u.object ≡ 0)) →
+      IfSome r (λ u. IsUnused (state_of q) u.object)
   unused-of q None h = tt
-  unused-of q (Some o) h = record {
+  unused-of q (Some u) h = record {
     destroyed = h.0;
-    unnamed = unnamed-of-zero (state_of q) o q.queues.items q.in_hand.items (λ n. refl) refl (sym (q.counted.each o) ∙ h.1);
+    unnamed = unnamed-of-zero (state_of q) u.object q.queues.items q.in_hand.items (λ n. refl) refl (sym (q.counted.each u.object) ∙ h.1);
   }
 
   -- and no other is
-  pub none-unused : (q : Queues E) (r : Option ℕ) → IfNone r ((o : ℕ) → (object_of q.objects o).fate ≡ Destroyed → 0 < references_of q.objects o) → IfNone r ((o : ℕ) → ¬ (IsUnused (state_of q) o))
+  pub none-unused : (q : Queues E) (r : Option UnusedObject) → IfNone r ((o : ℕ) → (object_of q.objects o).fate ≡ Destroyed → 0 < references_of q.objects o) → IfNone r ((o : ℕ) → ¬ (IsUnused (state_of q) o))
   none-unused q None h = λ o u. let zero-times = q.counted.each o ∙ zero-of-unnamed (state_of q) o q.queues.items q.in_hand.items (λ n. refl) refl u.unnamed in omega (arith, h o u.destroyed, zero-times)
-  none-unused q (Some o) h = tt
+  none-unused q (Some u) h = tt
 
-  pub told-does : (s t : QueuesState E) (r : Option ℕ) → IfSome r (λ o. IsUnused s o) → ((p : ℕ) → t.objects p ≡ given_up r s.objects p) → t.queues ≡ s.queues → ((n : ℕ) → t.is_dropped n ≡ s.is_dropped n) →
-      ((n : ℕ) → t.waiting n ≡ s.waiting n) → t.in_hand ≡ s.in_hand → t.tickets ≡ s.tickets → t.failed ≡ s.failed → IfSome r (λ o. Does s (NextUnused o) t)
-  told-does s t None unused objects queues dropped waiting in_hand tickets failed = tt
-  told-does s t (Some o) unused objects queues dropped waiting in_hand tickets failed = record {
-    answers = unused;
+  pub told-does : (s t : QueuesState E) (r : Option UnusedObject) → IfSome r (λ u. IsUnused s u.object) → IfSome r (λ u. u.content ≡ (s.objects u.object).content) →
+      ((p : ℕ) → t.objects p ≡ given_up r s.objects p) → t.queues ≡ s.queues → ((n : ℕ) → t.is_dropped n ≡ s.is_dropped n) →
+      ((n : ℕ) → t.waiting n ≡ s.waiting n) → t.in_hand ≡ s.in_hand → t.tickets ≡ s.tickets → t.failed ≡ s.failed → IfSome r (λ u. Does s (NextUnused u.object u.content) t)
+  told-does s t None unused content objects queues dropped waiting in_hand tickets failed = tt
+  told-does s t (Some u) unused content objects queues dropped waiting in_hand tickets failed = record {
+    answers = (unused, content);
     leaves = record { objects = objects; queues = queues; is_dropped = dropped; waiting = waiting; in_hand = in_hand; tickets = tickets; failed = failed };
   }
 

@@ -1,6 +1,6 @@
 -- Tickets: each event in hand has one that was given out, so a new one names the event that was handed out with it.
-use Rattle.std.proofs.Common.{◌≡◌, ℕ, suc, ◌+◌, ◌<◌, ◌≤◌, List, [], ◌∷◌, ◌++◌, length, get_or, Bool, true, false, refl, sym, ap, ◌∙◌, arith, subst, Option, Some}
-use Rattle.std.specs.Prelude.{◌==◌, All, nat_lt, option_and_then, drop, remove, slice_get, take}
+use Rattle.std.proofs.Common.{◌≡◌, ℕ, suc, ◌+◌, ◌<◌, List, [], ◌∷◌, ◌++◌, length, get_or, true, false, sym, ap, ◌∙◌, arith, subst, Some}
+use Rattle.std.specs.Prelude.{option_and_then, drop, remove, slice_get, take}
 use Rattle.std.specs.Option.{option_map}
 use Rattle.std.specs.List.{position, position_or_len}
 use Rattle.std.proofs.lemmas.Bool.Decides.{nat_tests}

@@ -15,12 +15,12 @@ use Rattle.wl_queues.specs.Runs.{NamesNoFreeObject, Runs, TellsEachObjectUnusedO
 
 -- ---- how often it is told unused
 
-kept-add : (o object queue : ℕ) (objects : ℕ → Object) → (objects object).fate ≡ Free → (b : Bool) → (o == object) ≡ b →
-    times_kept (objects o).fate + (if b then 1 else 0) ≡ times_kept (if b then alive_in queue else objects o).fate
-kept-add o object queue objects free true here =
+kept-add : (o object queue content : ℕ) (objects : ℕ → Object) → (objects object).fate ≡ Free → (b : Bool) → (o == object) ≡ b →
+    times_kept (objects o).fate + (if b then 1 else 0) ≡ times_kept (if b then alive_in queue content else objects o).fate
+kept-add o object queue content objects free true here =
     let same : o ≡ object = grind (arith, nat_tests, here) in
     ap (λ n. times_kept (objects n).fate + 1) same ∙ ap (λ f. times_kept f + 1) free
-kept-add o object queue objects free false other = omega arith
+kept-add o object queue content objects free false other = omega arith
 
 kept-told : (o object : ℕ) (objects : ℕ → Object) → (objects object).fate ≡ Destroyed → (b : Bool) → (o == object) ≡ b →
     times_kept (objects o).fate ≡ (if b then 1 else 0) + times_kept (if b then nobody else objects o).fate
@@ -66,9 +66,9 @@ no-argument objects o arguments free alive =
     grind (arith, le)
 
 -- a slot that is free after a new object came was free before
-free-added : (o object queue : ℕ) (objects : ℕ → Object) (b : Bool) → (if b then alive_in queue else objects o).fate ≡ Free → (objects o).fate ≡ Free
-free-added o object queue objects true free = absurd (free-or-alive Alive free refl)
-free-added o object queue objects false free = free
+free-added : (o object queue content : ℕ) (objects : ℕ → Object) (b : Bool) → (if b then alive_in queue content else objects o).fate ≡ Free → (objects o).fate ≡ Free
+free-added o object queue content objects true free = absurd (free-or-alive Alive free refl)
+free-added o object queue content objects false free = free
 
 free-destroyed : (o object : ℕ) (objects : ℕ → Object) (b : Bool) → (if b then destroyed (objects object) else objects o).fate ≡ Free → (objects o).fate ≡ Free
 free-destroyed o object objects true free = absurd (not-free free)
@@ -84,10 +84,10 @@ module _ {E : Type 0} where
 
   kept-step : (s m : QueuesState E) (o : ℕ) (c : Call E) → Does s c m →
       added_by o c + times_kept (s.objects o).fate ≡ told_by o c + times_kept (m.objects o).fate
-  kept-step s m o (Add object queue) d =
-      omega (arith, kept-add o object queue s.objects d.answers.0 (o == object) refl, ap (λ x. times_kept x.fate) (d.leaves.objects o))
-  kept-step s m o (NextUnused object) d =
-      omega (arith, kept-told o object s.objects d.answers.destroyed (o == object) refl, ap (λ x. times_kept x.fate) (d.leaves.objects o))
+  kept-step s m o (Add object queue content) d =
+      omega (arith, kept-add o object queue content s.objects d.answers.0 (o == object) refl, ap (λ x. times_kept x.fate) (d.leaves.objects o))
+  kept-step s m o (NextUnused object content) d =
+      omega (arith, kept-told o object s.objects d.answers.0.destroyed (o == object) refl, ap (λ x. times_kept x.fate) (d.leaves.objects o))
   kept-step s m o (Destroy object) d =
       omega (arith, kept-destroy o object s.objects d.answers (o == object) refl, ap (λ x. times_kept x.fate) (d.leaves.objects o))
   kept-step s m o (SetQueue object queue) d = kept-as s m o (fate-moved o object queue s.objects (o == object) refl ∙ sym (ap (λ x. x.fate) (d.leaves.objects o)))
@@ -164,10 +164,10 @@ module _ {E : Type 0} where
   told-or-free s o object was unnamed false other free = was o free
 
   names-step : (s m : QueuesState E) (c : Call E) → Does s c m → NamesNone s → NamesNone m
-  names-step s m (Add object queue) d was = λ o free.
-      unnamed-same s m o d.leaves.waiting d.leaves.in_hand (was o (free-added o object queue s.objects (o == object) (sym (ap (λ x. x.fate) (d.leaves.objects o)) ∙ free)))
-  names-step s m (NextUnused object) d was = λ o free.
-      unnamed-same s m o d.leaves.waiting d.leaves.in_hand (told-or-free s o object was d.answers.unnamed (o == object) refl (sym (ap (λ x. x.fate) (d.leaves.objects o)) ∙ free))
+  names-step s m (Add object queue content) d was = λ o free.
+      unnamed-same s m o d.leaves.waiting d.leaves.in_hand (was o (free-added o object queue content s.objects (o == object) (sym (ap (λ x. x.fate) (d.leaves.objects o)) ∙ free)))
+  names-step s m (NextUnused object content) d was = λ o free.
+      unnamed-same s m o d.leaves.waiting d.leaves.in_hand (told-or-free s o object was d.answers.0.unnamed (o == object) refl (sym (ap (λ x. x.fate) (d.leaves.objects o)) ∙ free))
   names-step s m (Destroy object) d was = λ o free.
       unnamed-same s m o d.leaves.waiting d.leaves.in_hand (was o (free-destroyed o object s.objects (o == object) (sym (ap (λ x. x.fate) (d.leaves.objects o)) ∙ free)))
   names-step s m (SetQueue object queue) d was = λ o free.

@@ -1,12 +1,13 @@
--- Objects, each in its slot: in which queue its events wait, and what has become of it.
+-- Objects, each in its slot: in which queue its events wait, what has become of it, and the content with which it was added.
 use Rattle.std.specs.Prelude.{ℕ, ◌==◌, Bool, true, false, if◌then◌else◌, Option, None, Some}
 use Rattle.wl_queues.specs.declared.objects.Fate.{Fate}
 use Rattle.wl_queues.specs.declared.objects.Fate.TheVariants.{Alive, Destroyed, Free}
 use Rattle.wl_queues.specs.declared.objects.Object.{Object}
+use Rattle.wl_queues.specs.declared.objects.UnusedObject.{UnusedObject}
 
 -- what a slot has that no object has
 abbrev pub nobody : Object
-nobody = record { queue = 0; fate = Free }
+nobody = record { queue = 0; fate = Free; content = 0 }
 
 abbrev pub is_alive : Fate → Bool
 is_alive Free = false
@@ -22,19 +23,19 @@ is_destroyed Destroyed = true
 abbrev pub with_object : ℕ → Object → (ℕ → Object) → ℕ → Object
 with_object slot x objects other = if other == slot then x else objects other
 
--- a new object of the queue
-abbrev pub alive_in : ℕ → Object
-alive_in queue = record { queue = queue; fate = Alive }
+-- a new object of the queue, with this content
+abbrev pub alive_in : ℕ → ℕ → Object
+alive_in queue content = record { queue = queue; fate = Alive; content = content }
 
 abbrev pub destroyed : Object → Object
-destroyed x = record { queue = x.queue; fate = Destroyed }
+destroyed x = record { queue = x.queue; fate = Destroyed; content = x.content }
 
 abbrev pub in_queue : ℕ → Object → Object
-in_queue queue x = record { queue = queue; fate = x.fate }
+in_queue queue x = record { queue = queue; fate = x.fate; content = x.content }
 
--- a new object of the queue is in this slot
-abbrev pub with_new : ℕ → ℕ → (ℕ → Object) → ℕ → Object
-with_new object queue objects = with_object object (alive_in queue) objects
+-- a new object of the queue, with this content, is in this slot
+abbrev pub with_new : ℕ → ℕ → ℕ → (ℕ → Object) → ℕ → Object
+with_new object queue content objects = with_object object (alive_in queue content) objects
 
 -- the object has this queue
 abbrev pub with_queue : ℕ → ℕ → (ℕ → Object) → ℕ → Object
@@ -48,7 +49,7 @@ with_destroyed object objects = with_object object (destroyed (objects object)) 
 abbrev pub left_by : ℕ → Object → Object
 left_by queue x = if x.queue == queue then in_queue 0 x else x
 
--- the slot, if there is one, is free again
-abbrev pub given_up : Option ℕ → (ℕ → Object) → ℕ → Object
+-- the slot of the object, if there is one, is free again
+abbrev pub given_up : Option UnusedObject → (ℕ → Object) → ℕ → Object
 given_up None objects = objects
-given_up (Some slot) objects = with_object slot nobody objects
+given_up (Some u) objects = with_object u.object nobody objects

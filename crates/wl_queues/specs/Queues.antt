@@ -95,20 +95,20 @@ abbrev pub tickets_in : Outcome → ℕ
 tickets_in (Handed ticket) = 1
 tickets_in (Dropped reason) = 0
 
--- A call that changes something, with what it answered: a new queue, a dropped one, a new object in a slot, another queue for an
--- object's later events, an object that is destroyed, an event that comes into a queue, one that leaves it, the end of one that is
--- in hand, the failing of the session, and an object that is told unused.
+-- A call that changes something, with what it answered: a new queue, a dropped one, a new object in a slot with its content, another
+-- queue for an object's later events, an object that is destroyed, an event that comes into a queue, one that leaves it, the end of
+-- one that is in hand, the failing of the session, and an object that is told unused, with its content.
 pub data Call (E : Type 0) : Type 0 where
   NewQueue : (queue : ℕ) → Call E
   DropQueue : (queue : ℕ) → Call E
-  Add : (object : ℕ) (queue : ℕ) → Call E
+  Add : (object : ℕ) (queue : ℕ) (content : ℕ) → Call E
   SetQueue : (object : ℕ) (queue : ℕ) → Call E
   Destroy : (object : ℕ) → Call E
   Put : (queue : ℕ) (event : Event E) → Call E
   Next : (queue : ℕ) (event : Event E) (outcome : Outcome) → Call E
   Finish : (ticket : ℕ) (event : Event E) → Call E
   Fail : Call E
-  NextUnused : (object : ℕ) → Call E
+  NextUnused : (object : ℕ) (content : ℕ) → Call E
 
 module _ {E : Type 0} where
   -- at one queue the events are these, and at the others as they were
@@ -135,20 +135,20 @@ module _ {E : Type 0} where
   abbrev pub Answers : QueuesState E → Call E → Type 0
   Answers s (NewQueue queue) = queue ≡ s.queues
   Answers s (DropQueue queue) = IsOpen s queue × (0 < queue)
-  Answers s (Add object queue) = ((s.objects object).fate ≡ Free) × IsOpen s queue
+  Answers s (Add object queue content) = ((s.objects object).fate ≡ Free) × IsOpen s queue
   Answers s (SetQueue object queue) = ((s.objects object).fate ≡ Alive) × IsOpen s queue
   Answers s (Destroy object) = (s.objects object).fate ≡ Alive
   Answers s (Put queue e) = NamesLive s.objects e × (queue ≡ queue_of s e)
   Answers s (Next queue e outcome) = ((later : List (Event E)) × (s.waiting queue ≡ e ∷ later)) × (outcome ≡ outcome_of s queue e)
   Answers s (Finish ticket e) = (i : ℕ) × (position (has_ticket ticket) s.in_hand ≡ Some i) × (slice_get s.in_hand i ≡ Some (record { ticket = ticket; event = e }))
   Answers s Fail = Unit {0}
-  Answers s (NextUnused object) = IsUnused s object
+  Answers s (NextUnused object content) = IsUnused s object × (content ≡ (s.objects object).content)
 
   -- the state after a call
   abbrev pub after : QueuesState E → Call E → QueuesState E
   after s (NewQueue queue) = record s { queues = s.queues + 1 }
   after s (DropQueue queue) = record s { objects = λ o. left_by queue (s.objects o); is_dropped = λ q. if q == queue then true else s.is_dropped q }
-  after s (Add object queue) = record s { objects = with_new object queue s.objects }
+  after s (Add object queue content) = record s { objects = with_new object queue content s.objects }
   after s (SetQueue object queue) = record s { objects = with_queue object queue s.objects }
   after s (Destroy object) = record s { objects = with_destroyed object s.objects }
   after s (Put queue e) = record s { waiting = with_waiting queue (s.waiting queue ++ e ∷ []) s.waiting }
@@ -159,7 +159,7 @@ module _ {E : Type 0} where
   }
   after s (Finish ticket e) = record s { in_hand = remove s.in_hand (place_of ticket s.in_hand) }
   after s Fail = record s { failed = true }
-  after s (NextUnused object) = record s { objects = with_object object nobody s.objects }
+  after s (NextUnused object content) = record s { objects = with_object object nobody s.objects }
 
   -- what a call does that answers so
   pub record Does (s : QueuesState E) (c : Call E) (t : QueuesState E) : Type 0 where

@@ -3,6 +3,7 @@ use Rattle.std.specs.Prelude.{◌≡◌, ℕ, ◌+◌, ◌==◌, Bool, true, fal
 use Rattle.wl_queues.specs.declared.events.Event.{Event}
 use Rattle.wl_queues.specs.declared.objects.Fate.{Fate}
 use Rattle.wl_queues.specs.declared.objects.Fate.TheVariants.{Alive, Destroyed, Free}
+use Rattle.wl_queues.specs.declared.objects.Object.{Object}
 use Rattle.wl_queues.specs.Objects.{nobody}
 use Rattle.wl_queues.specs.Queues.{Call, Add, Does, Dropped, Handed, IsAlike, IsUnnamed, Next, NextUnused, Outcome, Put, QueuesState}
 
@@ -15,6 +16,15 @@ abbrev pub times_kept : Fate → ℕ
 times_kept Free = 0
 times_kept Alive = 1
 times_kept Destroyed = 1
+
+-- the content of a slot's object, if it has one
+abbrev pub content_if : Fate → ℕ → List ℕ
+content_if Free content = []
+content_if Alive content = content ∷ []
+content_if Destroyed content = content ∷ []
+
+abbrev pub content_kept : Object → List ℕ
+content_kept x = content_if x.fate x.content
 
 module _ {E : Type 0} where
   -- queues as they are made: the default one, with no events, and no objects
@@ -49,23 +59,33 @@ module _ {E : Type 0} where
   hands_by q (Next queue e outcome) = if q == queue then (if is_handed outcome then e ∷ [] else []) else []
   hands_by q _ = []
 
-  abbrev pub all_by : (Call E → List (Event E)) → List (Call E) → List (Event E)
-  all_by events [] = []
-  all_by events (c ∷ calls) = events c ++ all_by events calls
+  abbrev pub all_by : {A : Type 0} → (Call E → List A) → List (Call E) → List A
+  all_by which [] = []
+  all_by which (c ∷ calls) = which c ++ all_by which calls
 
   -- ---- how often an object comes into a slot, and is told unused
 
   abbrev pub added_by : ℕ → Call E → ℕ
-  added_by o (Add object queue) = if o == object then 1 else 0
+  added_by o (Add object queue content) = if o == object then 1 else 0
   added_by o _ = 0
 
   abbrev pub told_by : ℕ → Call E → ℕ
-  told_by o (NextUnused object) = if o == object then 1 else 0
+  told_by o (NextUnused object content) = if o == object then 1 else 0
   told_by o _ = 0
 
   abbrev pub count_all : (Call E → ℕ) → List (Call E) → ℕ
   count_all count [] = 0
   count_all count (c ∷ calls) = count c + count_all count calls
+
+  -- ---- which contents come into a slot, and are told with it
+
+  abbrev pub content_added : ℕ → Call E → List ℕ
+  content_added o (Add object queue content) = if o == object then content ∷ [] else []
+  content_added o _ = []
+
+  abbrev pub content_told : ℕ → Call E → List ℕ
+  content_told o (NextUnused object content) = if o == object then content ∷ [] else []
+  content_told o _ = []
 
 -- ---- the laws
 
@@ -80,6 +100,12 @@ abbrev pub TellsEachObjectUnusedOnce : Type 0 → Type 0
 TellsEachObjectUnusedOnce E =
     (calls : List (Call E)) (s : QueuesState E) → Runs new_queues calls s →
     (o : ℕ) → count_all (added_by o) calls ≡ count_all (told_by o) calls + times_kept (s.objects o).fate
+
+-- the contents that came into a slot are those that were told with it, in the same order, and behind that the one that is there now
+abbrev pub TellsEachContent : Type 0 → Type 0
+TellsEachContent E =
+    (calls : List (Call E)) (s : QueuesState E) → Runs new_queues calls s →
+    (o : ℕ) → all_by (content_added o) calls ≡ all_by (content_told o) calls ++ content_kept (s.objects o)
 
 -- no event that waits or is in hand names a slot that is free
 abbrev pub NamesNoFreeObject : Type 0 → Type 0

@@ -3,7 +3,7 @@
 //! A *schedule* is a list of what threads do, one after another. A *run* is a list of calls of queues, each with its answer, from
 //! new queues on.
 
-ghost use Rattle.wl_queues.specs.Runs.{AccountsForQueues, DropsForGood, HandsNoneOutAfterFailing, NamesNoFreeObject, TellsEachObjectUnusedOnce};
+ghost use Rattle.wl_queues.specs.Runs.{AccountsForQueues, DropsForGood, HandsNoneOutAfterFailing, NamesNoFreeObject, TellsEachContent, TellsEachObjectUnusedOnce};
 ghost use Rattle.wl_queues.specs.Schedules.{AtMostOneReads, NoneIsLeftWaiting};
 
 /// The law of reading: over every schedule of any number of threads, at most one reads at a time.
@@ -30,6 +30,14 @@ pub fn each_queue_is_accounted_for<E>()
 /// there now.
 pub fn each_object_is_told_unused_once<E>()
     ensures every { TellsEachObjectUnusedOnce E }
+{}
+
+/// The law of contents: over every run, the contents with which objects were added to a slot are those that `next_unused` told with
+/// it, in the same order, and behind that the content of the object that is there now.
+///
+/// So an object is told with the content with which it was added, whatever came between.
+pub fn each_object_is_told_with_its_content<E>()
+    ensures every { TellsEachContent E }
 {}
 
 /// The law of names: over every run, no event that waits or is in hand names a slot that is free.

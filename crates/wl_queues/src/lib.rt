@@ -14,7 +14,7 @@ mod queues;
 mod readers;
 
 pub use events::{Event, Held, Reason};
-pub use objects::{Fate, Object};
+pub use objects::{Fate, Object, UnusedObject};
 pub use queues::{
     AddError, Next, NextError, NoObject, NoQueue, PutError, PutRefused, Queues, SetQueueError,
 };

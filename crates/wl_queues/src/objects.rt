@@ -26,6 +26,17 @@ pub struct Object {
     pub queue: usize,
     /// What has become of it.
     pub fate: Fate,
+    /// The host's own, as the object was added. Of a slot that has no object it is 0.
+    pub content: u64,
+}
+
+/// An object that is unused: the program destroyed it, and no event names it any more.
+#[derive(Clone, Copy, Debug, PartialEq, Eq)]
+pub struct UnusedObject {
+    /// The slot that it had.
+    pub object: usize,
+    /// The content with which it was added.
+    pub content: u64,
 }
 
 /// What is kept of an object.
@@ -81,6 +92,7 @@ impl Objects {
             Object {
                 queue: 0,
                 fate: Fate::Free,
+                content: 0,
             }
         }
     }
@@ -96,11 +108,12 @@ impl Objects {
         }
     }
 
-    /// A new object of the queue, in a slot that was free: the one that was freed last, and a new one only if none is free.
-    pub(crate) fn add(&mut self, queue: usize) -> Result<usize, AllocError>
+    /// A new object of the queue with this content, in a slot that was free: the one that was freed last, and a new one only if none
+    /// is free.
+    pub(crate) fn add(&mut self, queue: usize, content: u64) -> Result<usize, AllocError>
         ensures free { IfOk result (λ o. (object_of self.old o).fate ≡ Fate.Free) }
         ensures reused { IfOk result (λ o. UsesFreedSlot self.old o) }
-        ensures objects { IfOk result (λ o. AddsObject self.old queue o self.new) }
+        ensures objects { IfOk result (λ o. AddsObject self.old queue content o self.new) }
         ensures refused { OnErr result (KeepsObjects self.old self.new) }
         ensures references { KeepsReferences self.old self.new }
     {
@@ -108,6 +121,7 @@ impl Objects {
         let object = Object {
             queue,
             fate: Fate::Alive,
+            content,
         };
         let slot = self.first_free;
         if slot < self.slots.len() && self.slots[slot].object.fate == Fate::Free {
@@ -184,22 +198,25 @@ impl Objects {
     }
 
     /// The object that became unused first. Its slot is free from now on.
-    pub(crate) fn next_unused(&mut self) -> Option<usize>
-        ensures unused { IfSome result (λ o. IsUnreferred self.old o) }
+    pub(crate) fn next_unused(&mut self) -> Option<UnusedObject>
+        ensures unused { IfSome result (λ u. IsUnreferred self.old u.object) }
+        ensures content { IfSome result (λ u. u.content ≡ (object_of self.old u.object).content) }
         ensures none { IfNone result (AreAllReferred self.old) }
         ensures oldest { TakesOldest self.old result self.new }
-        ensures freed { IfSome result (λ o. o ≡ self.new.first_free) }
+        ensures freed { IfSome result (λ u. u.object ≡ self.new.first_free) }
         ensures objects { ObjectsAre self.new (given_up result (object_of self.old)) }
         ensures references { KeepsReferences self.old self.new }
     {
         let object = self.unused.pop_front()?;
         let slot = &mut self.slots[object];
+        let content = slot.object.content;
         slot.object = Object {
             queue: 0,
             fate: Fate::Free,
+            content: 0,
         };
         slot.next = self.first_free;
         self.first_free = object;
-        Some(object)
+        Some(UnusedObject { object, content })
     }
 }

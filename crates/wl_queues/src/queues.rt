@@ -12,7 +12,7 @@ use crate::events::{
     Event, Held, Reason, are_countable, are_live, hold_all, is_countable, is_live, place_by_ticket,
     reason_against_handing, release,
 };
-use crate::objects::{Object, Objects};
+use crate::objects::{Object, Objects, UnusedObject};
 use std::alloc::{AllocError, Global};
 use std::collections::VecDeque;
 
@@ -266,18 +266,19 @@ impl<E: Drop> Queues<E> {
         Ok(())
     }
 
-    /// Adds an object, whose events wait in this queue. The answer is its slot, which had no object.
+    /// Adds an object, whose events wait in this queue. The answer is its slot, which had no object. The content is the host's own, often
+    /// a pointer to what it keeps of the object: `object` and `next_unused` tell it.
     ///
     /// Errors: `NoQueue`, if no such queue was made, or it was dropped; `OutOfMemory`, if there is no memory for the object.
-    pub fn add(&mut self, queue: usize) -> Result<usize, AddError>
-        ensures added { IfOk result (λ object. Calls self.old (call.Add object queue) self.new) }
+    pub fn add(&mut self, queue: usize, content: u64) -> Result<usize, AddError>
+        ensures added { IfOk result (λ object. Calls self.old (call.Add object queue content) self.new) }
         ensures no_queue { (result ≡ Err AddError.NoQueue) ↔ ¬ IsOpen (state_of self.old) queue }
         ensures refused { OnErr result (IsUnchanged self.old self.new) }
     {
         if !self.is_open(queue) {
             return Err(AddError::NoQueue);
         }
-        match self.objects.add(queue) {
+        match self.objects.add(queue, content) {
             Ok(object) => Ok(object),
             Err(_) => Err(AddError::OutOfMemory),
         }
@@ -409,20 +410,20 @@ impl<E: Drop> Queues<E> {
         self.failed = true;
     }
 
-    /// Tells an object that is *unused*: the program destroyed it, and no event that waits or is in hand names it any more. Its slot is
-    /// free from now on. It takes no memory.
+    /// Tells an object that is *unused*: the program destroyed it, and no event that waits or is in hand names it any more. It tells
+    /// also the content with which the object was added. Its slot is free from now on. It takes no memory.
     ///
     /// `None`: there is no such object.
-    pub fn next_unused(&mut self) -> Option<usize>
-        ensures unused { IfSome result (λ o. Calls self.old (call.NextUnused o) self.new) }
+    pub fn next_unused(&mut self) -> Option<UnusedObject>
+        ensures unused { IfSome result (λ u. Calls self.old (call.NextUnused u.object u.content) self.new) }
         ensures none { IfNone result ((o : ℕ) → ¬ IsUnused (state_of self.old) o) }
         ensures refused { IfNone result (IsUnchanged self.old self.new) }
     {
         self.objects.next_unused()
     }
 
-    /// The object in the slot: in which queue its events wait that are still to come, and whether it is destroyed. Of a slot that has
-    /// no object, also of one that was never used, it answers `Fate::Free`, and the default queue.
+    /// The object in the slot: in which queue its events wait that are still to come, whether it is destroyed, and its content. Of a
+    /// slot that has no object, also of one that was never used, it answers `Fate::Free`, the default queue, and 0.
     pub fn object(&self, object: usize) -> Object
         ensures { result ≡ (state_of self.now).objects object }
     {

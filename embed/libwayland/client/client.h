@@ -5,12 +5,14 @@
  * a program sets and reads by itself (user data, tag). Functions whose name ends in `_locked` are called with it, those
  * that call listeners never hold it.
  *
- * The session's data of an object are its proxy, until the program destroys that. Functions that answer an error answer
- * 0, or that number of errno.
+ * The session's data of an object are its proxy, until the program destroys that. In the queues a proxy is the content
+ * of its slot, and the display's own objects have 0 there. Functions that answer an error answer 0, or that number of
+ * errno.
  *
  * Who may free what:
  *
- *   - a proxy, wrappers too: free_unused_locked in proxy.c, once nb_queues_next_unused tells that it is unused;
+ *   - a proxy, wrappers too: free_unused_locked in proxy.c, once nb_queues_next_unused tells that it is unused; and
+ *     proxy_beside_locked, if it never came into the queues;
  *   - an event: event_end_locked in event.c, once it has left its queue; and put_event_locked, if it never came into one;
  *   - a queue: wl_event_queue_destroy in queue.c. Who dispatches it has its number alone, which is never used again;
  *   - a display: unlock in connection.c, once it is closed and the program has no proxy or queue of it any more. */
@@ -50,7 +52,7 @@ static inline struct wl_proxy *proxy_of(struct wl_object *object)
     return CONTAINER(object, struct wl_proxy, object);
 }
 
-/* The data of an object in the session is its proxy. */
+/* The data of an object in the session is its proxy, and so is its content in the queues. */
 static inline struct wl_proxy *proxy_of_data(uint64_t data)
 {
     return (struct wl_proxy *)(uintptr_t)data;
@@ -90,8 +92,7 @@ struct wl_display {
     struct wl_list made_queues; /* the others that the program has */
     size_t own_queue;           /* of the errors of the display itself: they are handed out first */
     size_t errors;              /* the slot that they are for */
-    struct wl_array slots;      /* the program's proxies, by their slots; NULL where there is none */
-    size_t proxy_count;         /* how many those are */
+    size_t proxy_count;         /* how many proxies there are, without the display's own */
     int deleted;                /* how often the server has freed a number since events were dispatched */
     struct table table;
     struct wl_array input;       /* bytes that came and are no whole message yet */
@@ -127,9 +128,6 @@ nb_queued_object proxy_state_locked(const struct wl_proxy *proxy);
 
 /* The program has destroyed it. Its memory goes with the next free_unused_locked that finds it unused. */
 void proxy_destroy_locked(struct wl_proxy *proxy);
-
-/* The session keeps a note of each object that is gone. Nobody needs it here. */
-void drop_notes_locked(struct wl_display *display);
 
 /* Frees all proxies that are unused. */
 void free_unused_locked(struct wl_display *display);

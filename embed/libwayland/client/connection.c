@@ -190,17 +190,17 @@ static nb_status join(void *session, const nb_table *rows, uint32_t *number, nb_
 /* Its events are handled here. A program that looks sees a listener, and cannot add another one. */
 static const struct wl_display_listener own_listener;
 
-/* Neither its own proxy nor the object of its errors is among `slots`: they go with the display. Object 1 is there from
- * the start. */
+/* In the queues its own proxy and the object of its errors have no content: they go with the display. Object 1 is there
+ * from the start. */
 static bool begin(struct wl_display *display)
 {
     const nb_table nothing = { 0 };
     nb_table_fault fault;
     nb_object_id id;
     if (nb_queues_start(&display->queues) != NB_OK ||
-        nb_queues_add(&display->queues, display->default_queue.number, &display->proxy.slot) != NB_OK ||
+        nb_queues_add(&display->queues, display->default_queue.number, 0, &display->proxy.slot) != NB_OK ||
         nb_queues_new_queue(&display->queues, &display->own_queue) != NB_OK ||
-        nb_queues_add(&display->queues, display->own_queue, &display->errors) != NB_OK ||
+        nb_queues_add(&display->queues, display->own_queue, 0, &display->errors) != NB_OK ||
         nb_client_start(&display->session, &nothing, &fault) != NB_OK)
         return false;
     nb_client_set_room(&display->session, LIBWAYLAND_ROOM);
@@ -249,7 +249,6 @@ void unlock(struct wl_display *display)
     if (stays)
         return;
     nb_queues_end(&display->queues);
-    free(display->slots.data);
     pthread_mutex_destroy(&display->lock);
     pthread_cond_destroy(&display->was_read);
     free(display);
@@ -274,10 +273,7 @@ EXPORT void wl_display_disconnect(struct wl_display *display)
     unlock(display);
 }
 
-EXPORT int wl_display_get_fd(struct wl_display *display)
-{
-    return display->socket;
-}
+GETTER(int, wl_display_get_fd, struct wl_display *, of->socket)
 
 EXPORT void wl_log_set_handler_client(wl_log_func_t handler)
 {

@@ -4,11 +4,10 @@
  * A number of the client's may be used again when two things have happened: the program has destroyed the object, and
  * the server has said that it knows of that, by wl_display.delete_id. Programs see events later than they are read, and
  * interfaces do not say which events end an object: so mostly delete_id is read while the program still has the object
- * (a frame's wp_presentation_feedback, ..). The session remembers that, and nb_client_reclaim frees the number when the
- * object is destroyed. */
+ * (a frame's wp_presentation_feedback, ..). The session remembers that, and nb_client_give_up_object frees the number when
+ * the object is destroyed. */
 #include "client.h"
 #include <errno.h>
-#include <string.h>
 
 /* ======== Making and destroying */
 
@@ -21,22 +20,9 @@ struct wl_proxy *proxy_of_id_locked(struct wl_display *display, const nb_object_
 
 nb_queued_object proxy_state_locked(const struct wl_proxy *proxy)
 {
-    nb_queued_object object = { 0, NB_SLOT_FREE };
+    nb_queued_object object = { .fate = NB_SLOT_FREE };
     nb_queues_object(&proxy->display->queues, proxy->slot, &object);
     return object;
-}
-
-/* Where the slot's proxy stands; NULL if there is no place and no memory. */
-static struct wl_proxy **place_of_locked(struct wl_display *display, size_t slot)
-{
-    const size_t wanted = (slot + 1) * sizeof(struct wl_proxy *), size = display->slots.size;
-    if (wanted > size) {
-        void *added = wl_array_add(&display->slots, wanted - size);
-        if (!added)
-            return NULL;
-        memset(added, 0, wanted - size);
-    }
-    return (struct wl_proxy **)display->slots.data + slot;
 }
 
 /* A proxy with zeros in it, in the queue of this one. A listener may use its object once more after it has destroyed
@@ -44,20 +30,16 @@ static struct wl_proxy **place_of_locked(struct wl_display *display, size_t slot
 static struct wl_proxy *proxy_beside_locked(const struct wl_proxy *other)
 {
     struct wl_display *display = other->display;
-    size_t slot;
-    if (nb_queues_add(&display->queues, proxy_state_locked(other).queue, &slot) == NB_OK) {
-        struct wl_proxy **place = place_of_locked(display, slot);
-        if (place && (*place = calloc(1, sizeof **place))) {
-            display->proxy_count++;
-            (*place)->display = display;
-            (*place)->slot = slot;
-            return *place;
-        }
-        nb_queues_destroy(&display->queues, slot);
-        free_unused_locked(display);
+    const size_t queue = proxy_state_locked(other).queue;
+    struct wl_proxy *proxy = calloc(1, sizeof *proxy);
+    if (!proxy || nb_queues_add(&display->queues, queue, (uintptr_t)proxy, &proxy->slot) != NB_OK) {
+        free(proxy);
+        errno = ENOMEM;
+        return NULL;
     }
-    errno = ENOMEM;
-    return NULL;
+    display->proxy_count++;
+    proxy->display = display;
+    return proxy;
 }
 
 struct wl_proxy *proxy_new_locked(struct wl_proxy *factory, const struct wl_interface *interface, uint32_t version)
@@ -76,38 +58,24 @@ struct wl_proxy *proxy_new_locked(struct wl_proxy *factory, const struct wl_inte
     return proxy;
 }
 
-void drop_notes_locked(struct wl_display *display)
-{
-    nb_object_id gone;
-    uint64_t data;
-    while (nb_client_next_note(&display->session, &gone, &data) == NB_OK) {
-    }
-}
-
 /* The session may know the object for longer, and not its proxy. */
 void proxy_destroy_locked(struct wl_proxy *proxy)
 {
     struct wl_display *display = proxy->display;
-    if (proxy->object.id != 0 && !proxy->is_wrapper) {
-        nb_client_set_object_data(&display->session, &proxy->id, 0);
-        nb_client_destroy_object(&display->session, &proxy->id);
-        nb_client_reclaim(&display->session, &proxy->id);
-        drop_notes_locked(display);
-    }
+    if (proxy->object.id != 0 && !proxy->is_wrapper)
+        nb_client_give_up_object(&display->session, &proxy->id);
     nb_queues_destroy(&display->queues, proxy->slot);
 }
 
-/* The slots of the display's own objects have no proxy here. */
+/* The content of the display's own objects is 0: they have no proxy that is freed here. */
 void free_unused_locked(struct wl_display *display)
 {
     size_t slot;
-    while (nb_queues_next_unused(&display->queues, &slot) == NB_OK) {
-        struct wl_proxy **place = place_of_locked(display, slot), *unused = place ? *place : NULL;
-        if (unused) {
-            *place = NULL;
+    uint64_t content;
+    while (nb_queues_next_unused(&display->queues, &slot, &content) == NB_OK) {
+        if (content != 0)
             display->proxy_count--;
-        }
-        free(unused);
+        free(proxy_of_data(content));
     }
 }
 
@@ -192,30 +160,21 @@ EXPORT int wl_proxy_add_dispatcher(struct wl_proxy *proxy, wl_dispatcher_func_t 
     return set_listener(proxy, dispatcher_func, dispatcher_data, data);
 }
 
-EXPORT const void *wl_proxy_get_listener(struct wl_proxy *proxy)
-{
-    return proxy->object.implementation;
-}
+GETTER(const void *, wl_proxy_get_listener, struct wl_proxy *, of->object.implementation)
 
 EXPORT void wl_proxy_set_user_data(struct wl_proxy *proxy, void *user_data)
 {
     proxy->user_data = user_data;
 }
 
-EXPORT void *wl_proxy_get_user_data(struct wl_proxy *proxy)
-{
-    return proxy->user_data;
-}
+GETTER(void *, wl_proxy_get_user_data, struct wl_proxy *, of->user_data)
 
 EXPORT void wl_proxy_set_tag(struct wl_proxy *proxy, const char *const *tag)
 {
     proxy->tag = tag;
 }
 
-EXPORT const char *const *wl_proxy_get_tag(struct wl_proxy *proxy)
-{
-    return proxy->tag;
-}
+GETTER(const char *const *, wl_proxy_get_tag, struct wl_proxy *, of->tag)
 
 EXPORT void wl_proxy_set_queue(struct wl_proxy *proxy, struct wl_event_queue *queue)
 {
@@ -227,26 +186,12 @@ EXPORT void wl_proxy_set_queue(struct wl_proxy *proxy, struct wl_event_queue *qu
 
 /* ======== What it asks */
 
-EXPORT uint32_t wl_proxy_get_version(struct wl_proxy *proxy)
-{
-    return proxy->version;
-}
-
-EXPORT uint32_t wl_proxy_get_id(struct wl_proxy *proxy)
-{
-    return proxy->object.id;
-}
-
-EXPORT const char *wl_proxy_get_class(struct wl_proxy *proxy)
-{
-    return proxy->object.interface->name;
-}
+GETTER(uint32_t, wl_proxy_get_version, struct wl_proxy *, of->version)
+GETTER(uint32_t, wl_proxy_get_id, struct wl_proxy *, of->object.id)
+GETTER(const char *, wl_proxy_get_class, struct wl_proxy *, of->object.interface->name)
 
 /* Since 1.23 and 1.24. */
-EXPORT struct wl_display *wl_proxy_get_display(struct wl_proxy *proxy)
-{
-    return proxy->display;
-}
+GETTER(struct wl_display *, wl_proxy_get_display, struct wl_proxy *, of->display)
 
 EXPORT struct wl_event_queue *wl_proxy_get_queue(const struct wl_proxy *proxy)
 {
@@ -259,7 +204,4 @@ EXPORT struct wl_event_queue *wl_proxy_get_queue(const struct wl_proxy *proxy)
     return found;
 }
 
-EXPORT const struct wl_interface *wl_proxy_get_interface(struct wl_proxy *proxy)
-{
-    return proxy->object.interface;
-}
+GETTER(const struct wl_interface *, wl_proxy_get_interface, struct wl_proxy *, of->object.interface)

@@ -37,10 +37,7 @@ EXPORT struct wl_event_queue *wl_display_create_queue(struct wl_display *display
     return wl_display_create_queue_with_name(display, NULL);
 }
 
-EXPORT const char *wl_event_queue_get_name(const struct wl_event_queue *queue)
-{
-    return queue->name;
-}
+GETTER(const char *, wl_event_queue_get_name, const struct wl_event_queue *, of->name)
 
 void empty_locked(struct wl_display *display, size_t queue)
 {

@@ -1,9 +1,9 @@
 /* From the socket into the queues. It touches what came, the session, and the queues by event.c.
  *
  * Whole messages alone go to the session, each with all of its descriptors, so between two calls it has nothing that it
- * has not read. This file looks at the head of each message for three reasons: one whose descriptors did not come is an
- * error, as in libwayland; delete_id is counted and logged; and a log has a line for each message that the session
- * passes over or drops. */
+ * has not read. It says which go together (nb_client_next_run), and what no event tells: a message whose descriptors did
+ * not come, which is an error, as in libwayland; a delete_id, which is counted and logged; and one that comes of no
+ * proxy, which is logged. */
 #include "client.h"
 #include "../../socket.h"
 #include <errno.h>
@@ -100,30 +100,9 @@ void end_session_locked(struct wl_display *display)
     display->has_failed = true;
     nb_client_fail(&display->session, EPIPE);
     close_dropped_locked(display);
-    drop_notes_locked(display);
 }
 
 /* ======== What came */
-
-/* The head of a message, and the number that a delete_id has. */
-struct head {
-    uint32_t sender, opcode, number;
-    size_t size;
-};
-
-/* False if there is no whole message. One of a size below that of a head the session refuses; what is after it has no
- * meaning. */
-static bool read_head(const uint8_t *bytes, size_t left, struct head *head)
-{
-    uint32_t words[3] = { 0, 0, 0 };
-    if (left < 8)
-        return false;
-    memcpy(words, bytes, left < sizeof words ? 8 : sizeof words);
-    *head = (struct head){ words[0], words[1] & 0xffff, words[2], words[1] >> 16 };
-    if (head->size < 8)
-        head->size = left;
-    return head->size <= left;
-}
 
 static size_t held(const struct wl_display *display)
 {
@@ -136,51 +115,34 @@ void close_held_locked(struct wl_display *display)
     display->descriptors.size = 0;
 }
 
-/* Messages that are handed to the session together, and how many of the descriptors that came are theirs. */
-struct run {
-    const uint8_t *bytes;
-    size_t size;
-    uint32_t descriptors;
-};
-
-/* Hands the run to the session, and takes its events out. The next run begins behind it. */
-static int feed(struct wl_display *display, struct run *run)
+/* Hands the run to the session, and takes its events out. */
+static int feed(struct wl_display *display, const uint8_t *bytes, const nb_run *run)
 {
-    const struct run fed = *run;
     struct wl_array *descriptors = &display->descriptors;
-    *run = (struct run){ fed.bytes + fed.size, 0, 0 };
-    if (fed.size == 0 || display->has_failed)
+    if (run->bytes == 0)
         return 0;
-    if (nb_client_received(&display->session, fed.bytes, fed.size, descriptors->data, fed.descriptors) != NB_OK)
+    if (nb_client_received(&display->session, bytes, run->bytes, descriptors->data, run->descriptors) != NB_OK)
         return ENOMEM;
-    if (fed.descriptors > 0) {
-        descriptors->size -= fed.descriptors * sizeof(int32_t);
-        memmove(descriptors->data, (int32_t *)descriptors->data + fed.descriptors, descriptors->size);
+    if (run->descriptors > 0) {
+        descriptors->size -= run->descriptors * sizeof(int32_t);
+        memmove(descriptors->data, (int32_t *)descriptors->data + run->descriptors, descriptors->size);
     }
     return take_events(display);
 }
 
-static int lacks_descriptor(const struct wl_proxy *sender, const struct head *head)
+static int lacks_descriptor(struct wl_display *display, const nb_run *run)
 {
-    const struct wl_interface *interface = sender->object.interface;
-    if (head->opcode < (uint32_t)interface->event_count) {
-        const struct wl_message *message = &interface->events[head->opcode];
-        log_line("file descriptor expected, object (%u), message %s(%s)\n", head->sender, message->name,
+    nb_object_id id = nb_null();
+    nb_client_object_for_protocol_id(&display->session, run->sender, &id);
+    const struct wl_proxy *sender = proxy_of_id_locked(display, &id);
+    const struct wl_interface *interface = sender ? sender->object.interface : NULL;
+    if (interface && run->opcode < (uint32_t)interface->event_count) {
+        const struct wl_message *message = &interface->events[run->opcode];
+        log_line("file descriptor expected, object (%u), message %s(%s)\n", run->sender, message->name,
                  message->signature);
     } else /* a longer struct of its name has it */
-        log_line("interface '%s' has no event %u\n", interface->name, head->opcode);
+        log_line("interface '%s' has no event %u\n", interface ? interface->name : "[unknown]", run->opcode);
     return EINVAL;
-}
-
-/* What the log calls an object that is not there. libwayland remembers those that the program has destroyed and whose
- * events may have descriptors. */
-static const char *word_for_missing(struct wl_display *display, const nb_object_id *id)
-{
-    uint32_t count = 0;
-    for (uint32_t event = 0; count == 0 && !is_of_server(id->number) &&
-                             nb_client_event_descriptors(&display->session, id->interface, event, &count) == NB_OK;)
-        event++;
-    return count > 0 ? "[zombie]" : "[unknown]";
 }
 
 /* The server frees a number, whose object is this one. */
@@ -196,46 +158,21 @@ static void note_deleted(struct wl_display *display, uint32_t number)
         log_line("error: received delete_id for unknown id (%u)\n", number);
 }
 
-/* Whether the message behind this one can be looked at before the session has read this: it makes no object, and frees
- * no number. */
-static bool goes_on(const struct wl_display *display, const struct wl_proxy *sender, uint32_t opcode)
+/* A run, and what no event tells of the message at its end. If descriptors did not come, those that did belong to
+ * nothing that is known. The log calls a destroyed object as libwayland does, which remembers those of the client's whose
+ * events may have descriptors. */
+static int take_run(struct wl_display *display, const uint8_t *bytes, const nb_run *run)
 {
-    return sender && sender != &display->proxy && opcode < (uint32_t)sender->object.interface->event_count &&
-           !strchr(sender->object.interface->events[opcode].signature, 'n');
-}
-
-/* Adds a message to the run. If its sender is unknown, it takes no descriptor. One that is passed over the session never
- * has: it lacks a descriptor, and its object is not there; or it frees a number of the server's, which means nothing. */
-static int take_message(struct wl_display *display, struct run *run, const struct head *head)
-{
-    nb_object_id id = nb_null();
-    nb_client_object_for_protocol_id(&display->session, head->sender, &id);
-    const struct wl_proxy *sender = proxy_of_id_locked(display, &id);
-    uint32_t needed = 0;
-    nb_client_event_descriptors(&display->session, id.interface, head->opcode, &needed);
-    const bool is_delete = head->sender == 1 && head->opcode == 1 && head->size == 12;
-    bool is_passed_over = is_delete && is_of_server(head->number);
-    int error = 0;
-    if (is_logging && !sender)
-        print_thrown_away(word_for_missing(display, &id), head->sender, head->opcode, needed, head->size);
-    if (is_delete)
-        note_deleted(display, head->number);
-    if (is_passed_over || run->descriptors + needed > held(display) || run->descriptors + needed > NB_MOST_DESCRIPTORS)
-        error = feed(display, run);
-    if (error == 0 && needed > held(display)) {
-        is_passed_over = !sender;
-        error = sender ? lacks_descriptor(sender, head) : 0;
+    const bool is_passed_over = run->kind == NB_PASSED_OVER, lacks = run->kind == NB_LACKS_DESCRIPTORS;
+    if (run->kind == NB_DELETES_ID)
+        note_deleted(display, run->number);
+    if (is_passed_over && is_logging)
+        print_thrown_away(run->may_bring && !is_of_server(run->sender) ? "[zombie]" : "[unknown]", run->sender,
+                          run->opcode, run->needed, run->size);
+    const int error = feed(display, bytes, run);
+    if (error == 0 && (lacks || (is_passed_over && run->skipped > 0)))
         close_held_locked(display);
-    }
-    if (error != 0)
-        return error;
-    if (is_passed_over) {
-        run->bytes += head->size;
-        return 0;
-    }
-    run->size += head->size;
-    run->descriptors += needed;
-    return goes_on(display, sender, head->opcode) ? 0 : feed(display, run);
+    return error == 0 && lacks ? lacks_descriptor(display, run) : error;
 }
 
 /* What is left of a message is kept: mostly nothing, so a connection that waits has no buffer. */
@@ -249,20 +186,30 @@ static int keep_rest(struct wl_array *input, const uint8_t *rest, size_t size)
     return kept || size == 0 ? 0 : ENOMEM;
 }
 
+/* The session keeps a note of each object that an event has ended. Nobody needs it here. */
+static void drop_notes(struct wl_display *display)
+{
+    nb_object_id gone;
+    uint64_t data;
+    while (nb_client_next_note(&display->session, &gone, &data) == NB_OK)
+        continue;
+}
+
 /* Takes the whole messages out of what came, until the session has an error. */
 static int take_input(struct wl_display *display, const uint8_t *bytes, size_t left)
 {
-    struct run run = { bytes, 0, 0 };
-    struct head head;
+    nb_run run = { .bytes = 1 };
     int error = 0;
-    for (; error == 0 && !display->has_failed && read_head(run.bytes + run.size, left, &head); left -= head.size)
-        error = take_message(display, &run, &head);
-    if (error == 0)
-        error = feed(display, &run);
+    while (error == 0 && !display->has_failed && run.bytes + run.skipped > 0) {
+        nb_client_next_run(&display->session, bytes, left, (uint32_t)held(display), &run);
+        error = take_run(display, bytes, &run);
+        bytes += run.bytes + run.skipped;
+        left -= run.bytes + run.skipped;
+    }
     if (error == 0 && !display->has_failed)
-        error = keep_rest(&display->input, run.bytes, left);
+        error = keep_rest(&display->input, bytes, left);
     close_dropped_locked(display);
-    drop_notes_locked(display);
+    drop_notes(display);
     return error;
 }
 

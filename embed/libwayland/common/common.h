@@ -14,6 +14,13 @@
 
 #define EXPORT __attribute__((visibility("default")))
 
+/* A public call that answers what a thing has: `answer` of `of`, which `type` points to. */
+#define GETTER(returns, name, type, answer)                                                                            \
+    EXPORT returns name(type of)                                                                                       \
+    {                                                                                                                  \
+        return answer;                                                                                                 \
+    }
+
 /* The struct that has this member. */
 #define CONTAINER(pointer, type, member) ((type *)(void *)((char *)(pointer)-offsetof(type, member)))
 

@@ -147,20 +147,9 @@ EXPORT void wl_display_destroy_clients(struct wl_display *display)
 
 /* ======== What a client has */
 
-EXPORT struct wl_list *wl_client_get_link(struct wl_client *client)
-{
-    return &client->link;
-}
-
-EXPORT struct wl_client *wl_client_from_link(struct wl_list *link)
-{
-    return CONTAINER(link, struct wl_client, link);
-}
-
-EXPORT struct wl_display *wl_client_get_display(struct wl_client *client)
-{
-    return client->display;
-}
+GETTER(struct wl_list *, wl_client_get_link, struct wl_client *, &of->link)
+GETTER(struct wl_client *, wl_client_from_link, struct wl_list *, CONTAINER(of, struct wl_client, link))
+GETTER(struct wl_display *, wl_client_get_display, struct wl_client *, of->display)
 
 EXPORT void wl_client_get_credentials(READ_ONLY(struct wl_client) client, pid_t *pid, uid_t *uid, gid_t *gid)
 {
@@ -172,10 +161,7 @@ EXPORT void wl_client_get_credentials(READ_ONLY(struct wl_client) client, pid_t 
         *gid = client->peer.gid;
 }
 
-EXPORT int wl_client_get_fd(struct wl_client *client)
-{
-    return client->socket;
-}
+GETTER(int, wl_client_get_fd, struct wl_client *, of->socket)
 
 LISTENERS(wl_client_add_destroy_listener, wl_client_get_destroy_listener, struct wl_client *, &of->destroy_signal)
 
@@ -197,10 +183,7 @@ EXPORT void wl_client_set_user_data(struct wl_client *client, void *data, void (
     client->user_data_destroy = dtor;
 }
 
-EXPORT void *wl_client_get_user_data(struct wl_client *client)
-{
-    return client->user_data;
-}
+GETTER(void *, wl_client_get_user_data, struct wl_client *, of->user_data)
 
 EXPORT void wl_client_set_max_buffer_size(struct wl_client *client, size_t max_buffer_size)
 {

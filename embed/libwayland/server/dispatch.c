@@ -1,6 +1,7 @@
 /* Requests and binds as calls of the program's functions, and registries. It touches the session's open action, which it
  * finishes before it calls the program: an object that the request has made has no data then, and gets them by
- * wl_resource_create. */
+ * wl_resource_create. None ends its sender: the rows have no destructors, since a wl_message does not say which request
+ * is one. */
 #include "server.h"
 
 /* Looks at what the session does not: whether there is a resource, whether its own struct has the request, of which the
@@ -35,19 +36,6 @@ static void bind_global(struct wl_client *client, const nb_action *action)
                                global->interface->name, global->id.name);
 }
 
-/* Finishes the open action. It is none that ends its sender: the rows have no destructors, since a wl_message does not
- * say which request is one. */
-static bool finish(struct wl_client *client, const nb_action *action)
-{
-    nb_server *core = &client->display->core;
-    uint32_t is_kept;
-    if (action->kind != NB_REQUEST)
-        return nb_server_finish_bind(core, &client->id, 0, &is_kept) == NB_OK;
-    if (nb_is_null(&action->created))
-        return nb_server_finish_request(core, &client->id) == NB_OK;
-    return nb_server_finish_request_with(core, &client->id, 0, &is_kept) == NB_OK;
-}
-
 /* Descriptors among the arguments are the handler's, if it is called. A new id is a number. */
 void dispatch(struct wl_client *client, const nb_action *action, const nb_argument *arguments, uint8_t *text)
 {
@@ -65,7 +53,7 @@ void dispatch(struct wl_client *client, const nb_action *action, const nb_argume
             is_complete = is_complete && named;
         }
     }
-    if (!finish(client, action)) {
+    if (nb_server_finish_action(&client->display->core, &client->id, action) != NB_OK) {
         close_descriptors(arguments, count);
         wl_client_post_no_memory(client);
         client->has_error = true;

@@ -83,10 +83,7 @@ EXPORT void wl_display_destroy(struct wl_display *display)
     free(display);
 }
 
-EXPORT struct wl_event_loop *wl_display_get_event_loop(struct wl_display *display)
-{
-    return display->loop;
-}
+GETTER(struct wl_event_loop *, wl_display_get_event_loop, struct wl_display *, of->loop)
 
 EXPORT void wl_display_run(struct wl_display *display)
 {
@@ -108,10 +105,7 @@ EXPORT void wl_display_terminate(struct wl_display *display)
     errno = before;
 }
 
-EXPORT uint32_t wl_display_get_serial(READ_ONLY(struct wl_display) display)
-{
-    return display->serial;
-}
+GETTER(uint32_t, wl_display_get_serial, READ_ONLY(struct wl_display), of->serial)
 
 EXPORT uint32_t wl_display_next_serial(struct wl_display *display)
 {
@@ -125,10 +119,7 @@ EXPORT void wl_display_add_client_created_listener(struct wl_display *display, s
     wl_signal_add(&display->client_created_signal, listener);
 }
 
-EXPORT struct wl_list *wl_display_get_client_list(struct wl_display *display)
-{
-    return &display->clients;
-}
+GETTER(struct wl_list *, wl_display_get_client_list, struct wl_display *, &of->clients)
 
 EXPORT uint32_t *wl_display_add_shm_format(struct wl_display *display, uint32_t format)
 {

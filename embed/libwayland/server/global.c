@@ -108,25 +108,10 @@ EXPORT void wl_global_destroy(struct wl_global *global)
     free(global);
 }
 
-EXPORT const struct wl_interface *wl_global_get_interface(const struct wl_global *global)
-{
-    return global->interface;
-}
-
-EXPORT uint32_t wl_global_get_version(const struct wl_global *global)
-{
-    return global->version;
-}
-
-EXPORT struct wl_display *wl_global_get_display(const struct wl_global *global)
-{
-    return global->display;
-}
-
-EXPORT void *wl_global_get_user_data(const struct wl_global *global)
-{
-    return global->data;
-}
+GETTER(const struct wl_interface *, wl_global_get_interface, const struct wl_global *, of->interface)
+GETTER(uint32_t, wl_global_get_version, const struct wl_global *, of->version)
+GETTER(struct wl_display *, wl_global_get_display, const struct wl_global *, of->display)
+GETTER(void *, wl_global_get_user_data, const struct wl_global *, of->data)
 
 EXPORT void wl_global_set_user_data(struct wl_global *global, void *data)
 {

@@ -49,28 +49,16 @@ static bool put(struct wl_resource *resource, uint32_t id)
 
 /* ======== Objects of the session */
 
-/* Finds the session's object that a resource with this number is to stand for: one that a request has made and that has
- * no resource, or a new one at a number that is free, or with 0 at one of the server's. It serves the requests of the
- * version, but none above that of the resource's struct, of which the table may have more; without a version, all. */
+/* Finds the session's object that a resource with this number is to stand for. It serves the requests of the version,
+ * but none above that of the resource's struct, of which the table may have more; without a version, all. */
 static bool find_object(struct wl_resource *resource, int version, uint32_t id, nb_object_id *object)
 {
     const struct wl_client *client = resource->client;
     const struct wl_interface *interface = resource->object.interface;
-    nb_server *core = &client->display->core;
     const uint32_t number = table_number(&client->display->table, interface);
     const uint32_t served = (uint32_t)(version > 0 && version < interface->version ? version : interface->version);
-    const uint64_t data = (uint64_t)(uintptr_t)resource;
-    nb_held_object held;
-    if (!number)
-        return false;
-    if (id == 0)
-        return nb_server_create_object(core, &client->id, number, served, 1, data, object) == NB_OK;
-    if (nb_server_object_by_number(core, &client->id, id, &held) != NB_OK || held.data != 0 ||
-        held.object.interface != number)
-        return nb_server_create_object_at(core, &client->id, number, served, id, 1, data, object) == NB_OK;
-    *object = held.object;
-    nb_server_set_object_version(core, object, served);
-    return nb_server_set_object_data(core, object, data) == NB_OK;
+    return number && nb_server_claim_object(&client->display->core, &client->id, number, served, id,
+                                            (uint64_t)(uintptr_t)resource, object) == NB_OK;
 }
 
 /* Without memory the object stays: then it points to nothing, and its client, which is not told, ends. So does the
@@ -234,20 +222,9 @@ EXPORT void wl_resource_set_dispatcher(struct wl_resource *resource, wl_dispatch
     resource->dispatcher = dispatcher;
 }
 
-EXPORT uint32_t wl_resource_get_id(READ_ONLY(struct wl_resource) resource)
-{
-    return resource->object.id;
-}
-
-EXPORT struct wl_list *wl_resource_get_link(struct wl_resource *resource)
-{
-    return &resource->link;
-}
-
-EXPORT struct wl_resource *wl_resource_from_link(struct wl_list *link)
-{
-    return CONTAINER(link, struct wl_resource, link);
-}
+GETTER(uint32_t, wl_resource_get_id, READ_ONLY(struct wl_resource), of->object.id)
+GETTER(struct wl_list *, wl_resource_get_link, struct wl_resource *, &of->link)
+GETTER(struct wl_resource *, wl_resource_from_link, struct wl_list *, CONTAINER(of, struct wl_resource, link))
 
 EXPORT struct wl_resource *wl_resource_find_for_client(struct wl_list *list, struct wl_client *client)
 {
@@ -258,25 +235,15 @@ EXPORT struct wl_resource *wl_resource_find_for_client(struct wl_list *list, str
     return NULL;
 }
 
-EXPORT struct wl_client *wl_resource_get_client(struct wl_resource *resource)
-{
-    return resource->client;
-}
+GETTER(struct wl_client *, wl_resource_get_client, struct wl_resource *, of->client)
 
 EXPORT void wl_resource_set_user_data(struct wl_resource *resource, void *data)
 {
     resource->data = data;
 }
 
-EXPORT void *wl_resource_get_user_data(struct wl_resource *resource)
-{
-    return resource->data;
-}
-
-EXPORT int wl_resource_get_version(READ_ONLY(struct wl_resource) resource)
-{
-    return lent_of(resource->client, resource) ? 0 : resource->version;
-}
+GETTER(void *, wl_resource_get_user_data, struct wl_resource *, of->data)
+GETTER(int, wl_resource_get_version, READ_ONLY(struct wl_resource), lent_of(of->client, of) ? 0 : of->version)
 
 EXPORT void wl_resource_set_destructor(struct wl_resource *resource, wl_resource_destroy_func_t destroy)
 {
@@ -291,10 +258,7 @@ EXPORT int wl_resource_instance_of(struct wl_resource *resource, const struct wl
            resource->object.implementation == implementation;
 }
 
-EXPORT const char *wl_resource_get_class(READ_ONLY(struct wl_resource) resource)
-{
-    return resource->object.interface->name;
-}
+GETTER(const char *, wl_resource_get_class, READ_ONLY(struct wl_resource), of->object.interface->name)
 
 static struct wl_signal *destroy_signal_of(struct wl_resource *resource)
 {
@@ -305,7 +269,4 @@ LISTENERS(wl_resource_add_destroy_listener, wl_resource_get_destroy_listener, st
           destroy_signal_of(of))
 
 /* Since 1.24. */
-EXPORT const struct wl_interface *wl_resource_get_interface(struct wl_resource *resource)
-{
-    return resource->object.interface;
-}
+GETTER(const struct wl_interface *, wl_resource_get_interface, struct wl_resource *, of->object.interface)

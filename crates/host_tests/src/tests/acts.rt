@@ -60,6 +60,8 @@ pub enum Act {
     FinishWith(FlatClientId, u64),
     /// The open bind is finished with these data.
     FinishBind(FlatClientId, u64),
+    /// The open action is finished as one of this kind, which made this object, or none.
+    FinishAction(FlatClientId, u32, FlatObjectId),
     /// An object of this interface is made for the client, with data.
     Create(FlatClientId, u32, u64),
     /// The event of the object with this opcode, arguments and bytes.
@@ -365,6 +367,14 @@ fn on_messages(log: &mut String, server: &mut Server, act: &Act) -> Result<Statu
         }
         Act::FinishBind(id, user_data) => {
             told(log, server.finish_bind(id, *user_data), tell_kept)
+        }
+        Act::FinishAction(id, kind, created) => {
+            let action = FlatAction {
+                kind: *kind,
+                created: *created,
+                ..FlatAction::none()
+            };
+            Ok(server.finish_action(id, &action))
         }
         Act::Create(id, interface, user_data) => {
             let answer = server.create_object(id, *interface, 1, 1, *user_data);

@@ -13,6 +13,8 @@ use wl_host::{FlatClientId, FlatGlobalId, FlatHeldObject, FlatObjectId, Server, 
 pub enum Choice {
     /// An object of the client of this interface and version, at this number, with data.
     Create(FlatClientId, u32, u32, u32, u64),
+    /// The object of the client of this interface that is to stand for something, of this version, at this number, with data.
+    Claim(FlatClientId, u32, u32, u32, u64),
     /// The object gets this version.
     Version(FlatObjectId, u32),
     /// The names of globals are kept if this is not 0.
@@ -69,6 +71,10 @@ pub fn choose(log: &mut String, server: &mut Server, choice: &Choice) -> Result<
             let answer = server.create_object_at(id, *interface, *version, *number, 1, *data);
             told(log, answer, tell_object)
         }
+        Choice::Claim(id, interface, version, number, data) => {
+            let answer = server.claim_object(id, *interface, *version, *number, *data);
+            told(log, answer, tell_object)
+        }
         Choice::Version(id, version) => Ok(server.set_object_version(id, *version)),
         Choice::Names(keep) => Ok(server.keep_global_names(*keep)),
         Choice::Remove(id) => Ok(server.remove_global(id)),
@@ -99,8 +105,11 @@ const MAKE: &[u32] = &[4, 0x000c0003, 5];
 /// `pad.make` by the object 3, with the new id 4.
 const MAKE_4: &[u32] = &[3, 0x000c0003, 4];
 
+/// `pad.make` by the object 4, with the new id 6.
+const MAKE_6: &[u32] = &[4, 0x000c0003, 6];
+
 /// The runs, each of a new session.
-static RUNS: [Run<Act>; 7] = [
+static RUNS: [Run<Act>; 8] = [
     // The client has the display, its registry and the `pad` at the numbers 1 to 3: 4 is next. The object that the host makes there
     // gets a version that the interface has, and so does what its requests make.
     Run {
@@ -142,6 +151,64 @@ static RUNS: [Run<Act>; 7] = [
                 "Ok kind 1 opcode 3 data 44 version 2 arguments 1 by 4@4 made 4@5 (5: 0 object 4@5)",
             ),
             (Act::FinishWith(FIRST, 55), "Ok kept true"),
+        ],
+    },
+    // A request makes the object 4, which gets the data 0. It is claimed once, by the first version that the interface has; the request that it
+    // makes then is of that version. At the next number, and at 0, a new object is made. The registry at 2 has no data, and is of another
+    // interface.
+    Run {
+        name: "an object is claimed",
+        first: BOUND,
+        entries: &[
+            (Act::Received(FIRST, MAKE_4, &[]), "Ok"),
+            (
+                Act::Next(FIRST, 1, 0),
+                "Ok kind 1 opcode 3 data 33 version 2 arguments 1 by 4@3 made 4@4 (5: 0 object 4@4)",
+            ),
+            (Act::FinishWith(FIRST, 0), "Ok kept true"),
+            (
+                Act::Choose(Choice::Claim(FIRST, 4, 0, 4, 44)),
+                "VersionTooHigh",
+            ),
+            (
+                Act::Choose(Choice::Claim(FIRST, 4, 3, 4, 44)),
+                "VersionTooHigh",
+            ),
+            (Act::Choose(Choice::ByNumber(FIRST, 4)), "Ok 4@4"),
+            (Act::Choose(Choice::Claim(FIRST, 4, 1, 4, 44)), "Ok 4@4"),
+            (Act::Choose(Choice::ByNumber(FIRST, 4)), "Ok 4@4 data 44"),
+            (Act::Choose(Choice::Claim(FIRST, 4, 1, 4, 45)), "NotFree"),
+            (Act::Choose(Choice::Claim(FIRST, 4, 1, 2, 45)), "NotFree"),
+            (Act::Choose(Choice::Claim(FIRST, 4, 1, 6, 45)), "NotFree"),
+            (
+                Act::Choose(Choice::Claim(FIRST, 5, 1, 5, 45)),
+                "UnknownInterface",
+            ),
+            (
+                Act::Choose(Choice::Claim(FIRST, 5, 1, 0, 45)),
+                "UnknownInterface",
+            ),
+            (Act::Choose(Choice::Claim(SECOND, 4, 1, 4, 45)), "InvalidId"),
+            (Act::Choose(Choice::Claim(SECOND, 4, 1, 0, 45)), "InvalidId"),
+            (Act::Choose(Choice::Claim(FIRST, 4, 1, 5, 55)), "Ok 4@5"),
+            (
+                Act::Choose(Choice::Claim(FIRST, 4, 9, 0, 66)),
+                "Ok 4@4278190080",
+            ),
+            (
+                Act::Choose(Choice::All(FIRST, 4)),
+                "TooSmall 6 1@1 2@2 4@3 data 33 4@4 data 44",
+            ),
+            (Act::Choose(Choice::ByNumber(FIRST, 5)), "Ok 4@5 data 55"),
+            (
+                Act::Choose(Choice::ByNumber(FIRST, 0xff000000)),
+                "Ok 4@4278190080 data 66",
+            ),
+            (Act::Received(FIRST, MAKE_6, &[]), "Ok"),
+            (
+                Act::Next(FIRST, 1, 0),
+                "Ok kind 1 opcode 3 data 44 version 1 arguments 1 by 4@4 made 4@6 (5: 0 object 4@6)",
+            ),
         ],
     },
     // As long as names are kept, a new global gets one that was never in use. Then it gets the least free one.

@@ -550,7 +550,7 @@ static WHOLE_ROWS: Run<Act> = Run {
 };
 
 /// A `pad` that differs is another interface: it has a row of its own, and the first of these that agrees. What a row lacks it takes
-/// of the `pad` that agrees with it; of the first one an event is read that came with it. How many descriptors events bring is told.
+/// of the `pad` that agrees with it; of the first one an event is read that came with it.
 static ONE_INTERFACE: Run<Act> = Run {
     name: "one interface joins the table",
     first: &[],
@@ -559,18 +559,10 @@ static ONE_INTERFACE: Run<Act> = Run {
         (Act::Join(LAX_PAD), "Ok number 5"),
         (Act::Join(TOLD_PAD), "Ok number 5"),
         (Act::Join(LAX_PAD), "Ok number 5"),
-        (Act::Descriptors(5, 1), "Ok"),
-        (Act::Descriptors(4, 1), "Ok count 1"),
-        (Act::Descriptors(4, 0), "Ok"),
-        (Act::Descriptors(4, 2), "UnknownOpcode"),
         (Act::Join(READ_NOTE), "Ok number 6"),
         (Act::Join(FAR_NOTE), "BadTable fault 4"),
         (Act::Join(LONGER_PAD), "Ok number 4"),
         (Act::Join(TABLE), "Ok number 4"),
-        (Act::Descriptors(4, 2), "Ok"),
-        (Act::Descriptors(4, 3), "UnknownOpcode"),
-        (Act::Descriptors(0, 0), "UnknownOpcode"),
-        (Act::Descriptors(7, 0), "UnknownInterface"),
         (Act::Join(NO_ROWS), "BadTable fault 1"),
         (Act::Join(LONG_PAD), "BadTable fault 1"),
         (Act::Join(OLD_CALLBACK), "Ok number 3"),
@@ -583,9 +575,147 @@ static ONE_INTERFACE: Run<Act> = Run {
     ],
 };
 
+/// No note tells of an object that is given up, and its data are 0. It leaves its number when the server deletes its id; at once if that
+/// came before.
+static GIVEN_UP: [Run<Act>; 3] = [
+    Run {
+        name: "an object is given up",
+        first: &[],
+        entries: &[
+            (Act::GiveUp(DISPLAY), "InvalidId"),
+            (Act::GiveUp(CALLBACK), "InvalidId"),
+            (Act::Send(DISPLAY, 0, Some(7), NEW, &[]), "Ok 3@2 serial 1"),
+            (Act::Data(CALLBACK), "Ok data 7"),
+            (Act::GiveUp(CALLBACK), "Ok"),
+            (Act::GiveUp(CALLBACK), "Ok"),
+            (Act::Note, "WouldBlock"),
+            (Act::Data(CALLBACK), "Ok"),
+            (Act::Info(CALLBACK), "InvalidId"),
+            (Act::At(2), "Ok 3@2 serial 1"),
+            (Act::Received(&[1, 0x000c0001, 2], &[]), "Ok"),
+            (Act::Next(1, 0), "WouldBlock"),
+            (Act::At(2), "InvalidId"),
+            (Act::Note, "WouldBlock"),
+        ],
+    },
+    Run {
+        name: "an object is given up that an event has ended",
+        first: &[],
+        entries: &[
+            (Act::Send(DISPLAY, 0, Some(7), NEW, &[]), "Ok 3@2 serial 1"),
+            (Act::Received(&[2, 0x000c0000, 6], &[]), "Ok"),
+            (
+                Act::Next(1, 0),
+                "Ok ends 1 has_data 1 data 7 arguments 1 by 3@2 (1: 6)",
+            ),
+            (Act::Finish, "Ok"),
+            (Act::GiveUp(CALLBACK), "Ok"),
+            (Act::Data(CALLBACK), "Ok"),
+            (Act::Note, "Ok 3@2 serial 1 data 7"),
+            (Act::Note, "WouldBlock"),
+            (Act::Received(&[1, 0x000c0001, 2], &[]), "Ok"),
+            (Act::Next(1, 0), "WouldBlock"),
+            (Act::GiveUp(CALLBACK), "InvalidId"),
+        ],
+    },
+    Run {
+        name: "an object is given up whose id was deleted",
+        first: &[],
+        entries: &[
+            (Act::Send(DISPLAY, 0, Some(7), NEW, &[]), "Ok 3@2 serial 1"),
+            (Act::Received(&[1, 0x000c0001, 2], &[]), "Ok"),
+            (Act::Next(1, 0), "WouldBlock"),
+            (Act::GiveUp(CALLBACK), "Ok"),
+            (Act::Data(CALLBACK), "InvalidId"),
+            (Act::Note, "WouldBlock"),
+            (Act::Send(DISPLAY, 0, Some(8), NEW, &[]), "Ok 3@2 serial 2"),
+        ],
+    },
+];
+
+/// Which messages go together: events of objects, up to one that makes or ends an object or is the display's, that no event comes of,
+/// or that lacks a descriptor. `pad.given` brings one, and `gate.opened` makes an object.
+static TOGETHER: Run<Act> = Run {
+    name: "messages that go together",
+    first: &[],
+    entries: &[
+        (Act::Send(DISPLAY, 1, Some(1), NEW, &[]), "Ok 2@2 serial 1"),
+        (Act::BindPad(9), "Ok 4@3 serial 2"),
+        (Act::AddGate, "Ok"),
+        (Act::BindGate(8), "Ok 5@4 serial 3"),
+        (Act::Run(&[], 3), "Ok"),
+        (Act::Run(&[3], 0), "Ok"),
+        (Act::Run(&[3, 0x000c0000], 0), "Ok"),
+        (
+            Act::Run(&[3, 0x000c0000, 5, 3, 0x00080001, 3, 0x000c0000, 7, 3], 2),
+            "Ok bytes 32 descriptors 1",
+        ),
+        (
+            Act::Run(&[3, 0x000c0000, 5, 3, 0x00080001, 3, 0x000c0000, 7], 0),
+            "Ok bytes 12 kind 3 sender 3 interface 4 opcode 1 size 8 needed 1",
+        ),
+        (
+            Act::Run(&[4, 0x00140000, 0xff000000, 2, 0x61, 3, 0x000c0000, 7], 1),
+            "Ok bytes 20 descriptors 1",
+        ),
+        (
+            Act::Run(&[3, 0x000c0000, 5, 1, 0x000c0001, 2, 3, 0x000c0000, 7], 0),
+            "Ok bytes 24 kind 1 sender 1 interface 1 opcode 1 size 12 number 2",
+        ),
+        (
+            Act::Run(
+                &[3, 0x000c0000, 5, 1, 0x000c0001, 0xff000000, 3, 0x00080001],
+                0,
+            ),
+            "Ok bytes 12 skipped 12 kind 1 sender 1 interface 1 opcode 1 size 12 number 4278190080",
+        ),
+        (
+            Act::Run(&[1, 0x00100001, 2, 2, 3, 0x000c0000, 7], 0),
+            "Ok bytes 16",
+        ),
+        (
+            Act::Run(&[9, 0x000c0004, 5, 3, 0x000c0000, 7], 0),
+            "Ok bytes 12 kind 2 sender 9 opcode 4 size 12",
+        ),
+        (Act::Run(&[3, 0x00040000, 5, 6], 0), "Ok bytes 16"),
+        (
+            Act::Run(&[3, 0x000c0007, 5, 3, 0x000c0000, 7], 0),
+            "Ok bytes 12",
+        ),
+        (Act::Destroy(BOUND), "Ok"),
+        (
+            Act::Run(&[3, 0x00080001, 3, 0x000c0000, 7], 1),
+            "Ok bytes 8 descriptors 1 kind 2 sender 3 interface 4 opcode 1 size 8 needed 1 may_bring 1",
+        ),
+        (
+            Act::Run(&[3, 0x00080001, 3, 0x000c0000, 7], 0),
+            "Ok skipped 8 kind 2 sender 3 interface 4 opcode 1 size 8 needed 1 may_bring 1",
+        ),
+        (
+            Act::Run(&[3, 0x000c0000, 7], 0),
+            "Ok bytes 12 kind 2 sender 3 interface 4 size 12 may_bring 1",
+        ),
+    ],
+};
+
 /// It tells what it has to.
 #[test]
 fn whole_rows(rt: HostRuntime) -> Result<(), Fail> {
     run_tells::<Client>(&rt, &WHOLE_ROWS, None, false)?;
     run_tells::<Client>(&rt, &ONE_INTERFACE, None, false)
+}
+
+/// They tell what they have to.
+#[test]
+fn objects_given_up(rt: HostRuntime) -> Result<(), Fail> {
+    for run in &GIVEN_UP {
+        run_tells::<Client>(&rt, run, None, false)?;
+    }
+    Ok(())
+}
+
+/// It tells what it has to.
+#[test]
+fn messages_together(rt: HostRuntime) -> Result<(), Fail> {
+    run_tells::<Client>(&rt, &TOGETHER, None, false)
 }

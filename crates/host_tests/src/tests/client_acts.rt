@@ -54,8 +54,8 @@ pub enum Act {
     Extend(Rows<'static>),
     /// The interface of these rows joins the table.
     Join(Rows<'static>),
-    /// How many descriptors the event of this interface and opcode brings.
-    Descriptors(u32, u32),
+    /// These words and so many descriptors arrived: which messages the session is to have together.
+    Run(&'static [u32], u32),
     /// What is known of the object.
     Info(FlatObjectId),
     /// The data of the object.
@@ -66,6 +66,8 @@ pub enum Act {
     Destroy(FlatObjectId),
     /// The object, which both sides have given up, is taken out.
     Reclaim(FlatObjectId),
+    /// The object is given up for good.
+    GiveUp(FlatObjectId),
     /// The object that a number holds.
     At(u32),
     /// Messages of unknown senders are passed over, unless this is 0.
@@ -221,11 +223,6 @@ fn tell_data(log: &mut String, user_data: u64) -> Result<(), Fail> {
     tell_numbers(log, &[("data", user_data)])
 }
 
-/// A count.
-fn tell_count(log: &mut String, count: u32) -> Result<(), Fail> {
-    tell_numbers(log, &[("count", u64::from(count))])
-}
-
 /// Tells what is known of an object.
 fn tell_info(log: &mut String, info: FlatObjectInfo) -> Result<(), Fail> {
     let (number, interface, version) = (info.number, info.interface, info.version);
@@ -299,6 +296,34 @@ fn received(
     Ok(client.received(&bytes, descriptors))
 }
 
+/// Which messages at the front of these words the session is to have together, if so many descriptors came with them.
+fn next_run(
+    log: &mut String,
+    client: &Client,
+    words: &[u32],
+    descriptors: u32,
+) -> Result<Status, Fail> {
+    let bytes = bytes_of(*log.allocator(), words)?;
+    let run = client.next_run(&bytes, descriptors);
+    let numbers = [
+        ("bytes", run.bytes),
+        ("descriptors", run.descriptors),
+        ("skipped", run.skipped),
+        ("kind", run.kind),
+        ("sender", run.sender),
+        ("interface", run.interface),
+        ("opcode", run.opcode),
+        ("size", run.size),
+        ("needed", run.needed),
+        ("may_bring", run.may_bring),
+        ("number", run.number),
+    ];
+    for (name, number) in numbers {
+        tell_numbers(log, &[(name, u64::from(number))])?;
+    }
+    Ok(Status::Ok)
+}
+
 /// The next note: the object that ended, and its data.
 fn next_note(log: &mut String, client: &mut Client) -> Result<Status, Fail> {
     let mut ended = NULL;
@@ -343,11 +368,7 @@ fn on_requests(log: &mut String, client: &mut Client, act: &Act) -> Result<Statu
         Act::Fail(number) => Ok(client.fail(*number)),
         Act::Extend(rows) => told_extension(log, client.extend_interfaces(rows)),
         Act::Join(rows) => told_joined(log, client.join_interface(rows)),
-        Act::Descriptors(interface, opcode) => told(
-            log,
-            client.event_descriptors(*interface, *opcode),
-            tell_count,
-        ),
+        Act::Run(words, descriptors) => next_run(log, client, words, *descriptors),
         _ => Err(Fail::new("no act of this kind")),
     }
 }
@@ -360,6 +381,7 @@ fn on_objects(log: &mut String, client: &mut Client, act: &Act) -> Result<Status
         Act::SetData(id, user_data) => Ok(client.set_object_data(id, *user_data)),
         Act::Destroy(id) => Ok(client.destroy_object(id)),
         Act::Reclaim(id) => Ok(client.reclaim(id)),
+        Act::GiveUp(id) => Ok(client.give_up_object(id)),
         Act::At(number) => told(log, client.object_for_protocol_id(*number), tell_id),
         Act::PassOver(passes) => Ok(client.pass_over_unknown_senders(*passes)),
         Act::Waiting => told(log, client.waiting(), tell_waiting),

@@ -11,7 +11,8 @@ use wl_host::{EventQueues, FlatReaders};
 enum Act {
     NewQueue,
     DropQueue(usize),
-    Add(usize),
+    /// An object of the queue, with this content.
+    Add(usize, u64),
     SetQueue(usize, usize),
     Destroy(usize),
     /// An event for this object, with these objects among its arguments, and this content.
@@ -31,7 +32,7 @@ fn perform_other(queues: &mut EventQueues, log: &mut String, act: Act) -> Result
     match act {
         Act::NewQueue => write!(log, "{:?}", queues.new_queue()),
         Act::DropQueue(queue) => write!(log, "{:?}", queues.drop_queue(queue)),
-        Act::Add(queue) => write!(log, "{:?}", queues.add(queue)),
+        Act::Add(queue, content) => write!(log, "{:?}", queues.add(queue, content)),
         Act::SetQueue(object, queue) => write!(log, "{:?}", queues.set_queue(object, queue)),
         Act::Destroy(object) => write!(log, "{:?}", queues.destroy(object)),
         Act::Unused => write!(log, "{:?}", queues.next_unused()),
@@ -71,11 +72,17 @@ static RUN: [Entry; 48] = [
     (Act::NewQueue, "Ok(1)"),
     (Act::DropQueue(0), "Err(NoQueue)"),
     (Act::DropQueue(2), "Err(NoQueue)"),
-    (Act::Add(2), "Err(NoQueue)"),
-    (Act::Add(0), "Ok(0)"),
-    (Act::Add(1), "Ok(1)"),
-    (Act::Object(1), "FlatQueuedObject { queue: 1, fate: 1 }"),
-    (Act::Object(2), "FlatQueuedObject { queue: 0, fate: 0 }"),
+    (Act::Add(2, 90), "Err(NoQueue)"),
+    (Act::Add(0, 91), "Ok(0)"),
+    (Act::Add(1, 92), "Ok(1)"),
+    (
+        Act::Object(1),
+        "FlatQueuedObject { queue: 1, content: 92, fate: 1 }",
+    ),
+    (
+        Act::Object(2),
+        "FlatQueuedObject { queue: 0, content: 0, fate: 0 }",
+    ),
     (Act::SetQueue(2, 2), "Err(InvalidId)"),
     (Act::SetQueue(0, 2), "Err(NoQueue)"),
     (Act::SetQueue(0, 1), "Ok(())"),
@@ -106,7 +113,10 @@ static RUN: [Entry; 48] = [
     (Act::Destroy(1), "Ok(())"),
     (Act::Destroy(1), "Err(InvalidId)"),
     (Act::Argument(0, 0), "Err(InvalidId)"),
-    (Act::Object(1), "FlatQueuedObject { queue: 1, fate: 2 }"),
+    (
+        Act::Object(1),
+        "FlatQueuedObject { queue: 1, content: 92, fate: 2 }",
+    ),
     (
         Act::Next(1),
         "Ok(FlatQueuedEvent { ticket: 0, content: 6, sender: 1, arguments: 0, outcome: 3 })",
@@ -121,7 +131,7 @@ static RUN: [Entry; 48] = [
     (Act::Unused, "Err(WouldBlock)"),
     (Act::Finish(0), "Ok(5)"),
     (Act::Finish(0), "Err(InvalidId)"),
-    (Act::Unused, "Ok(1)"),
+    (Act::Unused, "Ok(UnusedObject { object: 1, content: 92 })"),
     (Act::Unused, "Err(WouldBlock)"),
     (Act::Fail, ""),
     (
@@ -130,7 +140,7 @@ static RUN: [Entry; 48] = [
     ),
     (Act::Next(0), "Err(WouldBlock)"),
     (Act::Destroy(0), "Ok(())"),
-    (Act::Unused, "Ok(0)"),
+    (Act::Unused, "Ok(UnusedObject { object: 0, content: 91 })"),
 ];
 
 /// What a call tells.

@@ -2,11 +2,13 @@
 
 use crate::tests::acts::{Act, FIRST, GIVEN, MOVED, SECOND};
 use crate::tests::args::{arg, id};
+use crate::tests::registries::Telling;
 use crate::tests::rows::{
     BAD_NOTE, BARE_NOTE, FAR_NOTE, LAX_PAD, LONG_PAD, LONGER_PAD, NEW_CALLBACK, NO_ROWS,
     OLD_CALLBACK, OTHER_PAD, PAD_TWICE, READ_NOTE, TABLE, TOLD_PAD,
 };
 use crate::tests::session::{Entry, Run, run_tells};
+use crate::tests::told::NULL;
 use std::test::Fail;
 use wl_host::{FlatClientId, FlatGlobalId, FlatObjectId, Server};
 
@@ -28,6 +30,9 @@ const LABEL: &[u32] = &[3, 0x00100001, 4, 0x00796568];
 
 /// `pad.close`.
 const CLOSE: &[u32] = &[3, 0x00080002];
+
+/// `pad.make` with the new id 4.
+const MAKE: &[u32] = &[3, 0x000c0003, 4];
 
 /// `pad.label` of a null string, which `pad` does not allow.
 const LABEL_NULL: &[u32] = &[3, 0x000c0001, 0];
@@ -109,7 +114,7 @@ pub const BOUND: &[Entry<Act>] = &[
 ];
 
 /// Conversations about requests and events, each of a new session.
-static REQUESTS: [Run<Act>; 4] = [
+static REQUESTS: [Run<Act>; 5] = [
     // A client binds a global, and a descriptor comes with a request and goes with an event.
     Run {
         name: "descriptors come and go",
@@ -230,6 +235,59 @@ static REQUESTS: [Run<Act>; 4] = [
                 "Ok [ 03 00 00 00 01 00 08 00 01 00 00 00 01 00 0c 00 03 00 00 00 ] [ ]",
             ),
             (Act::Dropped, "WouldBlock"),
+        ],
+    },
+    // A registry, a bind, and requests that make an object, none, and end their sender: each is finished as what it is, and as
+    // nothing else. What it made has the data 0 then, with which the note of its end comes.
+    Run {
+        name: "each action is finished as what it is",
+        first: &[],
+        entries: &[
+            (Act::Tell(Telling::HandOut(1)), "Ok"),
+            (Act::Global(70, 1, &[]), "Ok global 1:1"),
+            (Act::Insert(7, 1, &[]), "Ok client 0:1"),
+            (Act::Note, "Ok kind 1 client 0:1"),
+            (Act::FinishAction(FIRST, wl_host::REQUEST, NULL), "NotOpen"),
+            (Act::FinishAction(SECOND, wl_host::BIND, NULL), "InvalidId"),
+            (Act::Received(FIRST, REGISTRY, &[]), "Ok"),
+            (Act::Next(FIRST, 0, 0), "Ok kind 3 version 1 made 2@2"),
+            (Act::FinishAction(FIRST, wl_host::REGISTRY, NULL), "Ok"),
+            (Act::Received(FIRST, BIND_FIRST, &[]), "Ok"),
+            (
+                Act::Next(FIRST, 0, 0),
+                "Ok kind 2 data 70 version 2 made 4@3",
+            ),
+            (
+                Act::FinishAction(FIRST, wl_host::REQUEST, FIRST_PAD),
+                "WrongKind",
+            ),
+            (Act::FinishAction(FIRST, wl_host::BIND, FIRST_PAD), "Ok"),
+            (Act::Received(FIRST, MAKE, &[]), "Ok"),
+            (
+                Act::Next(FIRST, 1, 0),
+                "Ok kind 1 opcode 3 version 2 arguments 1 by 4@3 made 4@4 (5: 0 object 4@4)",
+            ),
+            (Act::FinishAction(FIRST, wl_host::BIND, NULL), "WrongKind"),
+            (
+                Act::FinishAction(FIRST, wl_host::REQUEST, NULL),
+                "MissingData",
+            ),
+            (Act::FinishAction(FIRST, wl_host::REQUEST, FIRST_PAD), "Ok"),
+            (Act::Received(FIRST, LABEL, &[]), "Ok"),
+            (
+                Act::Next(FIRST, 1, 8),
+                "Ok kind 1 opcode 1 arguments 1 bytes 8 by 4@3 (3: 0 length 3) [ 68 65 79 00 00 00 00 00 ]",
+            ),
+            (
+                Act::FinishAction(FIRST, wl_host::REQUEST, FIRST_PAD),
+                "UnexpectedData",
+            ),
+            (Act::FinishAction(FIRST, wl_host::REQUEST, NULL), "Ok"),
+            (Act::Received(FIRST, CLOSE, &[]), "Ok"),
+            (Act::Next(FIRST, 0, 0), "Ok kind 1 opcode 2 ends 1 by 4@3"),
+            (Act::FinishAction(FIRST, wl_host::REQUEST, NULL), "Ok"),
+            (Act::Note, "Ok kind 3 client 0:1 object 4@3"),
+            (Act::FinishAction(FIRST, wl_host::REQUEST, NULL), "NotOpen"),
         ],
     },
 ];

@@ -13,9 +13,9 @@ static ROWS: [Row; 30] = [
     ("next_of, none waits", Act::Next(0), "nothing\n"),
     ("next_of, there is no queue", Act::Next(1), "NoQueue\n"),
     ("", Act::NewQueue, "Ok(1)\n"),
-    ("control: add", Act::Add(0), "Ok(0)\n"),
-    ("", Act::Add(1), "Ok(1)\n"),
-    ("", Act::Add(1), "Ok(2)\n"),
+    ("control: add", Act::Add(0, 91), "Ok(0)\n"),
+    ("", Act::Add(1, 92), "Ok(1)\n"),
+    ("", Act::Add(1, 93), "Ok(2)\n"),
     ("control: put", Act::Put(0, &[], 1), "put\n"),
     ("", Act::Put(1, &[], 2), "put\n"),
     ("", Act::Put(2, &[1], 3), "put\n"),
@@ -25,7 +25,7 @@ static ROWS: [Row; 30] = [
         Act::Next(0),
         "dropped: SenderDestroyed, 1\n",
     ),
-    ("next_unused", Act::Unused, "0\n"),
+    ("next_unused", Act::Unused, "0 with 91\n"),
     ("next_unused, there is none", Act::Unused, "none\n"),
     ("set_queue", Act::SetQueue(2, 0), "Ok(())\n"),
     ("drop_queue", Act::DropQueue(1), "Ok(())\n"),
@@ -46,7 +46,7 @@ static ROWS: [Row; 30] = [
     (
         "object",
         Act::Object(1),
-        "Object { queue: 0, fate: Alive }\n",
+        "Object { queue: 0, fate: Alive, content: 92 }\n",
     ),
     ("has_events", Act::HasEvents(0), "true\n"),
     ("finish", Act::Finish(0), "event 4\n"),
@@ -59,7 +59,7 @@ static ROWS: [Row; 30] = [
         "dropped: SessionFailed, 5\n",
     ),
     ("", Act::Next(1), "dropped: SessionFailed, 3\n"),
-    ("next_unused, after that", Act::Unused, "2\n"),
+    ("next_unused, after that", Act::Unused, "2 with 93\n"),
 ];
 
 /// Names a call on standard error before it is made, if it has a name.

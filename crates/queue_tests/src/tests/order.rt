@@ -8,7 +8,7 @@ static ROWS: [Row; 13] = [
     Row {
         name: "event that waits stays in its queue when its object gets another one",
         acts: &[
-            Act::Add(0),
+            Act::Add(0, 91),
             Act::Put(0, &[], 1),
             Act::NewQueue,
             Act::SetQueue(0, 1),
@@ -26,7 +26,7 @@ static ROWS: [Row; 13] = [
         name: "moved to the default queue",
         acts: &[
             Act::NewQueue,
-            Act::Add(1),
+            Act::Add(1, 91),
             Act::SetQueue(0, 0),
             Act::Put(0, &[], 1),
             Act::Next(1),
@@ -38,8 +38,8 @@ static ROWS: [Row; 13] = [
     Row {
         name: "child of a moved object",
         acts: &[
-            Act::Add(0),
-            Act::Add(0),
+            Act::Add(0, 91),
+            Act::Add(0, 92),
             Act::Put(0, &[1], 1),
             Act::NewQueue,
             Act::SetQueue(0, 1),
@@ -55,10 +55,10 @@ static ROWS: [Row; 13] = [
     Row {
         name: "child of a wrapper has its queue",
         acts: &[
-            Act::Add(0),
+            Act::Add(0, 91),
             Act::NewQueue,
-            Act::Add(1),
-            Act::Add(0),
+            Act::Add(1, 92),
+            Act::Add(0, 93),
             Act::Put(0, &[], 1),
             Act::Put(1, &[], 5),
             Act::Next(0),
@@ -73,7 +73,7 @@ static ROWS: [Row; 13] = [
     Row {
         name: "error after an event",
         acts: &[
-            Act::Add(0),
+            Act::Add(0, 91),
             Act::Put(0, &[], 1),
             Act::Fail,
             Act::Next(0),
@@ -86,8 +86,8 @@ static ROWS: [Row; 13] = [
         name: "error of the display between two events",
         acts: &[
             Act::NewQueue,
-            Act::Add(1),
-            Act::Add(0),
+            Act::Add(1, 91),
+            Act::Add(0, 92),
             Act::Put(1, &[], 88),
             Act::Put(1, &[], 89),
             Act::Next(0),
@@ -105,7 +105,7 @@ static ROWS: [Row; 13] = [
     Row {
         name: "listener destroys its object",
         acts: &[
-            Act::Add(0),
+            Act::Add(0, 91),
             Act::Put(0, &[], 77),
             Act::Put(0, &[], 78),
             Act::Next(0),
@@ -119,7 +119,7 @@ static ROWS: [Row; 13] = [
     Row {
         name: "listener dispatches",
         acts: &[
-            Act::Add(0),
+            Act::Add(0, 91),
             Act::Put(0, &[], 1),
             Act::Put(0, &[], 2),
             Act::Put(0, &[], 3),
@@ -136,9 +136,9 @@ static ROWS: [Row; 13] = [
     Row {
         name: "destroyed argument is null",
         acts: &[
-            Act::Add(0),
-            Act::Add(0),
-            Act::Add(0),
+            Act::Add(0, 91),
+            Act::Add(0, 92),
+            Act::Add(0, 93),
             Act::Put(0, &[1, 2], 5),
             Act::Destroy(1),
             Act::Next(0),
@@ -152,8 +152,8 @@ static ROWS: [Row; 13] = [
     Row {
         name: "dropped event that made an object",
         acts: &[
-            Act::Add(0),
-            Act::Add(0),
+            Act::Add(0, 91),
+            Act::Add(0, 92),
             Act::Put(0, &[1], 4),
             Act::Destroy(0),
             Act::Next(0),
@@ -162,14 +162,14 @@ static ROWS: [Row; 13] = [
             Act::Unused,
             Act::Unused,
         ],
-        told: "Ok(0)\nOk(1)\nput\nOk(())\ndropped: SenderDestroyed, 4\nOk(())\n0\n1\nnone\n",
+        told: "Ok(0)\nOk(1)\nput\nOk(())\ndropped: SenderDestroyed, 4\nOk(())\n0 with 91\n1 with 92\nnone\n",
     },
     // The content, with its descriptor, comes out with the event.
     Row {
         name: "queue dropped with an event",
         acts: &[
             Act::NewQueue,
-            Act::Add(1),
+            Act::Add(1, 91),
             Act::Put(0, &[], 4),
             Act::SetQueue(0, 0),
             Act::DropQueue(1),
@@ -183,7 +183,7 @@ static ROWS: [Row; 13] = [
         name: "queue dropped while an object has it",
         acts: &[
             Act::NewQueue,
-            Act::Add(1),
+            Act::Add(1, 91),
             Act::DropQueue(1),
             Act::Object(0),
             Act::Put(0, &[], 1),
@@ -191,7 +191,7 @@ static ROWS: [Row; 13] = [
             Act::Next(0),
             Act::Content(0),
         ],
-        told: "Ok(1)\nOk(0)\nOk(())\nObject { queue: 0, fate: Alive }\nput\nnothing\nticket 0\nevent 1\n",
+        told: "Ok(1)\nOk(0)\nOk(())\nObject { queue: 0, fate: Alive, content: 91 }\nput\nnothing\nticket 0\nevent 1\n",
     },
     Row {
         name: "number of a dropped queue is used no more",
@@ -199,10 +199,10 @@ static ROWS: [Row; 13] = [
             Act::NewQueue,
             Act::DropQueue(1),
             Act::NewQueue,
-            Act::Add(1),
+            Act::Add(1, 91),
             Act::DropQueue(1),
             Act::DropQueue(0),
-            Act::Add(2),
+            Act::Add(2, 92),
             Act::SetQueue(0, 1),
         ],
         told: "Ok(1)\nOk(())\nOk(2)\nErr(NoQueue)\nErr(NoQueue)\nErr(NoQueue)\nOk(0)\nErr(NoQueue)\n",

@@ -1,11 +1,12 @@
-//! Single interfaces that join the table of a client's session, and what it says of descriptors.
+//! Single interfaces that join the table of a client's session.
 
-ghost use Rattle.std.specs.Prelude.{IsSome, None, ◌≡◌, ◌≢◌};
-ghost use Rattle.wl_c.specs.Calls.{Found, Joined};
-ghost use Rattle.wl_host_client.specs.Tables.{JoinsClient, event_descriptors};
+ghost use Rattle.std.specs.Prelude.{IsSome, None, [], ◌≡◌, ◌≢◌};
+ghost use Rattle.wl_c.specs.Calls.{Joined};
+ghost use Rattle.wl_host_client.specs.Client.{ConservesClient};
+ghost use Rattle.wl_host_client.specs.Tables.{JoinsClient};
 
 use super::place::ClientPlace;
-use crate::answer::{write_answer, write_joined};
+use crate::answer::write_joined;
 use std::alloc::Global;
 use wl_host::{ArgumentRow, ExtensionFault, InterfaceRow, MessageRow, Rows, Status};
 
@@ -28,6 +29,7 @@ pub extern "C" fn nb_client_join_interface(
     ensures unfaulted { result ≡ 0 → fault.new ≡ fault.old }
     ensures call { Joined place.old.kept.held result number.old number.new fault.old fault.new place.new.kept.held (λ s answer t. JoinsClient (record { text = text.entry; interfaces = interfaces.entry; messages = messages.entry; arguments = arguments.entry }) s.core answer t.core) }
     ensures beside { Joined place.old.kept.held result number.old number.new fault.old fault.new place.new.kept.held (λ s answer t. t ≡ record s { core = t.core }) }
+    ensures descriptors { Joined place.old.kept.held result number.old number.new fault.old fault.new place.new.kept.held (λ s answer t. ConservesClient s [] [] t) }
 {
     let Some(mut session) = place.take(alloc) else {
         return Status::NoSession.code();
@@ -41,26 +43,4 @@ pub extern "C" fn nb_client_join_interface(
     let answer = session.join_interface(&rows);
     place.put(session);
     write_joined(answer, number, fault)
-}
-
-/// Writes how many descriptors an event of an interface of the table brings.
-#[unsafe(no_mangle)]
-pub extern "C" fn nb_client_event_descriptors(
-    alloc: Global,
-    place: &mut ClientPlace,
-    interface: u32,
-    opcode: u32,
-    count: &mut u32,
-) -> u32
-    ensures none { place.old.kept.held ≡ None → (result ≡ 1) × (place.new.kept.held ≡ None) × (count.new ≡ count.old) }
-    ensures kept { place.new.kept.held ≡ place.old.kept.held }
-    ensures unwritten { result ≢ 0 → count.new ≡ count.old }
-    ensures answer { Found place.old.kept.held result count.old count.new (λ s answer. answer ≡ event_descriptors s.core.session.table interface opcode) }
-{
-    let Some(session) = place.take(alloc) else {
-        return Status::NoSession.code();
-    };
-    let answer = session.event_descriptors(interface, opcode);
-    place.put(session);
-    write_answer(answer, count)
 }

@@ -4,7 +4,7 @@ ghost use Rattle.std.specs.Prelude.{IsSome, None, Ok, [], ◌≡◌, ◌≢◌, 
 ghost use Rattle.wl_c.specs.Calls.{Did, Found};
 ghost use Rattle.wl_client.specs.ByNumber.{object_at};
 ghost use Rattle.wl_client.specs.Objects.{info_of, user_data_of};
-ghost use Rattle.wl_host_client.specs.Client.{ConservesClient, Destroys, GivesData, Reclaims, flat_info};
+ghost use Rattle.wl_host_client.specs.Client.{ConservesClient, Destroys, GivesData, GivesUp, Reclaims, flat_info};
 ghost use Rattle.wl_flat.specs.Status.{found};
 ghost use Rattle.wl_flat.specs.Flat.{flat_proxy, proxy_of};
 ghost use Rattle.wl_flat.specs.declared.status.Status.TheVariants as status;
@@ -136,6 +136,26 @@ pub extern "C" fn nb_client_destroy_object(
         return Status::NoSession.code();
     };
     let status = session.destroy_object(object);
+    place.put(session);
+    status.code()
+}
+
+/// Gives an object up for good: no note tells of it.
+#[unsafe(no_mangle)]
+pub extern "C" fn nb_client_give_up_object(
+    alloc: Global,
+    place: &mut ClientPlace,
+    object: &FlatObjectId,
+) -> u32
+    ensures none { place.old.kept.held ≡ None → (result ≡ 1) × (place.new.kept.held ≡ None) }
+    ensures stays { IsSome place.old.kept.held → IsSome place.new.kept.held }
+    ensures call { Did place.old.kept.held result place.new.kept.held (λ s status t. GivesUp s (proxy_of object.now) status t) }
+    ensures descriptors { Did place.old.kept.held result place.new.kept.held (λ s status t. ConservesClient s [] [] t) }
+{
+    let Some(mut session) = place.take(alloc) else {
+        return Status::NoSession.code();
+    };
+    let status = session.give_up_object(object);
     place.put(session);
     status.code()
 }

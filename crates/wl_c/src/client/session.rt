@@ -85,6 +85,7 @@ pub extern "C" fn nb_client_add_interfaces(
     ensures unfaulted { result ≡ 0 → fault.new ≡ fault.old }
     ensures call { Added place.old.kept.held result fault.old fault.new place.new.kept.held (λ s answer t. AddsToClient (record { text = text.entry; interfaces = interfaces.entry; messages = messages.entry; arguments = arguments.entry }) s.core answer t.core) }
     ensures beside { Added place.old.kept.held result fault.old fault.new place.new.kept.held (λ s answer t. t ≡ record s { core = t.core }) }
+    ensures descriptors { Added place.old.kept.held result fault.old fault.new place.new.kept.held (λ s answer t. ConservesClient s [] [] t) }
 {
     let Some(mut session) = place.take(alloc) else {
         return Status::NoSession.code();
@@ -117,6 +118,7 @@ pub extern "C" fn nb_client_merge_interfaces(
     ensures unfaulted { result ≡ 0 → fault.new ≡ fault.old }
     ensures call { Extended place.old.kept.held result fault.old fault.new place.new.kept.held (λ s answer t. ExtendsClient (record { text = text.entry; interfaces = interfaces.entry; messages = messages.entry; arguments = arguments.entry }) s.core answer t.core) }
     ensures beside { Extended place.old.kept.held result fault.old fault.new place.new.kept.held (λ s answer t. t ≡ record s { core = t.core }) }
+    ensures descriptors { Extended place.old.kept.held result fault.old fault.new place.new.kept.held (λ s answer t. ConservesClient s [] [] t) }
 {
     let Some(mut session) = place.take(alloc) else {
         return Status::NoSession.code();

@@ -2,31 +2,32 @@
 
 ghost use Rattle.std.specs.Prelude.{IsSome, None, Ok, ◌≡◌, ◌≢◌};
 ghost use Rattle.wl_c.specs.Calls.{Found, Gave};
-ghost use Rattle.wl_c.specs.Queues.{Answered};
+ghost use Rattle.wl_c.specs.Queues.{Answered, unused};
 ghost use Rattle.wl_flat.specs.EventQueues.{Adds, Destroys, SetsQueue, TellsUnused, flat_object, now_in};
 
 use super::place::QueuesPlace;
-use crate::answer::{number_of, write_answer};
+use crate::answer::{number_of, write_answer, write_unused};
 use std::alloc::Global;
 use wl_host::{FlatQueuedObject, Status};
 
-/// Adds an object of the queue, and writes its slot.
+/// Adds an object of the queue with this content, and writes its slot.
 #[unsafe(no_mangle)]
 pub extern "C" fn nb_queues_add(
     alloc: Global,
     place: &mut QueuesPlace,
     queue: usize,
+    content: u64,
     object: &mut usize,
 ) -> u32
     ensures none { place.old.kept.held ≡ None → (result ≡ 1) × (place.new.kept.held ≡ None) × (object.new ≡ object.old) }
     ensures stays { IsSome place.old.kept.held → IsSome place.new.kept.held }
     ensures unwritten { result ≢ 0 → object.new ≡ object.old }
-    ensures call { Gave place.old.kept.held result object.old object.new place.new.kept.held (λ q answer r. Adds queue q answer r) }
+    ensures call { Gave place.old.kept.held result object.old object.new place.new.kept.held (λ q answer r. Adds queue content q answer r) }
 {
     let Some(mut queues) = place.take(alloc) else {
         return Status::NoSession.code();
     };
-    let answer = queues.add(queue);
+    let answer = queues.add(queue, content);
     place.put(queues);
     write_answer(answer, object)
 }
@@ -87,22 +88,23 @@ pub extern "C" fn nb_queues_object(
     write_answer(Ok(answer), object)
 }
 
-/// Writes the slot of an object that is unused, which is free from now on.
+/// Writes the slot of an object that is unused, which is free from now on, and the content of the object.
 #[unsafe(no_mangle)]
 pub extern "C" fn nb_queues_next_unused(
     alloc: Global,
     place: &mut QueuesPlace,
     object: &mut usize,
+    content: &mut u64,
 ) -> u32
-    ensures none { place.old.kept.held ≡ None → (result ≡ 1) × (place.new.kept.held ≡ None) × (object.new ≡ object.old) }
+    ensures none { place.old.kept.held ≡ None → (result ≡ 1) × (place.new.kept.held ≡ None) × (object.new ≡ object.old) × (content.new ≡ content.old) }
     ensures stays { IsSome place.old.kept.held → IsSome place.new.kept.held }
-    ensures unwritten { result ≢ 0 → object.new ≡ object.old }
-    ensures call { Gave place.old.kept.held result object.old object.new place.new.kept.held (λ q answer r. TellsUnused q answer r) }
+    ensures unwritten { result ≢ 0 → (object.new ≡ object.old) × (content.new ≡ content.old) }
+    ensures call { Gave place.old.kept.held result (unused object.old content.old) (unused object.new content.new) place.new.kept.held (λ q answer r. TellsUnused q answer r) }
 {
     let Some(mut queues) = place.take(alloc) else {
         return Status::NoSession.code();
     };
     let answer = queues.next_unused();
     place.put(queues);
-    write_answer(answer, object)
+    write_unused(answer, object, content)
 }

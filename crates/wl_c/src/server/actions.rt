@@ -2,7 +2,7 @@
 
 ghost use Rattle.std.specs.Prelude.{Bool, IsSome, List, None, Result, Some, [], ℤ, ◌≡◌, ◌≢◌};
 ghost use Rattle.wl_c.specs.Calls.{Did, GaveFlag};
-ghost use Rattle.wl_host.specs.Actions.{EndsBind, EndsRequest, status_of_end};
+ghost use Rattle.wl_host.specs.Actions.{EndsAsAction, EndsBind, EndsRequest, status_of_end};
 ghost use Rattle.wl_flat.specs.Arguments.{descriptors_given};
 ghost use Rattle.wl_flat.specs.Descriptors.{Conserves};
 ghost use Rattle.wl_host.specs.Events.{PostsError, SendsEvent};
@@ -103,6 +103,27 @@ pub extern "C" fn nb_server_finish_bind(
     let answer = session.finish_bind(client, user_data);
     place.put(session);
     write_flag(answer, is_kept)
+}
+
+/// Finishes the open action, which is this one, and gives the data 0 to the object that it made, if it made one.
+#[unsafe(no_mangle)]
+pub extern "C" fn nb_server_finish_action(
+    alloc: Global,
+    place: &mut ServerPlace,
+    client: &FlatClientId,
+    action: &FlatAction,
+) -> u32
+    ensures none { place.old.kept.held ≡ None → (result ≡ 1) × (place.new.kept.held ≡ None) }
+    ensures stays { IsSome place.old.kept.held → IsSome place.new.kept.held }
+    ensures call { Did place.old.kept.held result place.new.kept.held (λ s status t. (answer : Result Bool Status) × EndsAsAction s (client_of client.now) action.now answer t × (status ≡ status_of_end answer)) }
+    ensures descriptors { Did place.old.kept.held result place.new.kept.held (λ s status t. Conserves kept_by_server s [] [] t) }
+{
+    let Some(mut session) = place.take(alloc) else {
+        return Status::NoSession.code();
+    };
+    let status = session.finish_action(client, action);
+    place.put(session);
+    status.code()
 }
 
 /// Sends an event. Its descriptors are the session's if, and only if, the status is `NB_OK`.

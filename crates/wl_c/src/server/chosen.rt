@@ -1,9 +1,9 @@
 //! Objects at numbers and of versions that the host chooses, and objects with the host's data of them.
 
-ghost use Rattle.std.specs.Prelude.{Err, IsSome, MatchOption, None, [], map, option_map, ◌≡◌, ◌≢◌};
+ghost use Rattle.std.specs.Prelude.{Err, IfErr, IsSome, MatchOption, None, [], map, option_map, ◌≡◌, ◌≢◌};
 ghost use Rattle.wl_c.specs.Calls.{Did, Found, Gave, Told};
 ghost use Rattle.wl_host.specs.Calls.{or_invalid};
-ghost use Rattle.wl_host.specs.Chosen.{CreatesObjectAt, SetsObjectVersion};
+ghost use Rattle.wl_host.specs.Chosen.{ClaimsObject, CreatesObjectAt, SetsObjectVersion};
 ghost use Rattle.wl_flat.specs.Descriptors.{Conserves};
 ghost use Rattle.wl_flat.specs.Flat.{client_of};
 ghost use Rattle.wl_host.specs.Held.{flat_held};
@@ -11,6 +11,7 @@ ghost use Rattle.wl_host.specs.Lists.{Lists};
 ghost use Rattle.wl_host.specs.Server.{kept_by_server};
 ghost use Rattle.wl_flat.specs.declared.status.Status.TheVariants as status;
 ghost use Rattle.wl_server_model.specs.Lookups.{held_by_number, held_of_client};
+ghost use Rattle.wl_server_model.specs.Plain.{IsUnchanged};
 
 use super::place::ServerPlace;
 use crate::answer::write_answer;
@@ -42,6 +43,34 @@ pub extern "C" fn nb_server_create_object_at(
         return Status::NoSession.code();
     };
     let answer = session.create_object_at(client, interface, version, number, has_data, user_data);
+    place.put(session);
+    write_answer(answer, object)
+}
+
+/// Finds or makes the object that is to stand for something of the program's: the client's at this number, if it has no data yet.
+#[unsafe(no_mangle)]
+pub extern "C" fn nb_server_claim_object(
+    alloc: Global,
+    place: &mut ServerPlace,
+    client: &FlatClientId,
+    interface: u32,
+    version: u32,
+    number: u32,
+    user_data: u64,
+    object: &mut FlatObjectId,
+) -> u32
+    ensures none { place.old.kept.held ≡ None → (result ≡ 1) × (place.new.kept.held ≡ None) × (object.new ≡ object.old) }
+    ensures stays { IsSome place.old.kept.held → IsSome place.new.kept.held }
+    ensures unwritten { result ≢ 0 → object.new ≡ object.old }
+    ensures call { Gave place.old.kept.held result object.old object.new place.new.kept.held (λ s answer t. ClaimsObject s.core client.now interface version number user_data answer t.core) }
+    ensures refused { Gave place.old.kept.held result object.old object.new place.new.kept.held (λ s answer t. IfErr answer (λ _. IsUnchanged s.core t.core)) }
+    ensures beside { Gave place.old.kept.held result object.old object.new place.new.kept.held (λ s answer t. t ≡ record s { core = t.core }) }
+    ensures descriptors { Gave place.old.kept.held result object.old object.new place.new.kept.held (λ s answer t. Conserves kept_by_server s [] [] t) }
+{
+    let Some(mut session) = place.take(alloc) else {
+        return Status::NoSession.code();
+    };
+    let answer = session.claim_object(client, interface, version, number, user_data);
     place.put(session);
     write_answer(answer, object)
 }

@@ -4,7 +4,7 @@ ghost use Rattle.std.specs.Prelude.{◌≡◌, ◌≤◌, [], ℤ, List, Bool, R
 ghost use Rattle.std.specs.Result.{result_and};
 ghost use Rattle.wl_flat.specs.declared.status.Status.{Status};
 ghost use Rattle.wl_flat.specs.declared.status.Status.TheVariants as status;
-ghost use Rattle.wl_host.specs.Actions.{EndsBind, EndsRequest, HandsFrom, NextAction, ReadsAllowed, ReadsNext, args_of, ended, flat_action, flat_created, is_end, kills, marked_if, null_in, status_of_end, version_created};
+ghost use Rattle.wl_host.specs.Actions.{EndsAsAction, EndsBind, EndsRequest, HandsFrom, NextAction, ReadsAllowed, ReadsNext, args_of, ended, flat_action, flat_created, is_end, kills, marked_if, null_in, status_of_end, version_created};
 ghost use Rattle.wl_flat.specs.Arguments.{all_bytes, flat_arguments, queue_after_all};
 ghost use Rattle.wl_host.specs.Calls.{bit_of, data_or_zero, global_data_or_zero, kept_by, version_or_zero};
 ghost use Rattle.wl_flat.specs.Flat.{client_of, count_number, flat_resource, no_action, over_front};
@@ -495,5 +495,34 @@ impl Server {
             return Err(status);
         }
         is_kept(self.core.finish_bind_returning(&id, user_data))
+    }
+
+    /// Finishes the open action, which is this one, as `next_action` wrote it: by `finish_bind` if it is a bind or a registry, by
+    /// `finish_request_with` if it is a request that made an object, and else by `finish_request`. What it made gets the data 0.
+    ///
+    /// The status is that of this call.
+    pub fn finish_action(&mut self, client: &FlatClientId, action: &FlatAction) -> Status
+        ensures call { (answer : Result Bool Status) × EndsAsAction self.old (client_of client.now) action.now answer self.new × (result ≡ status_of_end answer) }
+        ensures descriptors { Conserves kept_by_server self.old [] [] self.new }
+    {
+        match self.end_action(client, action) {
+            Ok(_) => Status::Ok,
+            Err(status) => status,
+        }
+    }
+
+    /// Finishes the open action as what it is. Returns whether the data 0, if any, are kept.
+    fn end_action(&mut self, client: &FlatClientId, action: &FlatAction) -> Result<bool, Status>
+        ensures call { EndsAsAction self.old (client_of client.now) action.now result self.new }
+        ensures descriptors { Conserves kept_by_server self.old [] [] self.new }
+    {
+        if action.kind != REQUEST {
+            return self.finish_bind(client, 0);
+        }
+        if action.created.number == 0 {
+            self.end_request(&client.id(), None)
+        } else {
+            self.finish_request_with(client, 0)
+        }
     }
 }

@@ -1,11 +1,12 @@
 //! What the host chooses of an object: its number, and its version.
 
-ghost use Rattle.std.specs.Prelude.{[], ◌≡◌, ◌≢◌, Err};
-ghost use Rattle.wl_host.specs.Chosen.{CreatesObjectAt, SetsObjectVersion};
+ghost use Rattle.std.specs.Prelude.{[], ◌≡◌, ◌≢◌, Err, IfErr};
+ghost use Rattle.wl_host.specs.Chosen.{ClaimsObject, CreatesObjectAt, SetsObjectVersion, TakesObject, unclaimed};
 ghost use Rattle.wl_flat.specs.Descriptors.{Conserves};
 ghost use Rattle.wl_host.specs.Server.{kept_by_server};
 ghost use Rattle.wl_flat.specs.Status.{flattened, of_create_at, of_version};
 ghost use Rattle.wl_host.specs.Calls.{status_by};
+ghost use Rattle.wl_server_model.specs.Plain.{IsUnchanged};
 ghost use Rattle.wl_flat.specs.Flat.{flat_resource};
 ghost use Rattle.wl_flat.specs.declared.status.Status.TheVariants as status;
 
@@ -63,6 +64,73 @@ impl Server {
             self.core
                 .create_object_at(&client, interface, version, number, user_data),
         )
+    }
+
+    /// Finds or makes the object that is to stand for something of the host's, and gives it this version and these data.
+    ///
+    /// - At the number 0 it is a new object of the server's range, as by `create_object`.
+    /// - Else, if the client has an object at the number that is of the interface and has no data, or 0, it is that one: a request
+    ///   made it, and the host has given it nothing yet. It gets the version and the data, as by `set_object_version` and
+    ///   `set_object_data`. The latter never fails then.
+    /// - Else it is a new object at the number, as by `create_object_at`.
+    ///
+    /// The status is that of the call that is made: `InvalidId` if the client is not stored; of a new object `UnknownInterface`,
+    /// `SerialsExhausted` or `OutOfMemory`, `IdsExhausted` at the number 0, and `NotFree` at another one; of an object that is there
+    /// `VersionTooHigh`, if the version is 0 or above that of the interface in the table. The version of a new object is not checked.
+    /// After an error nothing is changed.
+    pub fn claim_object(
+        &mut self,
+        client: &FlatClientId,
+        interface: u32,
+        version: u32,
+        number: u32,
+        user_data: u64,
+    ) -> Result<FlatObjectId, Status>
+        ensures call { ClaimsObject self.old.core client.now interface version number user_data result self.new.core }
+        ensures refused { IfErr result (λ _. IsUnchanged self.old.core self.new.core) }
+        ensures beside { self.new ≡ record self.old { core = self.new.core } }
+        ensures descriptors { Conserves kept_by_server self.old [] [] self.new }
+    {
+        if number == 0 {
+            return self.create_object(client, interface, version, 1, user_data);
+        }
+        match self.unclaimed(client, interface, number) {
+            Some(object) => self.take_object(&object, version, user_data),
+            None => self.create_object_at(client, interface, version, number, 1, user_data),
+        }
+    }
+
+    /// The client's object at the number, if it is of the interface and has no data, or 0.
+    fn unclaimed(&self, client: &FlatClientId, interface: u32, number: u32) -> Option<FlatObjectId>
+        ensures { result ≡ unclaimed self.now.core client.now interface number }
+    {
+        match self.object_by_number(client, number) {
+            Ok(held) => {
+                let is_free = held.object.interface == interface && held.data == 0;
+                is_free.then_some(held.object)
+            }
+            Err(_) => None,
+        }
+    }
+
+    /// Gives the object this version and these data, or neither if the version is refused.
+    fn take_object(
+        &mut self,
+        object: &FlatObjectId,
+        version: u32,
+        user_data: u64,
+    ) -> Result<FlatObjectId, Status>
+        ensures call { TakesObject self.old.core object.now version user_data result self.new.core }
+        ensures beside { self.new ≡ record self.old { core = self.new.core } }
+        ensures descriptors { Conserves kept_by_server self.old [] [] self.new }
+    {
+        let id = object.resource();
+        if let Err(error) = self.core.set_object_version(&id, version) {
+            return Err(Status::from(error));
+        }
+        // It is there, since it got a version: the data are not refused.
+        let _ = self.core.set_object_data(&id, user_data);
+        Ok(*object)
     }
 
     /// Sets the version of the object (`wl_server::Backend::set_object_version`).

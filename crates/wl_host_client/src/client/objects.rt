@@ -3,16 +3,17 @@
 ghost use Rattle.std.specs.Prelude.{◌≡◌, [], option_map};
 ghost use Rattle.wl_client.specs.ByNumber.{object_at};
 ghost use Rattle.wl_client.specs.Objects.{info_of, user_data_of};
-ghost use Rattle.wl_host_client.specs.Client.{ConservesClient, Destroys, GivesData, Reclaims, flat_info, status_of};
+ghost use Rattle.wl_host_client.specs.Client.{ConservesClient, Destroys, GivesData, GivesUp, Reclaims, flat_info, status_of};
 ghost use Rattle.wl_flat.specs.Status.{found};
 ghost use Rattle.wl_flat.specs.declared.status.Status.TheVariants as status;
 ghost use Rattle.wl_flat.specs.Flat.{flat_proxy, proxy_of};
 
 use super::Client;
 use super::notes::take_notes;
-use wl_client::InvalidId;
+use wl_client::{DestroyError, InvalidId};
 use wl_flat::flat::{FlatObjectId, FlatObjectInfo, interface_number};
 use wl_flat::status::Status;
+use wl_wire::DISPLAY;
 
 /// The status of an answer to `set_data` and `reclaim`.
 fn status_by(answer: Result<(), InvalidId>) -> Status
@@ -94,6 +95,30 @@ impl Client {
             }
             Err(error) => Status::from(error),
         }
+    }
+
+    /// Gives the object that the id names up for good: it is destroyed on the client's side, unless it was before; its data are 0 from
+    /// then on, and it leaves its number if the server deleted the id before, as by `reclaim`. `next_note` does not tell of what this call
+    /// destroys.
+    ///
+    /// The status is `OutOfMemory` if there is no memory, and else `InvalidId` if the id names no object, or the display. Then nothing is
+    /// changed.
+    pub fn give_up_object(&mut self, id: &FlatObjectId) -> Status
+        ensures call { GivesUp self.old (proxy_of id.now) result self.new }
+        ensures descriptors { ConservesClient self.old [] [] self.new }
+    {
+        let is_display = id.number == DISPLAY;
+        let id = id.proxy();
+        match self.core.destroy_object(&id) {
+            Err(DestroyError::OutOfMemory) => return Status::OutOfMemory,
+            Err(DestroyError::InvalidId) if is_display => return Status::InvalidId,
+            Err(DestroyError::InvalidId) => {}
+            Ok(()) => {}
+        }
+        let status = status_by(self.core.set_data(&id, 0));
+        let _ = self.core.reclaim(&id);
+        let _ = self.core.take_notes();
+        status
     }
 
     /// Takes the object that the id names out of the session, if both sides have given it up: the client has destroyed it, and

@@ -1,9 +1,10 @@
 -- All objects, as functions of their slots.
-use Rattle.std.specs.Prelude.{◌≡◌, ℕ, ◌+◌, ◌<◌, ◌≤◌, ◌==◌, ◌&&◌, Bool, if◌then◌else◌, List, [], ◌∷◌, ◌++◌, Option, option_to_list, All, length}
+use Rattle.std.specs.Prelude.{◌≡◌, ℕ, ◌+◌, ◌<◌, ◌≤◌, ◌==◌, ◌&&◌, Bool, if◌then◌else◌, List, [], ◌∷◌, ◌++◌, Option, option_map, option_to_list, All, length}
 use Rattle.wl_queues.specs.declared.events.Event.{Event}
 use Rattle.wl_queues.specs.declared.objects.Fate.TheVariants.{Alive, Destroyed, Free}
 use Rattle.wl_queues.specs.declared.objects.Object.{Object}
 use Rattle.wl_queues.specs.declared.objects.Objects.{Objects}
+use Rattle.wl_queues.specs.declared.objects.UnusedObject.{UnusedObject}
 use Rattle.wl_queues.specs.Events.{times_named}
 use Rattle.wl_queues.specs.Inside.Slots.{slot_at}
 use Rattle.wl_queues.specs.Objects.{is_destroyed, with_new}
@@ -53,9 +54,9 @@ IsUnreferred objects o = ((object_of objects o).fate ≡ Destroyed) × (referenc
 abbrev pub AreAllReferred : Objects → Type 0
 AreAllReferred objects = (o : ℕ) → (object_of objects o).fate ≡ Destroyed → 0 < references_of objects o
 
--- a new object of the queue is in this slot
-abbrev pub AddsObject : Objects → ℕ → ℕ → Objects → Type 0
-AddsObject old queue o new = ObjectsAre new (with_new o queue (object_of old))
+-- a new object of the queue, with this content, is in this slot
+abbrev pub AddsObject : Objects → ℕ → ℕ → ℕ → Objects → Type 0
+AddsObject old queue content o new = ObjectsAre new (with_new o queue content (object_of old))
 
 -- the slot is there, and is free
 abbrev pub IsFreeSlot : Objects → ℕ → Type 0
@@ -70,8 +71,8 @@ abbrev pub unused_of : Objects → List ℕ
 unused_of objects = objects.unused.items
 
 -- the one that became so first is taken out of them
-abbrev pub TakesOldest : Objects → Option ℕ → Objects → Type 0
-TakesOldest old taken new = unused_of old ≡ option_to_list taken ++ unused_of new
+abbrev pub TakesOldest : Objects → Option UnusedObject → Objects → Type 0
+TakesOldest old taken new = unused_of old ≡ option_to_list (option_map (λ u. u.object) taken) ++ unused_of new
 
 -- the object comes behind them, if this is so
 abbrev pub ListsUnused : Objects → Bool → ℕ → Objects → Type 0

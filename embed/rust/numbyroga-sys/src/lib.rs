@@ -622,6 +622,43 @@ plain! {
     }
 }
 
+/// A run of messages: nothing is to be known of the last one.
+pub const NB_PLAIN_RUN: u32 = 0;
+/// A run of messages: the last one deletes an id.
+pub const NB_DELETES_ID: u32 = 1;
+/// A run of messages: no event comes of the last one.
+pub const NB_PASSED_OVER: u32 = 2;
+/// A run of messages: too few descriptors came for the one behind it.
+pub const NB_LACKS_DESCRIPTORS: u32 = 3;
+
+plain! {
+    /// Messages that came and that a client's session is to have together.
+    nb_run: 44, 4 {
+        /// How many bytes they are.
+        bytes: u32 = 0,
+        /// How many descriptors they bring.
+        descriptors: u32 = 4,
+        /// How many bytes behind them are a message that the session is not to have.
+        skipped: u32 = 8,
+        /// [`NB_PLAIN_RUN`], [`NB_DELETES_ID`], [`NB_PASSED_OVER`] or [`NB_LACKS_DESCRIPTORS`].
+        kind: u32 = 12,
+        /// The number of the object that sent the message.
+        sender: u32 = 16,
+        /// That object's interface; 0 if there is none.
+        interface: u32 = 20,
+        /// The opcode.
+        opcode: u32 = 24,
+        /// How many bytes the message has.
+        size: u32 = 28,
+        /// How many descriptors it brings.
+        needed: u32 = 32,
+        /// Of [`NB_PASSED_OVER`]: 1 if some event of the interface brings descriptors, else 0.
+        may_bring: u32 = 36,
+        /// Of [`NB_DELETES_ID`]: the id.
+        number: u32 = 40,
+    }
+}
+
 plain! {
     /// A client that is gone.
     nb_gone: 32, 8 {
@@ -717,11 +754,13 @@ plain! {
 
 plain! {
     /// What a slot says of its object.
-    nb_queued_object: 16, 8 {
+    nb_queued_object: 24, 8 {
         /// In which its events wait that are still to come.
         queue: usize = 0,
+        /// The host's, as the object was added.
+        content: u64 = 8,
         /// [`NB_SLOT_FREE`], [`NB_SLOT_ALIVE`] or [`NB_SLOT_DESTROYED`].
-        fate: u32 = 8,
+        fate: u32 = 16,
     }
 }
 
@@ -934,6 +973,12 @@ unsafe extern "C" {
         data: u64,
         is_kept: &mut u32,
     ) -> nb_status;
+    /// Finishes the open action, whatever it is, with the data 0 for the object that it made.
+    pub safe fn nb_server_finish_action(
+        place: &mut nb_server,
+        client: &nb_client_id,
+        action: &nb_action,
+    ) -> nb_status;
     /// Sends an event of an object.
     pub fn nb_server_send_event(
         place: &mut nb_server,
@@ -1017,6 +1062,16 @@ unsafe extern "C" {
         version: u32,
         number: u32,
         has_data: u32,
+        data: u64,
+        object: &mut nb_object_id,
+    ) -> nb_status;
+    /// Finds or makes the object that is to stand for something of the program's, with this version and data.
+    pub safe fn nb_server_claim_object(
+        place: &mut nb_server,
+        client: &nb_client_id,
+        interface: u32,
+        version: u32,
+        number: u32,
         data: u64,
         object: &mut nb_object_id,
     ) -> nb_status;
@@ -1214,13 +1269,6 @@ unsafe extern "C" {
         number: &mut u32,
         fault: &mut nb_extension_fault,
     ) -> nb_status;
-    /// How many descriptors an event of an interface brings.
-    pub safe fn nb_client_event_descriptors(
-        place: &mut nb_client,
-        interface: u32,
-        opcode: u32,
-        count: &mut u32,
-    ) -> nb_status;
     /// Whether malloc refused in the last call.
     pub safe fn nb_client_memory_refused(place: &mut nb_client, is_refused: &mut u32) -> nb_status;
     /// Sets how far the buffers may grow.
@@ -1249,6 +1297,14 @@ unsafe extern "C" {
         length: usize,
         descriptors: *const i32,
         count: usize,
+    ) -> nb_status;
+    /// Which messages at the front of what came the session is to have together.
+    pub fn nb_client_next_run(
+        place: &mut nb_client,
+        bytes: *const u8,
+        length: usize,
+        descriptors: u32,
+        run: &mut nb_run,
     ) -> nb_status;
     /// The server has closed the connection.
     pub safe fn nb_client_received_end(place: &mut nb_client) -> nb_status;
@@ -1321,6 +1377,9 @@ unsafe extern "C" {
     /// Destroys an object.
     pub safe fn nb_client_destroy_object(place: &mut nb_client, object: &nb_object_id)
         -> nb_status;
+    /// Gives an object up for good: no note tells of it.
+    pub safe fn nb_client_give_up_object(place: &mut nb_client, object: &nb_object_id)
+        -> nb_status;
     /// Takes an object out that both sides have given up.
     pub safe fn nb_client_reclaim(place: &mut nb_client, object: &nb_object_id) -> nb_status;
     /// Hands what waits over to [`nb_client_to_send`].
@@ -1386,9 +1445,13 @@ unsafe extern "C" {
     ) -> nb_status;
     /// The session has failed: no event is handed out any more.
     pub safe fn nb_queues_fail(place: &mut nb_queues) -> nb_status;
-    /// Adds an object, whose events wait in this queue.
-    pub safe fn nb_queues_add(place: &mut nb_queues, queue: usize, object: &mut usize)
-        -> nb_status;
+    /// Adds an object with this content, whose events wait in this queue.
+    pub safe fn nb_queues_add(
+        place: &mut nb_queues,
+        queue: usize,
+        content: u64,
+        object: &mut usize,
+    ) -> nb_status;
     /// Gives an object another queue, for its later events.
     pub safe fn nb_queues_set_queue(
         place: &mut nb_queues,
@@ -1403,8 +1466,12 @@ unsafe extern "C" {
         slot: usize,
         object: &mut nb_queued_object,
     ) -> nb_status;
-    /// An object that no event names any more.
-    pub safe fn nb_queues_next_unused(place: &mut nb_queues, object: &mut usize) -> nb_status;
+    /// An object that no event names any more, and its content.
+    pub safe fn nb_queues_next_unused(
+        place: &mut nb_queues,
+        object: &mut usize,
+        content: &mut u64,
+    ) -> nb_status;
     /// Puts an event into the queue of its sender.
     pub fn nb_queues_put(
         place: &mut nb_queues,

@@ -1,7 +1,7 @@
 use Rattle.std.proofs.Common.{ap}
 use Rattle.wl_host.proofs.Beside.{told_action_settled, told_next_settled, told_sent_settled, told_to_send_settled}
 use Rattle.wl_host.proofs.Marking.{default_kills, hand_out_registries_kills, keep_names_kills, limit_kills, object_limit_kills}
-use Rattle.wl_host.proofs.Settled.{bind_settled, cleanup_settled, creates_at_settled, creates_settled, data_settled, ends_settled, error_settled, event_settled, extends_settled, flushes_settled, insert_settled, interfaces_settled, joins_settled, kills_same, new_settled, notes_settled, received_settled, refused_global_settled, request_settled, room_settled, stays_by, stays_marked, version_settled, writable_settled}
+use Rattle.wl_host.proofs.Settled.{action_ends_settled, bind_settled, claims_settled, cleanup_settled, creates_at_settled, creates_settled, data_settled, ends_settled, error_settled, event_settled, extends_settled, flushes_settled, insert_settled, interfaces_settled, joins_settled, kills_same, new_settled, notes_settled, received_settled, refused_global_settled, request_settled, room_settled, stays_by, stays_marked, version_settled, writable_settled}
 use Rattle.wl_host.specs.Server.{ServerState}
 use Rattle.wl_host.proofs.laws.a_cleanup_looks_for_the_killed.Goals as goal
 
@@ -44,6 +44,9 @@ returns-clause-finish_request c before after id user_data result knows h = reque
 pub returns-clause-finish_bind : goal.returns-clause-finish_bind
 returns-clause-finish_bind c before after id user_data result h = bind_settled before after id user_data result h
 
+pub returns-clause-finish_action : goal.returns-clause-finish_action
+returns-clause-finish_action c before after id action result knows h = action_ends_settled before after id action result knows h
+
 pub returns-clause-send_event : goal.returns-clause-send_event
 returns-clause-send_event c before after passed s h = event_settled before after passed s h
 
@@ -58,6 +61,9 @@ returns-clause-set_object_data c before after object user_data s h e = data_sett
 
 pub returns-clause-create_object_at : goal.returns-clause-create_object_at
 returns-clause-create_object_at c before after client interface version number user_data result h e = creates_at_settled before after client interface version number user_data result h e
+
+pub returns-clause-claim_object : goal.returns-clause-claim_object
+returns-clause-claim_object c before after client interface version number user_data result h e = claims_settled before after client interface version number user_data result h e
 
 pub returns-clause-set_object_version : goal.returns-clause-set_object_version
 returns-clause-set_object_version c before after object version s h e = version_settled before after object version s h e

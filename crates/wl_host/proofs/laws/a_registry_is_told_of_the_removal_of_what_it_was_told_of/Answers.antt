@@ -1,6 +1,6 @@
 use Rattle.std.proofs.Common.{inl}
 use Rattle.wl_host.proofs.Beside.{told_action_told, told_next_told, told_sent_told, told_to_send_told}
-use Rattle.wl_host.proofs.StillTold.{bind_told, cleanup_told, event_told, received_told, request_told}
+use Rattle.wl_host.proofs.StillTold.{action_ends_told, bind_told, cleanup_told, event_told, received_told, request_told}
 use Rattle.wl_host.proofs.Withdrawing.{keeps_outstanding, refused_keeps}
 use Rattle.wl_host.proofs.laws.a_registry_is_told_of_the_removal_of_what_it_was_told_of.Goals as goal
 
@@ -30,6 +30,9 @@ returns-clause-finish_request c before after id user_data result h = inl (reques
 
 pub returns-clause-finish_bind : goal.returns-clause-finish_bind
 returns-clause-finish_bind c before after id user_data result h = inl (bind_told before after id user_data result h)
+
+pub returns-clause-finish_action : goal.returns-clause-finish_action
+returns-clause-finish_action c before after id action result h = inl (action_ends_told before after id action result h)
 
 pub returns-clause-send_event : goal.returns-clause-send_event
 returns-clause-send_event c before after passed s h = inl (event_told before after passed s h)
