@@ -867,8 +867,8 @@ nb_status nb_server_create_object_at(nb_server *place, const nb_client_id *clien
  * gives it the version and the data:
  *
  *   - With the number 0 it is a new object of the server, as by nb_server_create_object.
- *   - Else it is the client's object with this number, if that is of the interface and has no data, or 0: a request has
- *     made it, and was finished with the data 0. It gets the version, as by nb_server_set_object_version.
+ *   - Else it is the client's object with this number, if that is of the interface and has no data, or 0, as one has
+ *     that a request made and that was finished with the data 0. It gets the version, as by nb_server_set_object_version.
  *   - Else it is a new object at the number, as by nb_server_create_object_at.
  *
  * Statuses: NB_INVALID_ID (the client is not there). Of a new object: NB_UNKNOWN_INTERFACE; NB_IDS_EXHAUSTED (with the
@@ -1158,12 +1158,13 @@ nb_status nb_client_received(nb_client *place, const uint8_t *bytes, size_t leng
 
 /* Which messages at the front of what came the session is to have together, for a host that wants to know what no event
  * tells. With the bytes so many descriptors came. They are as many as there are whole, up to the first one that makes or
- * ends an object or comes from the display: so of each the sender is known before it is read. The run ends, too, behind a
- * message of which no event comes, before one for which too few descriptors came, before a 29th descriptor, and behind
- * 512 messages. A message that counts less than its header takes all that came.
+ * ends an object, comes from the display, or is none that the table has: so of each the sender is known before it is
+ * read. The run ends, too, behind a message of which no event comes, before one for which too few descriptors came,
+ * before a 29th descriptor, unless one message alone brings more, and behind 512 messages. A message that counts less
+ * than its header takes all that came.
  *
- * A message that deletes an id of the server's, which would end the session, is skipped, and so is one of which no event
- * comes and for which too few descriptors came: the session would wait for them.
+ * A message that deletes an id of the server's range, where deleting means nothing, is skipped, and so is one of which no
+ * event comes and for which too few descriptors came: the session would wait for them.
  *
  * Hand the run in, take its events out, pass over what is skipped, and ask again for what is left, as long as `bytes` and
  * `skipped` are not both 0. Then there is no whole message left, or it lacks descriptors. Nothing is changed. The session
@@ -1275,8 +1276,8 @@ nb_status nb_client_set_object_data(nb_client *place, const nb_object_id *object
  * that was destroyed); NB_OUT_OF_MEMORY. */
 nb_status nb_client_destroy_object(nb_client *place, const nb_object_id *object);
 
-/* Gives an object up for good: it is destroyed, if it was not, and no note tells of that; its data are 0 from then on; and
- * if the server had deleted its id its number is free, as by nb_client_reclaim. Statuses: NB_INVALID_ID (also of the
+/* Gives an object up for good: it is destroyed, if it was not, and no note tells of that; its data are set to 0; and if
+ * the server had deleted its id its number is free, as by nb_client_reclaim. Statuses: NB_INVALID_ID (also of the
  * display); NB_OUT_OF_MEMORY. */
 nb_status nb_client_give_up_object(nb_client *place, const nb_object_id *object);
 

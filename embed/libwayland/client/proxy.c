@@ -58,12 +58,13 @@ struct wl_proxy *proxy_new_locked(struct wl_proxy *factory, const struct wl_inte
     return proxy;
 }
 
-/* The session may know the object for longer, and not its proxy. */
+/* The session may know the object for longer, and not its proxy: without memory, too, where the object stays. */
 void proxy_destroy_locked(struct wl_proxy *proxy)
 {
     struct wl_display *display = proxy->display;
-    if (proxy->object.id != 0 && !proxy->is_wrapper)
-        nb_client_give_up_object(&display->session, &proxy->id);
+    if (proxy->object.id != 0 && !proxy->is_wrapper &&
+        nb_client_give_up_object(&display->session, &proxy->id) == NB_OUT_OF_MEMORY)
+        nb_client_set_object_data(&display->session, &proxy->id, 0);
     nb_queues_destroy(&display->queues, proxy->slot);
 }
 

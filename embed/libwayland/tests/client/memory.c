@@ -130,8 +130,13 @@ static void use(struct wl_proxy *registry)
         send_some();
         for (int i = 0; i < 4; i++)
             take_turn(queue);
+        const uint32_t number = made ? wl_proxy_get_id(made) : 0;
         if (made)
             wl_proxy_destroy(made);
+        if (number != 0) { /* the server does not know of that yet */
+            TELL(3, TELL_OBJECTS, number, number);
+            TELL(number, TELL_OBJECTS, 3, number);
+        }
         TELL(1, 1, 4);
         send_some();
         take_turn(queue);

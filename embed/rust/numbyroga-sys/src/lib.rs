@@ -624,9 +624,9 @@ plain! {
 
 /// A run of messages: nothing is to be known of the last one.
 pub const NB_PLAIN_RUN: u32 = 0;
-/// A run of messages: the last one deletes an id.
+/// A run of messages: the last one, or the one skipped behind it, deletes an id.
 pub const NB_DELETES_ID: u32 = 1;
-/// A run of messages: no event comes of the last one.
+/// A run of messages: no event comes of the last one, or of the one skipped behind it.
 pub const NB_PASSED_OVER: u32 = 2;
 /// A run of messages: too few descriptors came for the one behind it.
 pub const NB_LACKS_DESCRIPTORS: u32 = 3;
