@@ -72,7 +72,7 @@ fits core bytes size f within is =
 
 -- so many descriptors came
 lacks_none : (f : Front) (came size used : ℕ) (b : Bool) → b ≡ nat_lt (came - used) f.needed
-    → (if b then Some (lacking f size used) else if is_over used f.needed then Some (plain_run size used) else ended_whole f f.deleted size used) ≡ None
+    → (if b then Some (lacking f size used) else if is_over size used f.needed then Some (plain_run size used) else ended_whole f f.deleted size used) ≡ None
     → f.needed ≤ came - used
 lacks_none f came size used true e ends = absurd (cc)
 lacks_none f came size used false e ends = search (arith, rules)

@@ -136,15 +136,15 @@ ended_whole f None size used =
     else if f.is_steady then None
     else Some (plain_run (size + f.size) (used + f.needed))
 
--- a session takes at most 28 descriptors at once
-abbrev pub is_over : ℕ → ℕ → Bool
-is_over used needed = nat_lt 0 used && nat_lt 28 (used + needed)
+-- a session takes at most 28 descriptors at once; one message that brings more stands alone
+abbrev pub is_over : ℕ → ℕ → ℕ → Bool
+is_over size used needed = nat_lt 0 size && nat_lt 28 (used + needed)
 
 -- so many descriptors came, and the messages before this one took so many bytes and descriptors
 abbrev pub ended : Front → ℕ → ℕ → ℕ → Option FlatRun
 ended f came size used =
     if nat_lt (came - used) f.needed then Some (lacking f size used)
-    else if is_over used f.needed then Some (plain_run size used)
+    else if is_over size used f.needed then Some (plain_run size used)
     else ended_whole f f.deleted size used
 
 abbrev pub step : (ℕ → ℕ → FlatRun) → ℕ → ℕ → ℕ → Option Front → FlatRun

@@ -633,6 +633,15 @@ static GIVEN_UP: [Run<Act>; 3] = [
     },
 ];
 
+/// `pad.given` by the object 3, 29 times.
+const GIVEN: &[u32] = &[
+    3, 0x00080001, 3, 0x00080001, 3, 0x00080001, 3, 0x00080001, 3, 0x00080001, 3, 0x00080001, 3,
+    0x00080001, 3, 0x00080001, 3, 0x00080001, 3, 0x00080001, 3, 0x00080001, 3, 0x00080001, 3,
+    0x00080001, 3, 0x00080001, 3, 0x00080001, 3, 0x00080001, 3, 0x00080001, 3, 0x00080001, 3,
+    0x00080001, 3, 0x00080001, 3, 0x00080001, 3, 0x00080001, 3, 0x00080001, 3, 0x00080001, 3,
+    0x00080001, 3, 0x00080001, 3, 0x00080001, 3, 0x00080001, 3, 0x00080001,
+];
+
 /// Which messages go together: events of objects, up to one that makes or ends an object or is the display's, that no event comes of,
 /// or that lacks a descriptor. `pad.given` brings one, and `gate.opened` makes an object.
 static TOGETHER: Run<Act> = Run {
@@ -644,6 +653,7 @@ static TOGETHER: Run<Act> = Run {
         (Act::AddGate, "Ok"),
         (Act::BindGate(8), "Ok 5@4 serial 3"),
         (Act::Run(&[], 3), "Ok"),
+        (Act::Run(GIVEN, 29), "Ok bytes 224 descriptors 28"),
         (Act::Run(&[3], 0), "Ok"),
         (Act::Run(&[3, 0x000c0000], 0), "Ok"),
         (

@@ -69,8 +69,8 @@ impl Server {
     /// Finds or makes the object that is to stand for something of the host's, and gives it this version and these data.
     ///
     /// - At the number 0 it is a new object of the server's range, as by `create_object`.
-    /// - Else, if the client has an object at the number that is of the interface and has no data, or 0, it is that one: a request
-    ///   made it, and the host has given it nothing yet. It gets the version and the data, as by `set_object_version` and
+    /// - Else, if the client has an object at the number that is of the interface and has no data, or 0, it is that one, as one that a
+    ///   request made and that was finished with the data 0. It gets the version and the data, as by `set_object_version` and
     ///   `set_object_data`. The latter never fails then.
     /// - Else it is a new object at the number, as by `create_object_at`.
     ///
@@ -106,8 +106,8 @@ impl Server {
     {
         match self.object_by_number(client, number) {
             Ok(held) => {
-                let is_free = held.object.interface == interface && held.data == 0;
-                is_free.then_some(held.object)
+                let is_unclaimed = held.object.interface == interface && held.data == 0;
+                is_unclaimed.then_some(held.object)
             }
             Err(_) => None,
         }

@@ -180,7 +180,7 @@ impl Front {
                 self.run(PASSED_OVER, size, used, self.size)
             });
         }
-        if used > 0 && used + self.needed > MAX_FDS_OUT {
+        if size > 0 && used + self.needed > MAX_FDS_OUT {
             return Some(plain_run(size, used));
         }
         let (size_with, used_with) = (size + self.size, used + self.needed);
@@ -217,19 +217,21 @@ fn run_of(core: &Core, bytes: &[u8], came: usize, most: usize) -> FlatRun
 
 impl Client {
     /// The messages at the front of what arrived that the session is to have together, by one call of `received`: as many as there
-    /// are whole, up to the first one that makes or ends an object or comes from the display. So of each the sender and the row are
-    /// known before it is read, and a host can tell what no event tells. With the bytes so many descriptors came. Nothing is changed.
+    /// are whole, up to the first one that makes or ends an object, comes from the display, or is none that the table has. So of each
+    /// the sender and the row are known before it is read, and a host can tell what no event tells. With the bytes so many descriptors
+    /// came. Nothing is changed.
     ///
     /// The run ends, too, and its kind says so,
     ///
-    /// - with a message that deletes an id (`DELETES_ID`). If the id is the server's, which the session would not take, the message is
-    ///   *skipped*: the session is not to have it;
+    /// - with a message that deletes an id (`DELETES_ID`). If the id is of the server's range, where deleting means nothing, the message
+    ///   is *skipped*: the session is not to have it;
     /// - with a message of no object, or of one that the client has destroyed (`PASSED_OVER`). If too few descriptors came for
     ///   it, it is skipped;
     /// - before a message for which too few descriptors came (`LACKS_DESCRIPTORS`): the session would wait for them.
     ///
-    /// It ends before a 29th descriptor, and behind 512 messages. A message that counts fewer bytes than its header takes all that
-    /// came. If no bytes are the run's and none are skipped, there is no whole message at the front, or it lacks descriptors.
+    /// It ends before a 29th descriptor, unless one message alone brings more: that stands alone. And it ends behind 512 messages. A
+    /// message that counts fewer bytes than its header takes all that came. If no bytes are the run's and none are skipped, there is no
+    /// whole message at the front, or it lacks descriptors.
     ///
     /// It is meant for a session that passes over unknown senders (`pass_over_unknown_senders`).
     pub fn next_run(&self, bytes: &[u8], descriptors: u32) -> FlatRun
