@@ -97,8 +97,8 @@ impl Client {
         }
     }
 
-    /// Gives the object that the id names up for good: it is destroyed on the client's side, unless it was before; its data are 0 from
-    /// then on, and it leaves its number if the server deleted the id before, as by `reclaim`. `next_note` does not tell of what this call
+    /// Gives the object that the id names up for good: it is destroyed on the client's side, unless it was before; its data are set
+    /// to 0, and it leaves its number if the server deleted the id before, as by `reclaim`. `next_note` does not tell of what this call
     /// destroys.
     ///
     /// The status is `OutOfMemory` if there is no memory, and else `InvalidId` if the id names no object, or the display. Then nothing is
