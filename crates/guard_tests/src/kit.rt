@@ -5,11 +5,59 @@ use std::test::Fail;
 use test_kit::log::holds;
 use test_kit::message::{Arg, message};
 use test_kit::quad::quad_table;
-use wl_guard::{ArriveError, End, Guard, Limits, Policy, Rule, Side};
-use wl_wire::{Token, write_to_buffers};
+use wl_guard::{ArriveError, End, Guard, Limits, Policy, PolicyError, Rule, Side};
+use wl_wire::{Message, Token, write_to_buffers};
 
-/// A message as data: the number of its sender, its opcode, and its arguments.
-pub type Sent = (u32, u16, &'static [Arg]);
+/// An interface of a global.
+#[derive(Clone, Copy)]
+pub enum Named {
+    /// `quad`.
+    Quad,
+    /// `pair`.
+    Pair,
+    /// One that the table does not have.
+    Other,
+}
+
+impl Named {
+    /// Its name.
+    fn bytes(self) -> &'static [u8] {
+        match self {
+            Named::Quad => b"quad",
+            Named::Pair => b"pair",
+            Named::Other => b"none",
+        }
+    }
+}
+
+/// A message.
+#[derive(Clone, Copy)]
+pub enum Sent {
+    /// `wl_display.sync`, whose callback has this number.
+    Sync(u32),
+    /// `wl_display.get_registry`, as object 2.
+    Registry,
+    /// `wl_display.error`, of code 3 for the display, with this text.
+    Error(&'static [u8]),
+    /// `wl_registry.global`, by object 2: a number, an interface and a version.
+    Announced(u32, Named, u32),
+    /// `wl_registry.global_remove`, by object 2, of this number.
+    TakenBack(u32),
+    /// `wl_registry.bind`, by object 2: a number, an interface and a version, as object 3.
+    Bound(u32, Named, u32),
+    /// `quad.poke` or `quad.moved`, by this object, of this number.
+    Poked(u32, i32),
+    /// `quad.make` or `quad.made`, by object 3, of an object of this number.
+    Made(u32),
+    /// `quad.destroy`, by this object.
+    Ended(u32),
+    /// `quad.link`, by object 3, of no object and itself.
+    Linked,
+    /// `quad.give`, by object 3, with the descriptor 9.
+    Given,
+    /// `pair.join` or `pair.joined`, by object 3, of itself twice, with the descriptor 9.
+    Joined,
+}
 
 /// Bytes and tokens that a side sends as they are.
 #[derive(Clone, Copy)]
@@ -30,7 +78,7 @@ pub const NOTHING: Raw = Raw {
 };
 
 /// Which globals the policy of a test allows.
-#[derive(Clone, Copy, PartialEq, Eq)]
+#[derive(Clone, Copy)]
 pub enum Allowed {
     /// `quad` up to version 2.
     Quad,
@@ -39,7 +87,6 @@ pub enum Allowed {
 }
 
 /// A session: what is sent, one message after another, and what comes of it.
-#[derive(Clone, Copy)]
 pub struct Row {
     /// Its name.
     pub name: &'static str,
@@ -64,21 +111,21 @@ const LIMITS: Limits = Limits {
     waiting: 4096,
 };
 
-/// The policy of the tests: `quad` up to version 2, of which `link` is refused and `give` ignored.
-pub fn quad_policy(alloc: Global) -> Result<Policy, Fail> {
-    let mut policy = Policy::new(alloc, quad_table(alloc)?, LIMITS)?;
+/// Sets the rules of the tests' policy.
+fn set_rules(policy: &mut Policy, allowed: Allowed) -> Result<(), PolicyError> {
     policy.allow("quad", 2)?;
     policy.refuse("quad", "link")?;
     policy.ignore("quad", "give")?;
-    Ok(policy)
+    match allowed {
+        Allowed::Quad => Ok(()),
+        Allowed::QuadAndPair => policy.allow("pair", 1),
+    }
 }
 
-/// The policy that allows these.
-fn policy_of(alloc: Global, allowed: Allowed) -> Result<Policy, Fail> {
-    let mut policy = quad_policy(alloc)?;
-    if allowed == Allowed::QuadAndPair {
-        policy.allow("pair", 1)?;
-    }
+/// The policy of the tests: `quad` up to version 2, of which `link` is refused and `give` ignored, and `pair` if it is allowed.
+pub fn policy_of(alloc: Global, allowed: Allowed) -> Result<Policy, Fail> {
+    let mut policy = Policy::new(alloc, quad_table(alloc)?, LIMITS)?;
+    set_rules(&mut policy, allowed)?;
     Ok(policy)
 }
 
@@ -91,13 +138,80 @@ pub struct Pieces {
     pub tokens: Vec<Token>,
 }
 
-/// Appends the message.
-fn push(alloc: Global, pieces: &mut Pieces, one: Sent) -> Result<(), Fail> {
-    let written = message(alloc, (one.0, one.1), one.2)?;
-    let mut room = Vec::from_elem(alloc, 0, 1024)?;
-    let len = write_to_buffers(&written, &mut room, &mut pieces.tokens)?;
+/// Appends the message, which this room has to hold.
+fn write(pieces: &mut Pieces, room: &mut [u8], message: &Message<u32, Token>) -> Result<(), Fail> {
+    let len = write_to_buffers(message, room, &mut pieces.tokens)?;
     let (bytes, _) = room.split_at(len.min(room.len()));
     pieces.bytes.extend_from_slice(bytes)?;
+    Ok(())
+}
+
+/// The message, by an object that a client binds.
+fn message_of_bound(alloc: Global, sent: Sent) -> Result<Message<u32, Token>, Fail> {
+    match sent {
+        Sent::Poked(object, value) => message(alloc, (object, 0), &[Arg::Int(value)]),
+        Sent::Made(number) => message(alloc, (3, 1), &[Arg::NewId(number)]),
+        Sent::Ended(object) => message(alloc, (object, 2), &[]),
+        Sent::Linked => message(alloc, (3, 3), &[Arg::Object(0), Arg::Object(3)]),
+        Sent::Given => {
+            let args = [Arg::Str(b"a"), Arg::Array(b"b"), Arg::Fd(9)];
+            message(alloc, (3, 4), &args)
+        }
+        _ => {
+            let args = [
+                Arg::Object(3),
+                Arg::Object(3),
+                Arg::Str(b"a"),
+                Arg::Array(b"b"),
+                Arg::Fd(9),
+            ];
+            message(alloc, (3, 0), &args)
+        }
+    }
+}
+
+/// The message.
+fn message_of(alloc: Global, sent: Sent) -> Result<Message<u32, Token>, Fail> {
+    match sent {
+        Sent::Sync(number) => message(alloc, (1, 0), &[Arg::NewId(number)]),
+        Sent::Registry => message(alloc, (1, 1), &[Arg::NewId(2)]),
+        Sent::Error(text) => {
+            let args = [Arg::Object(1), Arg::Uint(3), Arg::Str(text)];
+            message(alloc, (1, 0), &args)
+        }
+        Sent::Announced(number, interface, version) => {
+            let args = [
+                Arg::Uint(number),
+                Arg::Str(interface.bytes()),
+                Arg::Uint(version),
+            ];
+            message(alloc, (2, 0), &args)
+        }
+        Sent::TakenBack(number) => message(alloc, (2, 1), &[Arg::Uint(number)]),
+        Sent::Bound(number, interface, version) => {
+            let args = [
+                Arg::Uint(number),
+                Arg::Str(interface.bytes()),
+                Arg::Uint(version),
+                Arg::NewId(3),
+            ];
+            message(alloc, (2, 0), &args)
+        }
+        _ => message_of_bound(alloc, sent),
+    }
+}
+
+/// Appends the message.
+fn push(alloc: Global, pieces: &mut Pieces, one: Sent) -> Result<(), Fail> {
+    let message = message_of(alloc, one)?;
+    write(pieces, &mut [0; 1024], &message)
+}
+
+/// Appends the messages.
+fn push_all(alloc: Global, pieces: &mut Pieces, messages: &[Sent]) -> Result<(), Fail> {
+    for one in messages {
+        push(alloc, pieces, *one)?;
+    }
     Ok(())
 }
 
@@ -107,9 +221,7 @@ pub fn spelled(alloc: Global, messages: &[Sent]) -> Result<Pieces, Fail> {
         bytes: Vec::new(alloc),
         tokens: Vec::new(alloc),
     };
-    for one in messages {
-        push(alloc, &mut pieces, *one)?;
-    }
+    push_all(alloc, &mut pieces, messages)?;
     Ok(pieces)
 }
 
@@ -172,39 +284,78 @@ fn rule_of(guard: &Guard) -> Option<Rule> {
     }
 }
 
+/// What came of a row: whether each part of it is as the row says.
+#[derive(Clone, Copy)]
+struct Outcome {
+    to_server: bool,
+    to_client: bool,
+    rule: bool,
+    released: bool,
+    end: bool,
+}
+
+/// Puts in what both sides send, and answers whether that comes of it which the row says.
+fn outcome_of(
+    alloc: Global,
+    policy: &Policy,
+    guard: &mut Guard,
+    row: &Row,
+    is_cut: bool,
+) -> Result<Outcome, Fail> {
+    put_in(alloc, policy, guard, row.sends, is_cut)?;
+    let last = row.last;
+    put_one(policy, guard, last.side, last.bytes, last.tokens, is_cut);
+    let to_server = is_to_send(alloc, guard, Side::Server, row.to_server)?;
+    let to_client = is_to_send(alloc, guard, Side::Client, row.to_client)?;
+    let rule = rule_of(guard) == row.rule;
+    let released = are_released(guard, row.released);
+    let ended = guard.arrive(policy, Side::Client, &[], &[]);
+    Ok(Outcome {
+        to_server,
+        to_client,
+        rule,
+        released,
+        end: (ended == Err(ArriveError::Ended)) == row.rule.is_some(),
+    })
+}
+
+/// The same with a new guard.
+fn outcome_of_new(
+    alloc: Global,
+    policy: &Policy,
+    row: &Row,
+    is_cut: bool,
+) -> Result<Outcome, Fail> {
+    let mut guard = Guard::new(alloc)?;
+    let outcome = outcome_of(alloc, policy, &mut guard, row, is_cut);
+    drop(guard);
+    outcome
+}
+
+/// The same under a new policy.
+fn outcome_under(
+    alloc: Global,
+    allowed: Allowed,
+    row: &Row,
+    is_cut: bool,
+) -> Result<Outcome, Fail> {
+    let policy = policy_of(alloc, allowed)?;
+    let outcome = outcome_of_new(alloc, &policy, row, is_cut);
+    drop(policy);
+    outcome
+}
+
 /// Fails if something else comes of the row, its messages cut into single bytes or not.
 pub fn row_holds(
-    rt: &impl Eprint,
-    alloc: Global,
-    row: Row,
+    rt: &(impl Eprint + AllocGlobal),
+    row: &Row,
     allowed: Allowed,
     is_cut: bool,
 ) -> Result<(), Fail> {
-    let policy = policy_of(alloc, allowed)?;
-    let mut guard = Guard::new(alloc)?;
-    put_in(alloc, &policy, &mut guard, row.sends, is_cut)?;
-    put_one(
-        &policy,
-        &mut guard,
-        row.last.side,
-        row.last.bytes,
-        row.last.tokens,
-        is_cut,
-    );
-    let to_server = is_to_send(alloc, &guard, Side::Server, row.to_server)?;
-    let to_client = is_to_send(alloc, &guard, Side::Client, row.to_client)?;
-    let rule = rule_of(&guard) == row.rule;
-    let released = are_released(&mut guard, row.released);
-    let ended = guard.arrive(&policy, Side::Client, &[], &[]);
-    drop(guard);
-    drop(policy);
-    holds(rt, row.name, to_server)?;
-    holds(rt, row.name, to_client)?;
-    holds(rt, row.name, rule)?;
-    holds(rt, row.name, released)?;
-    holds(
-        rt,
-        row.name,
-        (ended == Err(ArriveError::Ended)) == row.rule.is_some(),
-    )
+    let outcome = outcome_under(rt.alloc(), allowed, row, is_cut)?;
+    holds(rt, row.name, outcome.to_server)?;
+    holds(rt, row.name, outcome.to_client)?;
+    holds(rt, row.name, outcome.rule)?;
+    holds(rt, row.name, outcome.released)?;
+    holds(rt, row.name, outcome.end)
 }

@@ -1,70 +1,47 @@
 //! Sessions, message by message.
 
-use crate::kit::{Allowed, NOTHING, Raw, Row, Sent, put_in, quad_policy, row_holds, spelled};
+use crate::kit::{Allowed, NOTHING, Named, Raw, Row, Sent, policy_of, put_in, row_holds, spelled};
 use std::alloc::Global;
 use std::test::Fail;
 use test_kit::log::holds;
-use test_kit::message::Arg;
 use wl_guard::{ArriveError, Guard, Policy, Rule, Side};
 use wl_wire::Token;
 
 /// The client asks for the registry, as object 2.
-const REGISTRY: Sent = (1, 1, &[Arg::NewId(2)]);
+const REGISTRY: Sent = Sent::Registry;
 
 /// The compositor announces `quad` in version 3 as the global 7; the policy allows 2.
-const ANNOUNCED: Sent = (2, 0, &[Arg::Uint(7), Arg::Str(b"quad"), Arg::Uint(3)]);
+const ANNOUNCED: Sent = Sent::Announced(7, Named::Quad, 3);
 
 /// The same as the client is told of it.
-const TOLD: Sent = (2, 0, &[Arg::Uint(7), Arg::Str(b"quad"), Arg::Uint(2)]);
+const TOLD: Sent = Sent::Announced(7, Named::Quad, 2);
 
 /// The compositor announces `pair`, which the policy does not allow, as the global 8.
-const HIDDEN: Sent = (2, 0, &[Arg::Uint(8), Arg::Str(b"pair"), Arg::Uint(1)]);
+const HIDDEN: Sent = Sent::Announced(8, Named::Pair, 1);
 
 /// The client binds the global 7 as object 3, in version 2.
-const BOUND: Sent = (
-    2,
-    0,
-    &[Arg::Uint(7), Arg::Str(b"quad"), Arg::Uint(2), Arg::NewId(3)],
-);
+const BOUND: Sent = Sent::Bound(7, Named::Quad, 2);
 
 /// The client makes the object 4 by object 3.
-const MADE: Sent = (3, 1, &[Arg::NewId(4)]);
+const MADE: Sent = Sent::Made(4);
 
 /// The compositor makes its first object by object 3.
-const MADE_BY_SERVER: Sent = (3, 1, &[Arg::NewId(0xFF00_0000)]);
+const MADE_BY_SERVER: Sent = Sent::Made(0xFF00_0000);
 
 /// The client ends that object.
-const ENDED: Sent = (0xFF00_0000, 2, &[]);
+const ENDED: Sent = Sent::Ended(0xFF00_0000);
 
 /// The client pokes that object.
-const POKED: Sent = (0xFF00_0000, 0, &[Arg::Int(5)]);
+const POKED: Sent = Sent::Poked(0xFF00_0000, 5);
 
 /// The client binds the global 7 as object 3, in version 1.
-const BOUND_AS_FIRST: Sent = (
-    2,
-    0,
-    &[Arg::Uint(7), Arg::Str(b"quad"), Arg::Uint(1), Arg::NewId(3)],
-);
+const BOUND_AS_FIRST: Sent = Sent::Bound(7, Named::Quad, 1);
 
 /// The client binds the global 8 as object 3.
-const PAIR_BOUND: Sent = (
-    2,
-    0,
-    &[Arg::Uint(8), Arg::Str(b"pair"), Arg::Uint(1), Arg::NewId(3)],
-);
+const PAIR_BOUND: Sent = Sent::Bound(8, Named::Pair, 1);
 
 /// `pair.join`, and `pair.joined`, of object 3, with the descriptor 9.
-const JOINED: Sent = (
-    3,
-    0,
-    &[
-        Arg::Object(3),
-        Arg::Object(3),
-        Arg::Str(b"a"),
-        Arg::Array(b"b"),
-        Arg::Fd(9),
-    ],
-);
+const JOINED: Sent = Sent::Joined;
 
 /// `wl_display.sync` with a word behind its argument.
 const LONG_SYNC: Raw = Raw {
@@ -104,8 +81,8 @@ const JOIN_WITHOUT_TOKEN: Raw = Raw {
     tokens: &[],
 };
 
-/// The sessions.
-const ROWS: [Row; 21] = [
+/// Sessions about globals.
+static GLOBALS: [Row; 9] = [
     Row {
         name: "what is allowed goes on, and versions are lowered",
         sends: &[
@@ -126,12 +103,12 @@ const ROWS: [Row; 21] = [
             (Side::Client, REGISTRY),
             (Side::Server, ANNOUNCED),
             (Side::Server, HIDDEN),
-            (Side::Server, (2, 1, &[Arg::Uint(8)])),
-            (Side::Server, (2, 1, &[Arg::Uint(7)])),
+            (Side::Server, Sent::TakenBack(8)),
+            (Side::Server, Sent::TakenBack(7)),
         ],
         last: NOTHING,
         to_server: &[REGISTRY],
-        to_client: &[TOLD, (2, 1, &[Arg::Uint(7)])],
+        to_client: &[TOLD, Sent::TakenBack(7)],
         released: &[],
         rule: None,
     },
@@ -140,12 +117,12 @@ const ROWS: [Row; 21] = [
         sends: &[
             (Side::Client, REGISTRY),
             (Side::Server, ANNOUNCED),
-            (Side::Server, (2, 1, &[Arg::Uint(7)])),
+            (Side::Server, Sent::TakenBack(7)),
             (Side::Client, BOUND),
         ],
         last: NOTHING,
         to_server: &[REGISTRY, BOUND],
-        to_client: &[TOLD, (2, 1, &[Arg::Uint(7)])],
+        to_client: &[TOLD, Sent::TakenBack(7)],
         released: &[],
         rule: None,
     },
@@ -154,15 +131,7 @@ const ROWS: [Row; 21] = [
         sends: &[(Side::Client, REGISTRY), (Side::Client, BOUND)],
         last: NOTHING,
         to_server: &[REGISTRY],
-        to_client: &[(
-            1,
-            0,
-            &[
-                Arg::Object(1),
-                Arg::Uint(3),
-                Arg::Str(b"refused by what was announced: wl_registry#2.bind"),
-            ],
-        )],
+        to_client: &[Sent::Error(b"refused by what was announced: wl_registry#2.bind")],
         released: &[],
         rule: Some(Rule::Global),
     },
@@ -171,26 +140,11 @@ const ROWS: [Row; 21] = [
         sends: &[
             (Side::Client, REGISTRY),
             (Side::Server, HIDDEN),
-            (
-                Side::Client,
-                (
-                    2,
-                    0,
-                    &[Arg::Uint(8), Arg::Str(b"pair"), Arg::Uint(1), Arg::NewId(3)],
-                ),
-            ),
+            (Side::Client, Sent::Bound(8, Named::Pair, 1)),
         ],
         last: NOTHING,
         to_server: &[REGISTRY],
-        to_client: &[(
-            1,
-            0,
-            &[
-                Arg::Object(1),
-                Arg::Uint(3),
-                Arg::Str(b"refused by what was announced: wl_registry#2.bind"),
-            ],
-        )],
+        to_client: &[Sent::Error(b"refused by what was announced: wl_registry#2.bind")],
         released: &[],
         rule: Some(Rule::Global),
     },
@@ -199,28 +153,13 @@ const ROWS: [Row; 21] = [
         sends: &[
             (Side::Client, REGISTRY),
             (Side::Server, ANNOUNCED),
-            (
-                Side::Client,
-                (
-                    2,
-                    0,
-                    &[Arg::Uint(7), Arg::Str(b"quad"), Arg::Uint(3), Arg::NewId(3)],
-                ),
-            ),
+            (Side::Client, Sent::Bound(7, Named::Quad, 3)),
         ],
         last: NOTHING,
         to_server: &[REGISTRY],
         to_client: &[
             TOLD,
-            (
-                1,
-                0,
-                &[
-                    Arg::Object(1),
-                    Arg::Uint(3),
-                    Arg::Str(b"refused by what was announced: wl_registry#2.bind"),
-                ],
-            ),
+            Sent::Error(b"refused by what was announced: wl_registry#2.bind"),
         ],
         released: &[],
         rule: Some(Rule::Global),
@@ -230,28 +169,13 @@ const ROWS: [Row; 21] = [
         sends: &[
             (Side::Client, REGISTRY),
             (Side::Server, ANNOUNCED),
-            (
-                Side::Client,
-                (
-                    2,
-                    0,
-                    &[Arg::Uint(7), Arg::Str(b"quad"), Arg::Uint(0), Arg::NewId(3)],
-                ),
-            ),
+            (Side::Client, Sent::Bound(7, Named::Quad, 0)),
         ],
         last: NOTHING,
         to_server: &[REGISTRY],
         to_client: &[
             TOLD,
-            (
-                1,
-                0,
-                &[
-                    Arg::Object(1),
-                    Arg::Uint(3),
-                    Arg::Str(b"refused by what was announced: wl_registry#2.bind"),
-                ],
-            ),
+            Sent::Error(b"refused by what was announced: wl_registry#2.bind"),
         ],
         released: &[],
         rule: Some(Rule::Global),
@@ -261,52 +185,50 @@ const ROWS: [Row; 21] = [
         sends: &[
             (Side::Client, REGISTRY),
             (Side::Server, ANNOUNCED),
-            (
-                Side::Server,
-                (2, 0, &[Arg::Uint(7), Arg::Str(b"pair"), Arg::Uint(1)]),
-            ),
+            (Side::Server, Sent::Announced(7, Named::Pair, 1)),
             (Side::Client, BOUND),
         ],
         last: NOTHING,
         to_server: &[REGISTRY],
         to_client: &[
             TOLD,
-            (
-                1,
-                0,
-                &[
-                    Arg::Object(1),
-                    Arg::Uint(3),
-                    Arg::Str(b"refused by what was announced: wl_registry#2.bind"),
-                ],
-            ),
+            Sent::Error(b"refused by what was announced: wl_registry#2.bind"),
         ],
         released: &[],
         rule: Some(Rule::Global),
     },
+    Row {
+        name: "more globals than the limit",
+        sends: &[
+            (Side::Client, REGISTRY),
+            (Side::Server, HIDDEN),
+            (Side::Server, HIDDEN),
+            (Side::Server, Sent::Announced(1, Named::Other, 1)),
+            (Side::Server, Sent::Announced(2, Named::Other, 1)),
+            (Side::Server, Sent::Announced(3, Named::Other, 1)),
+        ],
+        last: NOTHING,
+        to_server: &[REGISTRY],
+        to_client: &[],
+        released: &[],
+        rule: Some(Rule::Globals),
+    },
+];
+
+/// Sessions about objects and their requests.
+static OBJECTS: [Row; 8] = [
     Row {
         name: "a refused request",
         sends: &[
             (Side::Client, REGISTRY),
             (Side::Server, ANNOUNCED),
             (Side::Client, BOUND),
-            (Side::Client, (3, 3, &[Arg::Object(0), Arg::Object(3)])),
+            (Side::Client, Sent::Linked),
             (Side::Client, MADE),
         ],
         last: NOTHING,
         to_server: &[REGISTRY, BOUND],
-        to_client: &[
-            TOLD,
-            (
-                1,
-                0,
-                &[
-                    Arg::Object(1),
-                    Arg::Uint(3),
-                    Arg::Str(b"refused by policy: quad#3.link"),
-                ],
-            ),
-        ],
+        to_client: &[TOLD, Sent::Error(b"refused by policy: quad#3.link")],
         released: &[],
         rule: Some(Rule::Policy),
     },
@@ -316,10 +238,7 @@ const ROWS: [Row; 21] = [
             (Side::Client, REGISTRY),
             (Side::Server, ANNOUNCED),
             (Side::Client, BOUND),
-            (
-                Side::Client,
-                (3, 4, &[Arg::Str(b"a"), Arg::Array(b"b"), Arg::Fd(9)]),
-            ),
+            (Side::Client, Sent::Given),
             (Side::Client, MADE),
         ],
         last: NOTHING,
@@ -337,7 +256,7 @@ const ROWS: [Row; 21] = [
             (Side::Server, MADE_BY_SERVER),
             (Side::Client, POKED),
             (Side::Client, ENDED),
-            (Side::Server, (0xFF00_0000, 0, &[Arg::Int(1)])),
+            (Side::Server, Sent::Poked(0xFF00_0000, 1)),
             (Side::Client, POKED),
         ],
         last: NOTHING,
@@ -345,16 +264,8 @@ const ROWS: [Row; 21] = [
         to_client: &[
             TOLD,
             MADE_BY_SERVER,
-            (0xFF00_0000, 0, &[Arg::Int(1)]),
-            (
-                1,
-                0,
-                &[
-                    Arg::Object(1),
-                    Arg::Uint(3),
-                    Arg::Str(b"refused by its destructor: quad#4278190080.poke"),
-                ],
-            ),
+            Sent::Poked(0xFF00_0000, 1),
+            Sent::Error(b"refused by its destructor: quad#4278190080.poke"),
         ],
         released: &[],
         rule: Some(Rule::Destroyed),
@@ -378,65 +289,21 @@ const ROWS: [Row; 21] = [
     },
     Row {
         name: "an object that is not there",
-        sends: &[(Side::Client, (9, 0, &[Arg::Int(1)]))],
+        sends: &[(Side::Client, Sent::Poked(9, 1))],
         last: NOTHING,
         to_server: &[],
-        to_client: &[(
-            1,
-            0,
-            &[
-                Arg::Object(1),
-                Arg::Uint(3),
-                Arg::Str(b"refused by the table: [unknown]#9.[unknown]"),
-            ],
-        )],
+        to_client: &[Sent::Error(b"refused by the table: [unknown]#9.[unknown]")],
         released: &[],
         rule: Some(Rule::Unknown),
     },
     Row {
         name: "a new object beyond the limit",
-        sends: &[
-            (Side::Client, (1, 0, &[Arg::NewId(2)])),
-            (Side::Client, (1, 0, &[Arg::NewId(6)])),
-        ],
+        sends: &[(Side::Client, Sent::Sync(2)), (Side::Client, Sent::Sync(6))],
         last: NOTHING,
-        to_server: &[(1, 0, &[Arg::NewId(2)])],
-        to_client: &[(
-            1,
-            0,
-            &[
-                Arg::Object(1),
-                Arg::Uint(3),
-                Arg::Str(b"refused by the limit of objects: wl_display#1.sync"),
-            ],
-        )],
+        to_server: &[Sent::Sync(2)],
+        to_client: &[Sent::Error(b"refused by the limit of objects: wl_display#1.sync")],
         released: &[],
         rule: Some(Rule::Objects),
-    },
-    Row {
-        name: "more globals than the limit",
-        sends: &[
-            (Side::Client, REGISTRY),
-            (Side::Server, HIDDEN),
-            (Side::Server, HIDDEN),
-            (
-                Side::Server,
-                (2, 0, &[Arg::Uint(1), Arg::Str(b"none"), Arg::Uint(1)]),
-            ),
-            (
-                Side::Server,
-                (2, 0, &[Arg::Uint(2), Arg::Str(b"none"), Arg::Uint(1)]),
-            ),
-            (
-                Side::Server,
-                (2, 0, &[Arg::Uint(3), Arg::Str(b"none"), Arg::Uint(1)]),
-            ),
-        ],
-        last: NOTHING,
-        to_server: &[REGISTRY],
-        to_client: &[],
-        released: &[],
-        rule: Some(Rule::Globals),
     },
     Row {
         name: "a request that the version lacks",
@@ -448,18 +315,7 @@ const ROWS: [Row; 21] = [
         ],
         last: NOTHING,
         to_server: &[REGISTRY, BOUND_AS_FIRST],
-        to_client: &[
-            TOLD,
-            (
-                1,
-                0,
-                &[
-                    Arg::Object(1),
-                    Arg::Uint(3),
-                    Arg::Str(b"refused by its version: quad#3.make"),
-                ],
-            ),
-        ],
+        to_client: &[TOLD, Sent::Error(b"refused by its version: quad#3.make")],
         released: &[],
         rule: Some(Rule::Version),
     },
@@ -468,32 +324,20 @@ const ROWS: [Row; 21] = [
         sends: &[(Side::Client, REGISTRY), (Side::Client, REGISTRY)],
         last: NOTHING,
         to_server: &[REGISTRY],
-        to_client: &[(
-            1,
-            0,
-            &[
-                Arg::Object(1),
-                Arg::Uint(3),
-                Arg::Str(b"refused by its new number: wl_display#1.get_registry"),
-            ],
-        )],
+        to_client: &[Sent::Error(b"refused by its new number: wl_display#1.get_registry")],
         released: &[],
         rule: Some(Rule::NewId),
     },
+];
+
+/// Sessions about bytes and descriptors.
+static ARRIVALS: [Row; 4] = [
     Row {
         name: "bytes behind the arguments",
         sends: &[],
         last: LONG_SYNC,
         to_server: &[],
-        to_client: &[(
-            1,
-            0,
-            &[
-                Arg::Object(1),
-                Arg::Uint(3),
-                Arg::Str(b"refused by its length: wl_display#1.sync"),
-            ],
-        )],
+        to_client: &[Sent::Error(b"refused by its length: wl_display#1.sync")],
         released: &[],
         rule: Some(Rule::Length),
     },
@@ -502,15 +346,7 @@ const ROWS: [Row; 21] = [
         sends: &[],
         last: SHORT_HEADER,
         to_server: &[],
-        to_client: &[(
-            1,
-            0,
-            &[
-                Arg::Object(1),
-                Arg::Uint(3),
-                Arg::Str(b"refused by the format: wl_display#1.sync"),
-            ],
-        )],
+        to_client: &[Sent::Error(b"refused by the format: wl_display#1.sync")],
         released: &[],
         rule: Some(Rule::Malformed),
     },
@@ -519,15 +355,7 @@ const ROWS: [Row; 21] = [
         sends: &[(Side::Client, REGISTRY)],
         last: UNKNOWN_WITH_TOKENS,
         to_server: &[REGISTRY],
-        to_client: &[(
-            1,
-            0,
-            &[
-                Arg::Object(1),
-                Arg::Uint(3),
-                Arg::Str(b"refused by the table: [unknown]#9.[unknown]"),
-            ],
-        )],
+        to_client: &[Sent::Error(b"refused by the table: [unknown]#9.[unknown]")],
         released: &[5, 6],
         rule: Some(Rule::Unknown),
     },
@@ -536,22 +364,14 @@ const ROWS: [Row; 21] = [
         sends: &[],
         last: MANY_TOKENS,
         to_server: &[],
-        to_client: &[(
-            1,
-            0,
-            &[
-                Arg::Object(1),
-                Arg::Uint(3),
-                Arg::Str(b"refused by its descriptors: [unknown]#0.[unknown]"),
-            ],
-        )],
+        to_client: &[Sent::Error(b"refused by its descriptors: [unknown]#0.[unknown]")],
         released: &[4; 113],
         rule: Some(Rule::Descriptors),
     },
 ];
 
 /// Sessions under a policy that allows `pair`, too.
-const PAIR_ROWS: [Row; 2] = [
+static PAIRS: [Row; 2] = [
     Row {
         name: "descriptors go on",
         sends: &[
@@ -582,56 +402,113 @@ const PAIR_ROWS: [Row; 2] = [
     },
 ];
 
-#[test]
-fn rows(rt: HostRuntime) -> Result<(), Fail> {
-    for row in ROWS {
-        row_holds(&rt, rt.alloc(), row, Allowed::Quad, false)?;
-        row_holds(&rt, rt.alloc(), row, Allowed::Quad, true)?;
-    }
-    for row in PAIR_ROWS {
-        row_holds(&rt, rt.alloc(), row, Allowed::QuadAndPair, false)?;
-        row_holds(&rt, rt.alloc(), row, Allowed::QuadAndPair, true)?;
+/// Fails if something else comes of a row, in whole messages or in single bytes.
+fn rows_hold(rt: &(impl Eprint + AllocGlobal), rows: &[Row], allowed: Allowed) -> Result<(), Fail> {
+    for row in rows {
+        row_holds(rt, row, allowed, false)?;
+        row_holds(rt, row, allowed, true)?;
     }
     Ok(())
 }
 
+/// Fails if something else comes of a session about globals.
+fn globals_hold(rt: &(impl Eprint + AllocGlobal)) -> Result<(), Fail> {
+    rows_hold(rt, &GLOBALS, Allowed::Quad)
+}
+
+/// Fails if something else comes of a session about objects.
+fn objects_hold(rt: &(impl Eprint + AllocGlobal)) -> Result<(), Fail> {
+    rows_hold(rt, &OBJECTS, Allowed::Quad)
+}
+
+/// Fails if something else comes of a session about bytes and descriptors.
+fn arrivals_hold(rt: &(impl Eprint + AllocGlobal)) -> Result<(), Fail> {
+    rows_hold(rt, &ARRIVALS, Allowed::Quad)
+}
+
+/// Fails if something else comes of a session in which `pair` is allowed.
+fn pairs_hold(rt: &(impl Eprint + AllocGlobal)) -> Result<(), Fail> {
+    rows_hold(rt, &PAIRS, Allowed::QuadAndPair)
+}
+
+#[test]
+fn rows(rt: HostRuntime) -> Result<(), Fail> {
+    globals_hold(&rt)?;
+    objects_hold(&rt)?;
+    arrivals_hold(&rt)?;
+    pairs_hold(&rt)
+}
+
 /// The client pokes object 3, up to a thousand times, until there is no room. Answers how often there was.
-fn pokes_taken(alloc: Global, policy: &Policy, guard: &mut Guard) -> Result<usize, Fail> {
-    let pieces = spelled(alloc, &[(3, 0, &[Arg::Int(1)])])?;
+fn pokes_taken(policy: &Policy, guard: &mut Guard, poke: &[u8]) -> usize {
     for taken in 0..1000 {
-        if guard.arrive(policy, Side::Client, &pieces.bytes, &[]) == Err(ArriveError::NoRoom) {
-            return Ok(taken);
+        if guard.arrive(policy, Side::Client, poke, &[]) == Err(ArriveError::NoRoom) {
+            return taken;
         }
     }
-    Ok(1000)
+    1000
+}
+
+/// What is seen of a guard whose client sends more than the compositor is sent.
+#[derive(Clone, Copy)]
+struct Rest {
+    taken: usize,
+    waiting: usize,
+    from_server: Result<(), ArriveError>,
+    more: usize,
+    is_open: bool,
+}
+
+/// Fills up what waits for the compositor, sends a word of it, and fills it up again.
+fn fill_up(policy: &Policy, guard: &mut Guard, poke: &[u8]) -> Rest {
+    let taken = pokes_taken(policy, guard, poke);
+    let waiting = guard.waiting(Side::Server);
+    let from_server = guard.arrive(policy, Side::Server, &[], &[]);
+    guard.sent(Side::Server, 4);
+    let more = pokes_taken(policy, guard, poke);
+    Rest {
+        taken,
+        waiting,
+        from_server,
+        more,
+        is_open: guard.end().is_none(),
+    }
+}
+
+/// Binds object 3, and pokes it.
+fn bind_and_fill_up(alloc: Global, policy: &Policy, guard: &mut Guard) -> Result<Rest, Fail> {
+    let bound = [
+        (Side::Client, REGISTRY),
+        (Side::Server, ANNOUNCED),
+        (Side::Client, BOUND),
+    ];
+    put_in(alloc, policy, guard, &bound, false)?;
+    let poke = spelled(alloc, &[Sent::Poked(3, 1)])?;
+    Ok(fill_up(policy, guard, &poke.bytes))
+}
+
+/// The same with a new guard.
+fn rest_of_new(alloc: Global, policy: &Policy) -> Result<Rest, Fail> {
+    let mut guard = Guard::new(alloc)?;
+    let rest = bind_and_fill_up(alloc, policy, &mut guard);
+    drop(guard);
+    rest
+}
+
+/// The same under a new policy.
+fn rest_under(alloc: Global) -> Result<Rest, Fail> {
+    let policy = policy_of(alloc, Allowed::Quad)?;
+    let rest = rest_of_new(alloc, &policy);
+    drop(policy);
+    rest
 }
 
 #[test]
 fn a_compositor_rests(rt: HostRuntime) -> Result<(), Fail> {
-    let policy = quad_policy(rt.alloc())?;
-    let mut guard = Guard::new(rt.alloc())?;
-    put_in(
-        rt.alloc(),
-        &policy,
-        &mut guard,
-        &[
-            (Side::Client, REGISTRY),
-            (Side::Server, ANNOUNCED),
-            (Side::Client, BOUND),
-        ],
-        false,
-    )?;
+    let rest = rest_under(rt.alloc())?;
     // 12 and 32 bytes wait, and then 12 for each: with the 338th they are more than 4096.
-    let taken = pokes_taken(rt.alloc(), &policy, &mut guard)?;
-    let waiting = guard.waiting(Side::Server);
-    let from_server = guard.arrive(&policy, Side::Server, &[], &[]);
-    guard.sent(Side::Server, 4);
-    let more = pokes_taken(rt.alloc(), &policy, &mut guard)?;
-    let end = guard.end();
-    drop(guard);
-    drop(policy);
-    holds(&rt, "taken", taken == 338 && waiting == 4100)?;
-    holds(&rt, "from the compositor", from_server == Ok(()))?;
-    holds(&rt, "more", more == 1)?;
-    holds(&rt, "end", end.is_none())
+    holds(&rt, "taken", rest.taken == 338 && rest.waiting == 4100)?;
+    holds(&rt, "from the compositor", rest.from_server == Ok(()))?;
+    holds(&rt, "more", rest.more == 1)?;
+    holds(&rt, "end", rest.is_open)
 }
