@@ -6,6 +6,7 @@ mod arguments;
 mod beside;
 mod buffers;
 mod chosen;
+mod cleanups;
 mod cuts;
 mod cutting;
 mod dispatches;

@@ -4,3 +4,4 @@ pub mod Flushed
 pub mod Gathered
 pub mod GatheredSlots
 pub mod Counted
+pub mod Leaving

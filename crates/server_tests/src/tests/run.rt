@@ -34,6 +34,8 @@ pub enum Act {
     TakeOut,
     /// Creates so many globals.
     Globals(u32),
+    /// Inserts so many clients.
+    Clients(u32),
     /// Makes the calls, and tells nothing of them.
     Quietly(&'static [Call]),
     /// Adds an interface of this name and of version 1, which has no messages, and tells the answer.
@@ -273,11 +275,11 @@ fn take_out(server: &mut Server, log: &mut String) -> Result<(), Fail> {
     Ok(())
 }
 
-/// Creates so many globals.
-fn globals(alloc: Global, server: &mut Server, count: u32) -> Result<(), Fail> {
+/// Makes the call so many times, and tells nothing of it.
+fn repeat(alloc: Global, server: &mut Server, call: Call, count: u32) -> Result<(), Fail> {
     for _ in 0..count {
         let mut unheard = String::new(alloc);
-        perform(alloc, server, &mut unheard, Call::Global(QUAD, 3))?;
+        perform(alloc, server, &mut unheard, call)?;
     }
     Ok(())
 }
@@ -692,7 +694,8 @@ fn prepare(alloc: Global, server: &mut Server, act: Act) -> Result<(), Fail> {
         Act::ArriveCut(who, stream, cut, descriptor) => {
             arrive_cut(alloc, server, who, (stream, cut), descriptor)
         }
-        Act::Globals(count) => globals(alloc, server, count),
+        Act::Globals(count) => repeat(alloc, server, Call::Global(QUAD, 3), count),
+        Act::Clients(count) => repeat(alloc, server, Call::Insert(true), count),
         Act::Quietly(calls) => quietly(alloc, server, calls),
         _ => Ok(()),
     }

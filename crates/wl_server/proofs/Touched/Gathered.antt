@@ -29,7 +29,7 @@ use Rattle.wl_server_model.proofs.CallSteps.Numbering.{times_stored}
 module _ {T U C : Type 0} where
   -- ---- notes are gathered
 
-  same_emptied : (waits : Bool) (clients clients' : List (Option (Stored T U C))) (k : ℕ) → all_emptied waits clients' ≡ all_emptied waits clients
+  pub same_emptied : (waits : Bool) (clients clients' : List (Option (Stored T U C))) (k : ℕ) → all_emptied waits clients' ≡ all_emptied waits clients
       → option_map (emptied waits) (stored_at k clients') ≡ option_map (emptied waits) (stored_at k clients)
   same_emptied waits clients clients' k same =
       grind (arith, same, stored_map (option_map (emptied waits)) refl clients k, stored_map (option_map (emptied waits)) refl clients' k)

@@ -63,6 +63,13 @@ module _ {T U C : Type 0} where
     unfolding AllOut
     out_taken words words' clients slot x flag takes here is all k out = grind (arith)
 
+  -- ---- what follows of each
+
+  pub out_weaker : (P Q : Option (Stored T U C) → Type 0) (words : List ℕ) (clients : List (Option (Stored T U C)))
+      → ((o : Option (Stored T U C)) → P o → Q o) → AllOut P words clients → AllOut Q words clients
+  unfolding AllOut
+  out_weaker P Q words clients weaker all k out = weaker (stored_at k clients) (all k out)
+
   -- ---- both sets
 
   pub stay_touched : (touched touched' : Touched) (clients : List (Option (Stored T U C))) → StayTouched touched touched' → AreTouched touched clients

@@ -22,6 +22,10 @@ module _ {T U C : Type 0} where
   IsQuiet None = Unit {0}
   IsQuiet (Some s) = IsCalm s
 
+  abbrev pub IsLive : Option (Stored T U C) → Type 0
+  IsLive None = Unit {0}
+  IsLive (Some s) = s.part.is_killed ≡ false
+
   -- it is so of the client of each slot that is not in the set
   unfoldable pub AllOut : (Option (Stored T U C) → Type 0) → List ℕ → List (Option (Stored T U C)) → Type 0
   AllOut P words clients = (k : ℕ) → IsOut words k → P (stored_at k clients)
@@ -31,6 +35,9 @@ module _ {T U C : Type 0} where
 
   abbrev pub AllQuiet : List ℕ → List (Option (Stored T U C)) → Type 0
   AllQuiet words clients = AllOut IsQuiet words clients
+
+  abbrev pub AllLive : List ℕ → List (Option (Stored T U C)) → Type 0
+  AllLive words clients = AllOut IsLive words clients
 
   -- each client for which something waits was touched
   pub record AreTouched (touched : Touched) (clients : List (Option (Stored T U C))) : Type 0 where

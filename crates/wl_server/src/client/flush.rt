@@ -9,7 +9,7 @@ ghost use Rattle.wl_server_client.specs.NoteTimes.{IsNumbered, times_of};
 ghost use Rattle.wl_server_model.specs.PartStep.{over};
 ghost use Rattle.wl_server_model.specs.Plain.{FlushesClients};
 ghost use Rattle.wl_server_model.specs.Inside.Places.{AllFeel, PlaceFeels};
-ghost use Rattle.wl_server.specs.Inside.Touched.{AllQuiet, AllSent, HasSent, IsQuiet};
+ghost use Rattle.wl_server.specs.Inside.Touched.{AllLive, AllQuiet, AllSent, HasSent, IsQuiet};
 ghost use Rattle.wl_server_model.specs.declared.step.Reply.TheVariants as reply;
 ghost use Rattle.wl_server_model.specs.declared.step.Step.TheVariants as step;
 
@@ -45,15 +45,22 @@ fn flush_at<T: Transport + Drop, U: Drop, C: Drop>(
     }
 }
 
-/// Sends what waits for each killed client. Faults are dropped. Returns whether memory ran out.
-pub fn flush_killed<T: Transport + Drop, U: Drop, C: Drop>(clients: &mut Slots<T, U, C>) -> bool
+/// Sends what waits for each killed client. The set has all of these. Faults are dropped. Returns whether memory ran out.
+pub fn flush_killed<T: Transport + Drop, U: Drop, C: Drop>(
+    clients: &mut Slots<T, U, C>,
+    to_note: &SlotSet,
+) -> bool
+    requires { AllLive to_note.now.words.items clients.old.items }
     ensures felt { AllFeel (λ id p lacked did q. FlushesKilled T.sends p lacked did q) result (length clients.old.items) clients.old.items clients.new.items }
     ensures times { map times_of clients.new.items ≡ map times_of clients.old.items }
     ensures numbered { AllNumbered clients.old.items → AllNumbered clients.new.items }
 {
+    let end = clients.len();
     let mut refused = false;
-    for slot in 0..clients.len() {
+    let mut slot = to_note.next_from(0, end);
+    while slot < end {
         refused |= flush_at(&mut clients[slot], true);
+        slot = to_note.next_from(slot + 1, end);
     }
     refused
 }

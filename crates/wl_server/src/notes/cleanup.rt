@@ -2,7 +2,7 @@
 //!
 //! The page of the module `notes` of `wl_server_client` explains what notes are, and which of them are made, wait, or are gathered.
 
-ghost use Rattle.std.specs.Prelude.{◌≡◌, ℕ, map, ◌+◌, ◌++◌, ◌<◌, ◌≤◌, [], length, true, IfOk, OnErr, OnOk};
+ghost use Rattle.std.specs.Prelude.{◌≡◌, ℕ, map, ◌+◌, ◌++◌, ◌<◌, ◌≤◌, [], length, min, slice_get, true, IfOk, MatchOption, OnErr, OnOk};
 ghost use Rattle.std.specs.Vec.{vec_capacity, vec_len};
 ghost use Rattle.wl_server_model.specs.Backend.{Calls};
 ghost use Rattle.wl_server_model.specs.Inside.Cleanup.{CleansUp};
@@ -11,7 +11,7 @@ ghost use Rattle.wl_server_model.specs.NoteOrder.{AllNumbered, AllTakeFirst, IsO
 ghost use Rattle.wl_server_client.specs.NoteTimes.{times_of};
 ghost use Rattle.wl_server_model.specs.Inside.NoteOrder.{count_places};
 ghost use Rattle.wl_server_model.specs.Inside.Leaving.{all_staying, collected, ends_at, given_at, staying};
-ghost use Rattle.wl_server.specs.Inside.Touched.{AllQuiet};
+ghost use Rattle.wl_server.specs.Inside.Touched.{AllLive, AllQuiet};
 ghost use Rattle.wl_server_model.specs.PartStep.{over};
 ghost use Rattle.wl_server_model.specs.Plain.{CleansUpClients};
 ghost use Rattle.wl_server_model.specs.declared.step.Reply.TheVariants as reply;
@@ -61,21 +61,36 @@ fn leave_at<T: Drop, U: Drop, C: Drop>(
     }
 }
 
-/// Takes all killed clients out, by ascending slot.
+/// Takes all killed clients out, by ascending slot. The set has all of these.
 pub fn leave_all<T: Drop, U: Drop, C: Drop>(
     clients: &mut Slots<T, U, C>,
+    to_note: &SlotSet,
     notes: &mut Vec<Note<U>>,
     given: &mut Vec<(ClientId, T)>,
 )
     requires slots { length clients.old.items ≤ 0x100000000 }
+    requires live { AllLive to_note.now.words.items clients.old.items }
     requires notes { vec_len notes.old + length (collected ends_at 0 clients.old.items) ≤ vec_capacity notes.old }
     requires given { vec_len given.old + length (collected given_at 0 clients.old.items) ≤ vec_capacity given.old }
     ensures stay { clients.new.items ≡ all_staying clients.old.items }
     ensures noted { notes.new.items ≡ notes.old.items ++ collected ends_at 0 clients.old.items }
     ensures given { given.new.items ≡ given.old.items ++ collected given_at 0 clients.old.items }
 {
-    for slot in 0..clients.len() {
+    let end = clients.len();
+    let mut slot = to_note.next_from(0, end);
+    while slot < end {
         leave_at(slot as u32, &mut clients[slot], notes, given);
+        slot = to_note.next_from(slot + 1, end);
+    }
+}
+
+/// The first slot that may be free once these clients were taken out, by ascending slot. Before that it was `from`.
+fn free_from_after<T>(from: usize, given: &[(ClientId, T)]) -> usize
+    ensures { MatchOption (slice_get given.now 0) (result ≡ from) (λ first. result ≡ min from first.0.slot) }
+{
+    match given.first() {
+        Some((id, _)) => from.min(id.slot() as usize),
+        None => from,
     }
 }
 
@@ -202,11 +217,13 @@ pub fn memory_for<T: Drop, U: Drop, C: Drop>(
 /// flush.
 fn clean_up<T: Transport + Drop, U: Drop, C: Drop>(
     clients: &mut Slots<T, U, C>,
+    to_note: &SlotSet,
     numbers: &mut NoteNumbers,
     notes: &mut Vec<Note<U>>,
     memory: &mut CleanupMemory<T>,
 ) -> bool
     requires slots { length clients.old.items ≤ 0x100000000 }
+    requires live { AllLive to_note.now.words.items clients.old.items }
     requires notes { vec_len notes.old + count_leaving true clients.old.items + length (collected ends_at 0 clients.old.items) ≤ vec_capacity notes.old }
     requires order { IsOrderOf true clients.old.items memory.old.order.items }
     requires given { length (collected given_at 0 clients.old.items) ≤ vec_capacity memory.old.given }
@@ -223,9 +240,9 @@ fn clean_up<T: Transport + Drop, U: Drop, C: Drop>(
         gather(clients, true, &memory.order, notes);
         return false;
     }
-    let refused = flush_killed(clients);
+    let refused = flush_killed(clients, to_note);
     gather(clients, true, &memory.order, notes);
-    leave_all(clients, notes, &mut memory.given);
+    leave_all(clients, to_note, notes, &mut memory.given);
     refused
 }
 
@@ -256,12 +273,12 @@ impl<T: Transport + Drop, U: Drop, G: GlobalHandler<C> + Drop, C: Drop> Backend<
             Ok(mut memory) => {
                 self.refused = clean_up(
                     &mut self.clients,
+                    &self.touched.to_note,
                     &mut self.numbers,
                     &mut self.notes,
                     &mut memory,
                 );
-                // Any of them may be free now. The next insertion goes over them once more, as this call did.
-                self.free_from = 0;
+                self.free_from = free_from_after(self.free_from, &memory.given);
                 Ok(memory.given)
             }
             Err(error) => {

@@ -1,21 +1,39 @@
-use Rattle.std.proofs.Common.{◌∙◌, sym, refl}
+use Rattle.std.proofs.Common.{◌∙◌, arith, refl, sym}
+use Rattle.std.specs.Prelude.{slice_set}
+use Rattle.std.proofs.lemmas.List.{length-set}
 use Rattle.std.proofs.lemmas.Option.{slice_get_read}
 use Rattle.wl_server_client.specs.NoteTimes.{IsNumbered, times_of}
-use Rattle.wl_server_model.proofs.CleanupSteps.Gathering.{map_set}
-use Rattle.wl_server_model.proofs.CallSteps.Numbering.{each_stays}
 use Rattle.wl_server_model.proofs.CallSteps.Feeling.{none_felt, one_more_felt}
+use Rattle.wl_server_model.proofs.CallSteps.Numbering.{each_stays}
+use Rattle.wl_server_model.proofs.CleanupSteps.Gathering.{map_set}
+use Rattle.wl_server.proofs.Touched.Flushed.{killed_felt_on}
 use Rattle.wl_server.proofs.client.flush.flush_killed.Goals as goal
 
 pub loop-slot-init : goal.loop-slot-init
-loop-slot-init g c = record { felt = none_felt _ _; ends = c.len-slot-end.ensures ∙ c.args.clients.now.ok.0; times = refl; numbered = λ all. all }
+loop-slot-init g c =
+    let ends = c.len-end.ensures ∙ c.args.clients.now.ok.0 in
+    let next = c.next_from-slot.ensures in
+    record {
+      felt = killed_felt_on g.T.Transport.sends _ 0 _ _ _ _ next.from (omega (arith, next.within, ends)) next.skipped c.requires (none_felt _ _);
+      within = next.within;
+      ends = ends;
+      times = refl;
+      numbered = λ all. all;
+    }
 
 pub loop-slot-preserved : goal.loop-slot-preserved
 loop-slot-preserved g c =
+    let inv = c.loop-slot.invariant in
     let here = slice_get_read c.loop-slot.clients.items _ c.loop-slot.slot c.index_mut.result.now
-    (c.loop-slot.invariant.ends ∙ sym c.loop-slot.invariant.felt.len) c.loop-slot-test.true c.index_mut.ensures.value in
+    (inv.ends ∙ sym inv.felt.len) c.loop-slot-test.true c.index_mut.ensures.value in
+    let next = c.next_from-slot-in-loop-slot.ensures in
+    let now = slice_set c.loop-slot.clients.items c.loop-slot.slot c.flush_at-refused.new.client in
+    let long = length-set c.loop-slot.clients.items c.loop-slot.slot c.flush_at-refused.new.client in
     record {
-      felt = one_more_felt _ _ _ _ _ _ _ _ c.loop-slot.invariant.felt here (c.flush_at-refused.ensures.felt c.loop-slot.slot);
-      ends = c.loop-slot.invariant.ends;
-      times = map_set times_of _ _ _ _ here c.flush_at-refused.ensures.times ∙ c.loop-slot.invariant.times;
-      numbered = λ all. each_stays IsNumbered _ _ _ _ here c.flush_at-refused.ensures.numbered (c.loop-slot.invariant.numbered all);
+      felt = killed_felt_on g.T.Transport.sends _ _ _ _ now _ next.from (omega (arith, next.within, long, inv.ends, inv.felt.len)) next.skipped c.requires
+          (one_more_felt _ _ _ _ _ _ _ _ inv.felt here (c.flush_at-refused.ensures.felt c.loop-slot.slot));
+      within = next.within;
+      ends = inv.ends;
+      times = map_set times_of _ _ _ _ here c.flush_at-refused.ensures.times ∙ inv.times;
+      numbered = λ all. each_stays IsNumbered _ _ _ _ here c.flush_at-refused.ensures.numbered (inv.numbered all);
     }

@@ -7,7 +7,7 @@ use Rattle.wl_server_client.specs.NoteTimes.{IsNumbered, times_of}
 use Rattle.wl_server_model.proofs.CallSteps.Feeling.{none_felt, one_more_felt}
 use Rattle.wl_server_model.proofs.CallSteps.Numbering.{each_stays}
 use Rattle.wl_server_model.proofs.CleanupSteps.Gathering.{map_set}
-use Rattle.wl_server.proofs.Touched.Flushed.{felt_on}
+use Rattle.wl_server.proofs.Touched.Flushed.{live_felt_on}
 use Rattle.wl_server.proofs.Touched.Kept.{out_set, out_taken}
 use Rattle.wl_server.proofs.client.flush.flush_live.Goals as goal
 
@@ -16,7 +16,7 @@ loop-slot-init g c =
     let ends = c.len-end.ensures ∙ c.args.clients.now.ok.0 in
     let next = c.next_from-slot.ensures in
     record {
-      felt = felt_on g.T.Transport.sends _ 0 _ _ _ _ next.from (omega (arith, next.within, ends)) next.skipped c.requires (none_felt _ _);
+      felt = live_felt_on g.T.Transport.sends _ 0 _ _ _ _ next.from (omega (arith, next.within, ends)) next.skipped c.requires (none_felt _ _);
       within = next.within;
       ends = ends;
       times = refl;
@@ -38,7 +38,7 @@ loop-slot-preserved g c =
     let sent = out_taken HasSent _ _ now c.loop-slot.slot _ _ c.remove_if.ensures read c.has_sent.ensures
     (out_set HasSent _ _ _ _ _ here c.flush_at-refused.ensures.sent inv.sent) in
     record {
-      felt = felt_on g.T.Transport.sends _ _ _ _ now _ next.from (omega (arith, next.within, long, inv.ends, inv.felt.len)) next.skipped sent
+      felt = live_felt_on g.T.Transport.sends _ _ _ _ now _ next.from (omega (arith, next.within, long, inv.ends, inv.felt.len)) next.skipped sent
           (one_more_felt _ _ _ _ _ _ _ _ inv.felt here (c.flush_at-refused.ensures.felt c.loop-slot.slot));
       within = next.within;
       ends = inv.ends;

@@ -4,6 +4,7 @@ use Rattle.wl_server_model.specs.Inside.Leaving.{collected, given_at}
 use Rattle.wl_server_model.proofs.CallSteps.Numbering.{all_take_leave, none_waits, numbered_staying, takes_both, takes_none}
 use Rattle.wl_server_model.proofs.CleanupSteps.Idle.{none_flushed, none_leaves, none_noted}
 use Rattle.wl_server_model.proofs.CleanupSteps.Rooms.{flushed_counts, flushed_order, gathered_ends, gathered_given}
+use Rattle.wl_server.proofs.Touched.Leaving.{live_gathered}
 use Rattle.wl_server.proofs.notes.cleanup.clean_up.Goals as goal
 use Rattle.std.proofs.lemmas.List.{nil_from_length}
 
@@ -31,6 +32,10 @@ gather-requires-2-clause-order g c =
 
 pub gather-requires-2-clause-room : goal.gather-requires-2-clause-room
 gather-requires-2-clause-room g c = omega (arith, (flushed_counts g.T.Transport.sends _ _ _ c.flush_killed-refused.ensures.felt).0, c.requires.notes)
+
+pub leave_all-requires-clause-live : goal.leave_all-requires-clause-live
+leave_all-requires-clause-live g c =
+    live_gathered g.T.Transport.sends _ _ _ _ _ _ _ c.flush_killed-refused.ensures.felt c.gather-2.ensures.gathered c.requires.live
 
 pub leave_all-requires-clause-notes : goal.leave_all-requires-clause-notes
 leave_all-requires-clause-notes g c =

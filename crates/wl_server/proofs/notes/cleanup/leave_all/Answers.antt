@@ -1,8 +1,10 @@
-use Rattle.std.proofs.Common.{◌∙◌, length, arith, sym}
+use Rattle.std.proofs.Common.{◌∙◌, length, arith, refl, sym}
+use Rattle.std.specs.Prelude.{slice_set}
 use Rattle.std.proofs.lemmas.List.{length-set}
 use Rattle.std.proofs.lemmas.Option.{slice_get_read}
 use Rattle.wl_server_model.specs.Inside.Leaving.{ends_at, given_at}
 use Rattle.wl_server_model.proofs.CleanupSteps.Outgoing.{leave_ends, leave_one, leave_room}
+use Rattle.wl_server.proofs.Touched.Leaving.{leave_on, none_left}
 use Rattle.wl_server.proofs.notes.cleanup.leave_all.Goals as goal
 
 pub leave_at-requires-clause-notes : goal.leave_at-requires-clause-notes
@@ -21,15 +23,32 @@ leave_at-requires-clause-given g c =
 
 pub loop-slot-preserved : goal.loop-slot-preserved
 loop-slot-preserved g c =
-    let here = slice_get_read c.loop-slot.clients.items _ c.loop-slot.slot c.index_mut.result.now c.loop-slot.invariant.ends c.loop-slot-test.true c.index_mut.ensures.value in
+    let inv = c.loop-slot.invariant in
+    let here = slice_get_read c.loop-slot.clients.items _ c.loop-slot.slot c.index_mut.result.now inv.ends c.loop-slot-test.true c.index_mut.ensures.value in
+    let next = c.next_from-slot-in-loop-slot.ensures in
+    let now = slice_set c.loop-slot.clients.items c.loop-slot.slot c.leave_at.new.place in
     let long = length-set c.loop-slot.clients.items c.loop-slot.slot c.leave_at.new.place in
     record {
-      leave = leave_one _ _ _ _ _ _ _ _ _ _ _ c.loop-slot.invariant.leave here c.leave_at.ensures.stays c.leave_at.ensures.noted
-          c.leave_at.ensures.given;
-      notes = c.leave_at.ensures.notes_room ∙ c.loop-slot.invariant.notes;
-      given = c.leave_at.ensures.given_room ∙ c.loop-slot.invariant.given;
-      ends = c.loop-slot.invariant.ends ∙ sym long;
-      len = long ∙ c.loop-slot.invariant.len;
+      leave = leave_on _ _ _ now _ _ _ _ _ next.from (omega (arith, next.within, long, inv.ends)) next.skipped c.requires.live
+          (leave_one _ _ _ _ _ _ _ _ _ _ _ inv.leave here c.leave_at.ensures.stays c.leave_at.ensures.noted c.leave_at.ensures.given);
+      notes = c.leave_at.ensures.notes_room ∙ inv.notes;
+      given = c.leave_at.ensures.given_room ∙ inv.given;
+      within = next.within;
+      ends = inv.ends ∙ sym long;
+      len = long ∙ inv.len;
+    }
+
+pub loop-slot-init : goal.loop-slot-init
+loop-slot-init g c =
+    let ends = c.len-end.ensures ∙ c.args.clients.now.ok.0 in
+    let next = c.next_from-slot.ensures in
+    record {
+      leave = leave_on 0 _ _ _ _ _ _ _ _ next.from (omega (arith, next.within, ends)) next.skipped c.requires.live (none_left _ _ _);
+      notes = refl;
+      given = refl;
+      within = next.within;
+      ends = ends;
+      len = refl;
     }
 
 pub returns-clause-stay : goal.returns-clause-stay
