@@ -132,7 +132,7 @@ flush_had_bytes before after answer f failed none = at f.0 f.1.1
     at [] flushes = failed flushes.2
     at (e ∷ es) flushes = flushes.0 (nothing_behind before.transport.waiting.bytes before.outgoing.bytes none)
 
-nothing_before : (xs ys : List ℕ) → xs ++ ys ≡ [] → xs ≡ []
+pub nothing_before : (xs ys : List ℕ) → xs ++ ys ≡ [] → xs ≡ []
 nothing_before [] ys e = refl
 nothing_before (x ∷ xs) ys e = absurd cc
 

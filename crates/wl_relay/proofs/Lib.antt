@@ -4,6 +4,7 @@ mod Held
 mod HexWords
 mod InputLines
 mod LastRow
+mod LogLines
 mod Numbers
 mod RowWords
 mod TableLines
@@ -11,5 +12,6 @@ pub mod Answers
 pub mod Flows
 pub mod Lines
 pub mod OneSend
+pub mod Ready
 pub mod Runs
 pub mod Settings

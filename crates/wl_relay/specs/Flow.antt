@@ -1,11 +1,11 @@
 -- What is on its way through the relay, in both directions, and that nothing of it is lost, added or moved.
-use Rattle.std.specs.Prelude.{◌≡◌, ◌≢◌, ℕ, ◌≤◌, Bool, false, true, List, [], length, nat_le, take, Option, None, if◌then◌else◌}
+use Rattle.std.specs.Prelude.{◌≡◌, ◌≢◌, ℕ, ◌≤◌, Bool, false, true, List, [], ◌∷◌, length, nat_le, take, Option, None, if◌then◌else◌}
 use Rattle.wl_wire.specs.declared.error.IoFault.{IoFault}
 use Rattle.wl_link.specs.declared.mailbox.Ending.{Ending}
 use Rattle.wl_link.specs.declared.mailbox.Ending.TheVariants as ending
 use Rattle.wl_link.specs.Exchange.{Queue, joined, nothing}
 use Rattle.wl_link.specs.Link.{LinkState, with_transport}
-use Rattle.wl_link.specs.Mailbox.{MailboxState}
+use Rattle.wl_link.specs.Mailbox.{MailboxState, behind}
 use Rattle.wl_link.specs.MailboxLink.{still_to_read, still_to_send}
 use Rattle.wl_wire.specs.Table.{InterfaceRow}
 use Rattle.wl_follow.specs.Sides.{other_side}
@@ -79,10 +79,15 @@ abbrev pub to_send : Side → RelayState → Queue
 to_send Client r = still_to_send r.client
 to_send Server r = still_to_send r.server
 
--- the part of it that a call made ready which then lacked memory: it goes out first
+-- the part of it that was made ready: it goes out first
 abbrev pub made_ready : Side → RelayState → Queue
 made_ready Client r = r.client.transport.waiting
 made_ready Server r = r.server.transport.waiting
+
+-- the relay after something else was made ready for this side
+abbrev pub with_ready : Side → Queue → RelayState → RelayState
+with_ready Client q r = record r { client = with_transport r.client (record r.client.transport { waiting = q }) }
+with_ready Server q r = record r { server = with_transport r.server (record r.server.transport { waiting = q }) }
 
 -- what came from this side and was received, but not handed on
 abbrev pub received : Side → RelayState → Queue
@@ -152,6 +157,19 @@ KeepsAll side before after =
     × (after.known ≡ before.known) × (after.table ≡ before.table)
     × (made_ready (other_side side) after ≡ made_ready (other_side side) before)
 
+-- What is to be sent to the side next was made ready, unless something was, or nothing is to be sent: then nothing is changed.
+-- Nothing is ready after it only if nothing is to be sent.
+pub record MakesReady (side : Side) (before after : RelayState) : Type 0 where
+  pub keeps : KeepsAll side before after
+  pub earlier : (made_ready side before).bytes ≢ [] → after ≡ before
+  pub none : (to_send side before).bytes ≡ [] → after ≡ before
+  pub some : (made_ready side after).bytes ≡ [] → (to_send side before).bytes ≡ []
+  pub whole : made_ready side before ≡ nothing → (to_send side before).bytes ≢ [] → made_ready side after ≡ one_send (to_send side before)
+
+-- So many bytes of what was made ready for the side were sent, or all if they are fewer; and with the first of them its tokens.
+abbrev pub Sent : Side → ℕ → RelayState → RelayState → Type 0
+Sent side count before after = after ≡ with_ready side (behind count (made_ready side before)) before
+
 -- the log has grown by the lines of what was read of what came from that side, and what goes on is to be sent to the other
 abbrev pub LogsRead : Side → RelayState → RelayState → Type 0
 LogsRead side before after =
@@ -174,3 +192,7 @@ ReadsAll side r = ((not_received side r).bytes ≡ []) × IsDone r.table side r.
 -- The lines were taken out. Nothing else is changed.
 abbrev pub TakesLog : List (List ℕ) → RelayState → RelayState → Type 0
 TakesLog lines before after = (lines ≡ before.known.log) × (after ≡ record before { known = record before.known { log = [] } })
+
+-- The first line was taken out. Nothing else is changed.
+abbrev pub TakesLine : List ℕ → RelayState → RelayState → Type 0
+TakesLine line before after = before ≡ record after { known = record after.known { log = line ∷ after.known.log } }

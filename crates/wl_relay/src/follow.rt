@@ -92,7 +92,7 @@ fn pass_unknown(
     let line = unknown_line(*notes.log.allocator(), side, sender, opcode)?;
     let passed = hand_on(&[], from, to)?;
     if passed == Passed::One {
-        notes.log.push(line)?;
+        notes.log.push_back(line)?;
     }
     Ok(passed)
 }

@@ -9,8 +9,8 @@ ghost use Rattle.wl_follow.specs.declared.side.Side.{Side};
 ghost use Rattle.wl_relay.specs.Flow.{Begins, RelayState, flow_from, has_changed};
 ghost use Rattle.wl_relay.specs.Runs.{Call, Leads, all_came, all_out, lines_out, lines_read};
 
-/// Of a new relay, and as long as no announcement was dropped or lowered: all that was taken out for a side, and then what is on
-/// its way to it, is all that came from the other.
+/// Of a new relay, and as long as no announcement was dropped or lowered: all that was taken out for a side or sent to it, and then
+/// what is on its way to it, is all that came from the other.
 pub fn nothing_is_lost()
     ensures { (before after : RelayState) (calls : List Call) (side : Side) → Begins before → Leads before calls after → has_changed after ≡ false
         → joined (all_out (other_side side) calls) (flow_from side after) ≡ all_came side calls }

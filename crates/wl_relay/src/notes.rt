@@ -12,6 +12,7 @@ ghost use Rattle.wl_relay.specs.declared.mode.Mode.TheVariants.{Log};
 
 use crate::mode::Mode;
 use std::alloc::{AllocError, Global};
+use std::collections::VecDeque;
 use wl_follow::{Deletions, Fault, Found, Side, UnknownInterfaces, first_objects, note_objects};
 use wl_link::{MessagePlace, ObjectMap};
 use wl_wire::{
@@ -27,7 +28,7 @@ pub struct Notes {
     /// What is done with announcements.
     pub mode: Mode,
     /// The lines of the log that were not taken out yet.
-    pub log: Vec<String>,
+    pub log: VecDeque<String>,
     /// Whether an announcement was dropped, or its version lowered.
     pub has_changed: bool,
     /// Whether what comes from the client is read.
@@ -74,7 +75,7 @@ impl Notes {
         Ok(Notes {
             objects,
             mode,
-            log: Vec::new(alloc),
+            log: VecDeque::new(alloc),
             has_changed: false,
             follows_client: true,
             follows_server: true,
@@ -221,7 +222,7 @@ fn new_line(alloc: Global, side: Side) -> Result<String, AllocError>
 
 /// Appends the line of a message to the log.
 pub fn log_message(
-    log: &mut Vec<String>,
+    log: &mut VecDeque<String>,
     table: &Protocol,
     objects: &ObjectMap<()>,
     found: Found,
@@ -241,7 +242,7 @@ pub fn log_message(
         message,
     )?;
     push_edit(&mut line, edit)?;
-    Ok(log.push(line)?)
+    Ok(log.push_back(line)?)
 }
 
 /// Appends the number and the opcode of a message that was not read.
@@ -282,5 +283,5 @@ pub fn log_fault(notes: &mut Notes, side: Side, fault: Fault) -> Result<(), OutO
         Side::Client => notes.follows_client = false,
         Side::Server => notes.follows_server = false,
     }
-    Ok(notes.log.push(line)?)
+    Ok(notes.log.push_back(line)?)
 }

@@ -1,10 +1,10 @@
 //! The relay: a link to each side, and what it knows of the session.
 
-ghost use Rattle.std.specs.Prelude.{◌≡◌, ◌≢◌, ◌↔◌, ◌+◌, ◌<◌, ◌≤◌, [], Err, IfOk, OnErr, OnOk, MatchOption, length, map};
+ghost use Rattle.std.specs.Prelude.{◌≡◌, ◌≢◌, ◌↔◌, ◌+◌, ◌<◌, ◌≤◌, ◌∷◌, [], Err, IfOk, List, OnErr, OnOk, MatchOption, length, map};
 ghost use Rattle.std.specs.String.{string_bytes};
 ghost use Rattle.wl_link.specs.Exchange.{nothing};
 ghost use Rattle.wl_link.specs.MailboxLink.{still_to_send};
-ghost use Rattle.wl_relay.specs.Flow.{AreOpen, Arrives, Begins, GivesOut, IsOpen, KeepsAll, KeepsOtherWay, KeepsReady, Logged, LogsRead, PutsIn, ReadsAll, TakesLog, TakesOut, not_received, one_send, settings, to_send};
+ghost use Rattle.wl_relay.specs.Flow.{AreOpen, Arrives, Begins, GivesOut, IsOpen, KeepsAll, KeepsOtherWay, KeepsReady, Logged, LogsRead, MakesReady, PutsIn, ReadsAll, Sent, TakesLine, TakesLog, TakesOut, made_ready, not_received, one_send, settings, to_send};
 ghost use Rattle.wl_relay.specs.Inside.Passing.{IsNew, KeepsSettings};
 ghost use Rattle.wl_relay.specs.declared.relay.ArriveError.TheVariants.{TooManyTokens};
 
@@ -12,6 +12,7 @@ use crate::follow::{Link, receive};
 use crate::mode::Mode;
 use crate::notes::Notes;
 use std::alloc::Global;
+use std::collections::VecDeque;
 use std::fmt;
 use std::marker::Model;
 use thiserror::Error;
@@ -33,13 +34,14 @@ pub enum ArriveError {
 /// A relay between a client and a server.
 ///
 /// The program puts in what came from a side ([`arrive`](Relay::arrive)), and takes out what is to be sent to a side
-/// ([`next_send`](Relay::next_send)). As long as the relay has dropped and lowered no announcement, what goes to each side is what
-/// came from the other: the same bytes and tokens in the same order, however they are cut.
+/// ([`next_send`](Relay::next_send)); or it leaves it there until it was sent ([`make_ready`](Relay::make_ready),
+/// [`ready`](Relay::ready), [`sent`](Relay::sent)). As long as the relay has dropped and lowered no announcement, what goes to each
+/// side is what came from the other: the same bytes and tokens in the same order, however they are cut.
 ///
 /// What is to be sent has no limit but memory, so take it out after each call.
 ///
 /// Each message that it hands on, drops or lowers has a line in its log, in the order in which the messages came
-/// ([`take_log`](Relay::take_log)).
+/// ([`next_line`](Relay::next_line), [`take_log`](Relay::take_log)).
 #[derive(Drop)]
 pub struct Relay {
     table: Protocol,
@@ -116,7 +118,36 @@ fn take_out(alloc: Global, link: &mut Link) -> Result<(Vec<u8>, Vec<Token>), Out
     Ok((bytes, tokens))
 }
 
-/// Sends into the mailbox what waits on the link, and takes it out; `None` if nothing waits.
+/// Sends into the mailbox what waits on the link, unless bytes are there.
+fn make_ready(link: &mut Link) -> Result<(), OutOfMemory>
+    requires is_open { IsOpen link.old }
+    ensures kept { GivesOut link.old nothing link.new }
+    ensures earlier { OnOk result (link.old.transport.waiting.bytes ≢ [] → link.new ≡ link.old) }
+    ensures none { OnOk result ((still_to_send link.old).bytes ≡ [] → link.new ≡ link.old) }
+    ensures some { OnOk result (link.new.transport.waiting.bytes ≡ [] → (still_to_send link.old).bytes ≡ []) }
+    ensures whole { link.old.transport.waiting ≡ nothing → (still_to_send link.old).bytes ≢ []
+        → OnOk result (link.new.transport.waiting ≡ one_send (still_to_send link.old)) }
+    ensures memory { OnErr result ((still_to_send link.old).bytes ≢ []) }
+    ensures settings { settings link.new ≡ settings link.old }
+{
+    if !link.transport().bytes().is_empty() {
+        return Ok(());
+    }
+    let flushed = link.flush();
+    if flushed == Err(IoFault::OutOfMemory) {
+        return Err(OutOfMemory);
+    }
+    if link.transport().bytes().is_empty() {
+        // A mailbox in which nothing waits takes what a send offers.
+        return match flushed {
+            Ok(()) => Ok(()),
+            Err(_) => Err(OutOfMemory),
+        };
+    }
+    Ok(())
+}
+
+/// Takes out what is to be sent next; `None` if nothing waits.
 fn send(alloc: Global, link: &mut Link) -> Result<Option<(Vec<u8>, Vec<Token>)>, OutOfMemory>
     requires is_open { IsOpen link.old }
     ensures given { IfOk result (λ out. MatchOption out (link.new ≡ link.old)
@@ -130,16 +161,9 @@ fn send(alloc: Global, link: &mut Link) -> Result<Option<(Vec<u8>, Vec<Token>)>,
     ensures memory { OnErr result ((still_to_send link.old).bytes ≢ []) }
     ensures settings { settings link.new ≡ settings link.old }
 {
-    let flushed = link.flush();
-    if flushed == Err(IoFault::OutOfMemory) {
-        return Err(OutOfMemory);
-    }
+    make_ready(link)?;
     if link.transport().bytes().is_empty() {
-        // A mailbox in which nothing waits takes what a send offers.
-        return match flushed {
-            Ok(()) => Ok(None),
-            Err(_) => Err(OutOfMemory),
-        };
+        return Ok(None);
     }
     Ok(Some(take_out(alloc, link)?))
 }
@@ -243,11 +267,68 @@ impl Relay {
         }
     }
 
+    /// Makes ready what is to be sent to a side next ([`ready`](Relay::ready)). If something is ready, it stays as it is: it has to
+    /// be sent first. If not, it is what [`next_send`](Relay::next_send) would take out.
+    ///
+    /// `OutOfMemory` comes only if bytes are to be sent, and loses nothing. What was made ready by then is sent first, and may be less.
+    pub fn make_ready(&mut self, side: Side) -> Result<(), OutOfMemory>
+        ensures made { OnOk result (MakesReady side self.old self.new) }
+        ensures kept { OnErr result (KeepsAll side self.old self.new) }
+        ensures memory { OnErr result ((to_send side self.old).bytes ≢ []) }
+        ensures is_open { AreOpen self.new }
+    {
+        match side {
+            Side::Client => make_ready(&mut self.client),
+            Side::Server => make_ready(&mut self.server),
+        }
+    }
+
+    /// What was made ready for a side: bytes, and the tokens that go with the first of them, which are at most 28.
+    pub fn ready(&self, side: Side) -> (&[u8], &[Token])
+        ensures ready { record { bytes = result.0.now; tokens = result.1.now } ≡ made_ready side self.now }
+        ensures few { length result.1.now ≤ 28 }
+    {
+        let mailbox = match side {
+            Side::Client => self.client.transport(),
+            Side::Server => self.server.transport(),
+        };
+        (mailbox.bytes(), mailbox.tokens())
+    }
+
+    /// Takes away what was sent of what was made ready for a side: so many of the bytes, or all if there are fewer. If the count is
+    /// above 0, the tokens were sent too.
+    pub fn sent(&mut self, side: Side, count: usize)
+        ensures sent { Sent side count self.old self.new }
+        ensures is_open { AreOpen self.new }
+    {
+        match side {
+            Side::Client => self.client.transport_mut().sent(count),
+            Side::Server => self.server.transport_mut().sent(count),
+        }
+    }
+
+    /// The first line of the log; `None` if there is none.
+    pub fn first_line(&self) -> Option<&str>
+        ensures { MatchOption result (self.now.known.log ≡ []) (λ line. (rest : List _) × (self.now.known.log ≡ line.now ∷ rest)) }
+    {
+        match self.notes.log.front() {
+            Some(line) => Some(line.as_str()),
+            None => None,
+        }
+    }
+
+    /// Takes the first line of the log out; `None` if there is none.
+    pub fn next_line(&mut self) -> Option<String>
+        ensures { MatchOption result ((self.old.known.log ≡ []) × (self.new ≡ self.old)) (λ line. TakesLine (string_bytes line) self.old self.new) }
+    {
+        self.notes.log.pop_front()
+    }
+
     /// Takes the lines of the log out, in their order.
     pub fn take_log(&mut self, alloc: Global) -> Vec<String>
         ensures { TakesLog (map string_bytes result.items) self.old self.new }
     {
-        std::mem::replace(&mut self.notes.log, Vec::new(alloc))
+        std::mem::replace(&mut self.notes.log, VecDeque::new(alloc)).into_vec()
     }
 
     /// Whether an announcement was dropped, or its version lowered.
