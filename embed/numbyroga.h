@@ -16,11 +16,11 @@
  *   6. Forget what nb_server_next_note says is gone. Close each descriptor that nb_server_next_dropped answers.
  *
  * Places. A session lives in a *place*: an nb_server or nb_client of yours, which has zeros in it at first (NB_EMPTY).
- * So do queues of events, a policy and a guard, in an nb_queues, nb_policy and nb_guard. The memory comes from malloc
- * and goes back by free; nb_server_end, nb_client_end, nb_queues_end, nb_policy_end and nb_guard_end give all of it
- * back. A place may stand anywhere, and may be moved between calls, but it must not be copied while it is in use: two
- * places with one session would free it twice. A place that is empty or ended answers NB_NO_SESSION to each call but
- * the one that makes what is to be there.
+ * So do queues of events, a policy, a guard and a relay, in an nb_queues, nb_policy, nb_guard and nb_relay. The memory
+ * comes from malloc and goes back by free; nb_server_end, nb_client_end, nb_queues_end, nb_policy_end, nb_guard_end and
+ * nb_relay_end give all of it back. A place may stand anywhere, and may be moved between calls, but it must not be
+ * copied while it is in use: two places with one session would free it twice. A place that is empty or ended answers
+ * NB_NO_SESSION to each call but the one that makes what is to be there.
  *
  * Threads. A place is for one thread at a time: any thread may call, if a lock of yours, or the start or end of a
  * thread, lies between two calls of one place. Different places have nothing to do with each other. The library has no
@@ -1562,7 +1562,7 @@ typedef struct {
     void *guard;
 } nb_guard;
 
-/* The sides of a guard. */
+/* The sides of a guard, and of a relay. */
 enum { NB_CLIENT_SIDE = 0, NB_SERVER_SIDE = 1 };
 
 /* Why a guard's connection has ended. */
@@ -1653,6 +1653,70 @@ nb_status nb_guard_next_released(nb_guard *place, int32_t *descriptor);
 /* How the connection ended, if it has. */
 nb_status nb_guard_how_ended(nb_guard *place, nb_end *end);
 
+/* ======== A relay
+ *
+ * For a program between a client and its compositor that shows what they say: numbyroga-relay is one. It takes what
+ * both sides send, hands it on as it came, byte for byte and with its descriptors, and has a line of text for each
+ * message. docs/RELAY.md has the lines.
+ *
+ *   1. For each client make a relay by nb_relay_new, and connect to the compositor.
+ *   2. Receive from a side: nb_relay_received. Take the lines out: nb_relay_next_line, until there is none.
+ *   3. Send to both sides, while nb_relay_to_send has something: nb_relay_to_send, sendmsg, nb_relay_sent.
+ *   4. Once a side hangs up, send the other one what is left for it. Then close both sockets, and the descriptors
+ *      that came and were not sent.
+ *
+ * Only the table tells how many descriptors a message has, and which objects it makes. So what the client may bind has
+ * to be in the table: the relay drops a wl_registry.global of an interface that the table lacks, and hands one with a
+ * greater version than the table's on with that of the table; both lines say so. A relay that only logs changes
+ * nothing, and is for a program that hands the bytes on by itself: give it a copy, and let nb_relay_sent drop what it
+ * has to send.
+ *
+ * A side that sends what cannot be read is read no longer, and a line says why. What it sends then goes on as it is.
+ *
+ * The relay has the numbers of descriptors, and the descriptors stay yours. Those that came from a side go to the other
+ * in the order in which they came: keep them in a queue for each side, and close the first ones once nb_relay_sent has
+ * told that they were sent. End a connection that has too many in a queue: no message takes them.
+ *
+ * The place of a relay is as that of a session. */
+
+/* The place of a relay. Its fields are the library's. */
+typedef struct {
+    uint64_t state;
+    void *relay;
+} nb_relay;
+
+/* Makes a relay in the place, of a connection on which nothing was said, over this table. If `log_only` is not 0, it
+ * changes nothing. nb_relay_start, below, takes an nb_table. Statuses: NB_IN_USE; NB_BAD_TABLE and NB_OUT_OF_MEMORY (as
+ * nb_server_new; `fault` is written). */
+nb_status nb_relay_new(nb_relay *place, const uint8_t *text, size_t text_length, const nb_interface_row *interfaces,
+                       size_t interface_count, const nb_message_row *messages, size_t message_count,
+                       const nb_argument_row *arguments, size_t argument_count, uint32_t log_only,
+                       nb_table_fault *fault);
+
+/* Ends the relay. It forgets the lines and the numbers of descriptors that it has. */
+nb_status nb_relay_end(nb_relay *place);
+
+/* Takes what was received from a side, and reads and hands on all that is whole. Statuses: NB_INVALID_INPUT (there is
+ * no such side); NB_TOO_MANY_DESCRIPTORS (with these, more than NB_MOST_DESCRIPTORS came without a byte behind them);
+ * NB_OUT_OF_MEMORY (the relay is of no more use: end it). */
+nb_status nb_relay_received(nb_relay *place, uint32_t side, const uint8_t *bytes, size_t byte_count,
+                            const int32_t *descriptors, size_t descriptor_count);
+
+/* Copies what is to be sent to a side next: as many bytes as fit, and all descriptors, which go with the first byte.
+ * Both counts are 0 if nothing waits. Room for NB_MOST_DESCRIPTORS is always enough. Statuses: NB_INVALID_INPUT (there
+ * is no such side); NB_OUT_OF_MEMORY (nothing is lost); NB_TOO_SMALL (`counts` is written). */
+nb_status nb_relay_to_send(nb_relay *place, uint32_t side, uint8_t *bytes, size_t byte_room, int32_t *descriptors,
+                           size_t descriptor_room, nb_counts *counts);
+
+/* sendmsg took this many of the bytes that were told, and with the first of them the descriptors. A greater count
+ * counts as all. No other call may come between nb_relay_to_send of this side and this one. Statuses: NB_INVALID_INPUT
+ * (there is no such side). */
+nb_status nb_relay_sent(nb_relay *place, uint32_t side, uint32_t count);
+
+/* The next line of the log, in UTF-8 and without a line feed: so many bytes of the text. Statuses: NB_WOULD_BLOCK
+ * (there is none now); NB_TOO_SMALL (`length` is written, and the line stays). */
+nb_status nb_relay_next_line(nb_relay *place, uint8_t *text, size_t text_room, size_t *length);
+
 /* ======== Shorter to write */
 
 /* nb_server_new with a table. */
@@ -1726,6 +1790,14 @@ static inline nb_status nb_policy_start(nb_policy *place, const nb_table *table,
     return nb_policy_new(place, table->text, table->text_length, table->interfaces, table->interface_count,
                          table->messages, table->message_count, table->arguments, table->argument_count, objects,
                          globals, waiting, fault);
+}
+
+/* nb_relay_new with a table. */
+static inline nb_status nb_relay_start(nb_relay *place, const nb_table *table, uint32_t log_only, nb_table_fault *fault)
+{
+    return nb_relay_new(place, table->text, table->text_length, table->interfaces, table->interface_count,
+                        table->messages, table->message_count, table->arguments, table->argument_count, log_only,
+                        fault);
 }
 
 /* Ends the connection of a guard, since a side hung up, so that nb_guard_next_released answers all descriptors that were

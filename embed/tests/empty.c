@@ -196,6 +196,23 @@ static void guard_calls(void)
     }
 }
 
+static void relay_calls(void)
+{
+    nb_relay relay = NB_EMPTY;
+    uint8_t text[4] = "...";
+    size_t length = 7;
+    for (int round = 0; round < 2; round++) {
+        NONE(nb_relay_end(&relay));
+        NONE(nb_relay_received(&relay, NB_CLIENT_SIDE, bytes, 8, descriptors, 1));
+        NONE(nb_relay_to_send(&relay, NB_CLIENT_SIDE, bytes, 8, descriptors, 1, &counts));
+        NONE(nb_relay_sent(&relay, NB_CLIENT_SIDE, 1));
+        NONE(nb_relay_next_line(&relay, text, sizeof text, &length));
+        HOLDS(length == 7 && text[0] == '.' && relay.state == 0);
+        OK(nb_relay_start(&relay, &quad, 0, &fault));
+        OK(nb_relay_end(&relay));
+    }
+}
+
 int main(void)
 {
     const nb_interface_row wrong = { 0, 99, 1, 0, 0 };
@@ -203,6 +220,7 @@ int main(void)
     client_calls();
     queue_calls();
     guard_calls();
+    relay_calls();
     IS(nb_server_new(&server, bytes, 4, &wrong, 1, NULL, 0, NULL, 0, &fault), NB_BAD_TABLE);
     IS(nb_client_connect(&session, bytes, 4, &wrong, 1, NULL, 0, NULL, 0, &fault), NB_BAD_TABLE);
     server_calls();

@@ -123,6 +123,13 @@ AT(nb_readers, is_reading, 16);
 SIZE(nb_turn, 16);
 AT(nb_turn, reads, 8);
 
+SIZE(nb_policy, 16);
+AT(nb_policy, policy, 8);
+SIZE(nb_guard, 16);
+AT(nb_guard, guard, 8);
+SIZE(nb_relay, 16);
+AT(nb_relay, relay, 8);
+
 /* An action whose fields have different numbers: if one stood elsewhere in the library, another number would be here.
  */
 int main(void)

@@ -12,6 +12,7 @@ mod guards;
 mod messages;
 mod queues;
 mod registries;
+mod relays;
 mod rows;
 mod server;
 mod session;

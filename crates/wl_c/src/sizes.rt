@@ -6,6 +6,7 @@ use crate::client::ClientPlace;
 use crate::guard::GuardPlace;
 use crate::policy::PolicyPlace;
 use crate::queues::QueuesPlace;
+use crate::relay::RelayPlace;
 use crate::server::ServerPlace;
 use std::mem::size_of;
 use wl_host::{
@@ -80,3 +81,5 @@ const _: () = prove!(size_of::<PolicyPlace>() == 16);
 const _: () = prove!(size_of::<GuardPlace>() == 16);
 
 const _: () = prove!(size_of::<FlatEnd>() == 16);
+
+const _: () = prove!(size_of::<RelayPlace>() == 16);

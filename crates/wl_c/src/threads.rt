@@ -7,6 +7,7 @@ use crate::client::ClientPlace;
 use crate::guard::GuardPlace;
 use crate::policy::PolicyPlace;
 use crate::queues::QueuesPlace;
+use crate::relay::RelayPlace;
 use crate::server::ServerPlace;
 use std::marker::Send;
 
@@ -36,5 +37,10 @@ pub fn move_policy(place: PolicyPlace) -> PolicyPlace {
 
 /// A guard goes to another thread.
 pub fn move_guard(place: GuardPlace) -> GuardPlace {
+    to_another_thread(place)
+}
+
+/// A relay goes to another thread.
+pub fn move_relay(place: RelayPlace) -> RelayPlace {
     to_another_thread(place)
 }

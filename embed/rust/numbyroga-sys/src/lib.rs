@@ -1,5 +1,5 @@
 //! The declarations of `numbyroga.h`: a server's and a client's session of the Wayland protocol, queues of events beside it, and a guard
-//! between the two, proved, as plain calls.
+//! or a relay between the two, proved, as plain calls.
 //!
 //! Names are those of the header, which says what each call does. A call whose pointers all name one value takes
 //! references, and is safe to call: a reference keeps the header's rules about memory, and `&mut` to a place keeps two
@@ -107,6 +107,11 @@ place! {
 place! {
     /// The place of a guard.
     nb_guard: guard
+}
+
+place! {
+    /// The place of a relay.
+    nb_relay: relay
 }
 
 /// What a call answers: one of the values below.
@@ -1578,4 +1583,49 @@ unsafe extern "C" {
     pub safe fn nb_guard_next_released(place: &mut nb_guard, descriptor: &mut i32) -> nb_status;
     /// How the connection ended.
     pub safe fn nb_guard_how_ended(place: &mut nb_guard, end: &mut nb_end) -> nb_status;
+
+    /// Makes a relay.
+    pub fn nb_relay_new(
+        place: &mut nb_relay,
+        text: *const u8,
+        text_length: usize,
+        interfaces: *const nb_interface_row,
+        interface_count: usize,
+        messages: *const nb_message_row,
+        message_count: usize,
+        arguments: *const nb_argument_row,
+        argument_count: usize,
+        log_only: u32,
+        fault: &mut nb_table_fault,
+    ) -> nb_status;
+    /// Ends the relay.
+    pub safe fn nb_relay_end(place: &mut nb_relay) -> nb_status;
+    /// Takes what was received from a side.
+    pub fn nb_relay_received(
+        place: &mut nb_relay,
+        side: u32,
+        bytes: *const u8,
+        byte_count: usize,
+        descriptors: *const i32,
+        descriptor_count: usize,
+    ) -> nb_status;
+    /// Copies what is to be sent to a side next.
+    pub fn nb_relay_to_send(
+        place: &mut nb_relay,
+        side: u32,
+        bytes: *mut u8,
+        byte_room: usize,
+        descriptors: *mut i32,
+        descriptor_room: usize,
+        counts: &mut nb_counts,
+    ) -> nb_status;
+    /// sendmsg took this many bytes for a side.
+    pub safe fn nb_relay_sent(place: &mut nb_relay, side: u32, count: u32) -> nb_status;
+    /// The next line of the log.
+    pub fn nb_relay_next_line(
+        place: &mut nb_relay,
+        text: *mut u8,
+        text_room: usize,
+        length: &mut usize,
+    ) -> nb_status;
 }

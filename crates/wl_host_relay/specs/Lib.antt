@@ -1,0 +1,2 @@
+-- A relay as a host drives it.
+pub mod Relays
