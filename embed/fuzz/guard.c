@@ -362,7 +362,8 @@ static char *text_of_policy(const char *name)
 #define nb_guard_received received
 #define read_file         text_of_policy
 #define watch_new         watch_some
-#include "../guard/connection.c"
+#include "../proxy/connection.c"
+#include "../guard/middle.c"
 #include "../guard/policy.c"
 #undef close
 
@@ -543,7 +544,8 @@ int LLVMFuzzerTestOneInput(const uint8_t *data, size_t size)
     keep_what();
     is_logged = chance(2);
     malloc_left = chance(8) == 1 ? chance(0) % 400 : 0;
-    bool lives = connection_new(7, CLIENT_SOCKET, CLIENT_SOCKET + 1, 1, &policy, &table.rows) != NULL;
+    guard_by(&policy, &table.rows);
+    bool lives = connection_new(7, CLIENT_SOCKET, CLIENT_SOCKET + 1, 1) != NULL;
     if (lives && chance(8) != 1)
         lives = begin_talk();
     for (int round = 0; lives && round < MOST_ROUNDS && !input_has_ended(); round++) {

@@ -2,7 +2,7 @@
  * kernel who is connected sees this program, and not the one behind it. */
 #define _GNU_SOURCE
 #include "guard.h"
-#include "guard-protocol.h"
+#include "proxy-protocol.h"
 #include "../socket.h"
 #include <limits.h>
 #include <poll.h>

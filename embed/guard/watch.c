@@ -192,24 +192,30 @@ static size_t lacks(const struct watch *watch, uint32_t side, const uint8_t *mes
     return needed > there ? needed - there : 0;
 }
 
-struct part watch_part(const struct watch *watch, uint32_t side, const uint8_t *bytes, struct part came)
+/* So many of the first bytes, and as many of the first descriptors or all of them. */
+static struct parcel some_of(const struct parcel *came, size_t length, size_t count)
+{
+    return (struct parcel){ came->bytes, length, came->descriptors, count < came->count ? count : came->count };
+}
+
+struct parcel watch_part(const struct watch *watch, uint32_t side, const struct parcel *came)
 {
     if (!watch || !watch->lines)
-        return came;
+        return *came;
     const struct stream *stream = &watch->streams[side];
     uint8_t header[HEADER];
     if (stream->seen > 0) { /* a whole message awaits descriptors, and all others wait behind it */
         const size_t lacking = lacks(watch, side, stream->bytes);
-        return came.count == 0 || lacking == 0 ? came : (struct part){ 0, lacking < came.count ? lacking : came.count };
+        return came->count == 0 || lacking == 0 ? *came : some_of(came, 0, lacking);
     }
-    if (stream->is_broken || stream->length + came.length < HEADER)
-        return came;
+    if (stream->is_broken || stream->length + came->length < HEADER)
+        return *came;
     for (size_t i = 0; i < HEADER; i++)
-        header[i] = i < stream->length ? stream->bytes[i] : bytes[i - stream->length];
-    const size_t size = word_at(header + 4) >> 16, lacking = lacks(watch, side, header);
-    if (size < HEADER || size >= stream->length + came.length)
-        return came;
-    return (struct part){ size - stream->length, lacking < came.count ? lacking : came.count };
+        header[i] = i < stream->length ? stream->bytes[i] : came->bytes[i - stream->length];
+    const size_t size = word_at(header + 4) >> 16;
+    if (size < HEADER || size >= stream->length + came->length)
+        return *came;
+    return some_of(came, size - stream->length, lacks(watch, side, header));
 }
 
 /* Takes the first bytes and descriptors off. */
@@ -222,25 +228,25 @@ static void drop(struct stream *stream, size_t length, size_t count)
     memmove(stream->descriptors, stream->descriptors + count, stream->count * sizeof *stream->descriptors);
 }
 
-static void append(struct stream *stream, const uint8_t *bytes, size_t length, const int32_t *descriptors, size_t count)
+/* Appends these bytes, and so many of the descriptors. */
+static void append(struct stream *stream, const struct parcel *part, size_t count)
 {
-    stream->bytes = checked(realloc(stream->bytes, stream->length + length));
-    memcpy(stream->bytes + stream->length, bytes, length);
-    stream->length += length;
+    stream->bytes = checked(realloc(stream->bytes, stream->length + part->length));
+    memcpy(stream->bytes + stream->length, part->bytes, part->length);
+    stream->length += part->length;
     stream->descriptors =
         checked(realloc(stream->descriptors, (stream->count + count + 1) * sizeof *stream->descriptors));
     if (count > 0)
-        memcpy(stream->descriptors + stream->count, descriptors, count * sizeof *descriptors);
+        memcpy(stream->descriptors + stream->count, part->descriptors, count * sizeof *stream->descriptors);
     stream->count += count;
 }
 
-void watch_bytes(struct watch *watch, uint32_t side, const uint8_t *bytes, size_t length, const int32_t *descriptors,
-                 size_t count)
+void watch_bytes(struct watch *watch, uint32_t side, const struct parcel *part)
 {
     if (!watch || (watch->streams[side].is_broken && !watch->lines))
         return;
     struct stream *stream = &watch->streams[side];
-    append(stream, bytes, length, descriptors, watch->lines ? count : 0);
+    append(stream, part, watch->lines ? part->count : 0);
     while (!stream->is_broken && stream->length - stream->seen >= HEADER) {
         const size_t size = word_at(stream->bytes + stream->seen + 4) >> 16;
         stream->is_broken = size < HEADER;

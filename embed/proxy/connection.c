@@ -1,9 +1,9 @@
-/* A connection: a client, the server, and the guard between them.
+/* A connection: a client, the server, and what stands between them.
  *
  * Nothing is read of a side while something waits for the other one. So of each connection no more is kept than one
  * receive brought, and whoever does not read is not written to: the kernel's buffers do the rest. */
 #define _GNU_SOURCE
-#include "guard.h"
+#include "proxy.h"
 #include "../socket.h"
 #include <stdlib.h>
 #include <sys/epoll.h>
@@ -19,10 +19,8 @@ struct end {
 };
 
 struct connection {
-    nb_guard guard;
-    nb_policy *policy;
-    struct end ends[2]; /* by the number of the side */
-    struct watch *seen;
+    struct middle *middle;
+    struct end ends[2];              /* by the number of the side */
     struct connection *next, **link; /* the list of all, and where it points here */
     int epoll;
     bool has_ended;
@@ -30,44 +28,22 @@ struct connection {
 
 static struct connection *all;
 
-static uint8_t bytes[NB_MOST_BYTES];
-static int32_t descriptors[NB_MOST_DESCRIPTORS];
-
 /* ======== What goes through */
-
-/* Closes those that are there: -1 stands for none (nb_guard_hang_up). */
-static void close_some(const int32_t *some, size_t count)
-{
-    for (size_t i = 0; i < count; i++)
-        if (some[i] >= 0)
-            close(some[i]);
-}
-
-static void close_released(struct connection *connection)
-{
-    int32_t descriptor;
-    while (nb_guard_next_released(&connection->guard, &descriptor) == NB_OK)
-        close_some(&descriptor, 1);
-}
-
-static nb_counts to_send(struct connection *connection, uint32_t side)
-{
-    nb_counts counts = { 0, 0 };
-    nb_guard_to_send(&connection->guard, side, bytes, sizeof bytes, descriptors, NB_MOST_DESCRIPTORS, &counts);
-    return counts;
-}
 
 /* Sends what is to be sent to a side, as far as it takes it. What nobody takes any more is dropped. */
 static void flush(struct end *end)
 {
+    struct connection *connection = end->connection;
+    struct parcel next;
     for (;;) {
-        const nb_counts counts = to_send(end->connection, end->side);
-        ssize_t taken = counts.bytes;
-        end->waits = counts.bytes > 0;
+        const bool is_told = middle_to_send(connection->middle, end->side, &next);
+        connection->has_ended = connection->has_ended || !is_told;
+        end->waits = is_told && next.length > 0;
         if (!end->waits)
             return;
+        ssize_t taken = (ssize_t)next.length;
         if (!end->is_gone)
-            taken = socket_send(end->socket, bytes, counts.bytes, descriptors, counts.descriptors);
+            taken = socket_send(end->socket, next.bytes, next.length, next.descriptors, next.count);
         if (taken == -EAGAIN)
             return;
         if (taken < 0) {
@@ -75,33 +51,10 @@ static void flush(struct end *end)
              * a hole in the stream, so it ends the connection. */
             end->is_gone = true;
             end->is_over = end->is_over || (taken != -EPIPE && taken != -ECONNRESET);
-            taken = counts.bytes;
+            taken = (ssize_t)next.length;
         }
-        nb_guard_sent(&end->connection->guard, end->side, (uint32_t)taken);
-        close_some(descriptors, counts.descriptors);
+        middle_sent(connection->middle, end->side, &next, (size_t)taken, end->is_gone);
     }
-}
-
-/* The text that tells the client of its breach, which stands last in what waits for it. */
-static struct span text_of_breach(struct connection *connection)
-{
-    static const char begin[] = "refused by ";
-    const nb_counts counts = to_send(connection, NB_CLIENT_SIDE);
-    for (size_t at = counts.bytes; at-- > 0;)
-        if (counts.bytes - at >= sizeof begin - 1 && memcmp(bytes + at, begin, sizeof begin - 1) == 0)
-            return (struct span){ (const char *)bytes + at, strnlen((const char *)bytes + at, counts.bytes - at) };
-    return (struct span){ "", 0 };
-}
-
-static void look_for_end(struct connection *connection)
-{
-    nb_end end = { NB_NOT_ENDED, 0, 0, 0 };
-    nb_guard_how_ended(&connection->guard, &end);
-    if (end.reason == NB_NOT_ENDED || connection->has_ended)
-        return;
-    connection->has_ended = true;
-    const bool is_told = end.side == NB_CLIENT_SIDE && end.reason != NB_END_OUT_OF_MEMORY;
-    watch_end(connection->seen, &end, is_told ? text_of_breach(connection) : (struct span){ "", 0 });
 }
 
 static bool is_over(const struct connection *connection)
@@ -110,45 +63,23 @@ static bool is_over(const struct connection *connection)
            connection->ends[NB_SERVER_SIDE].is_over;
 }
 
-/* Hands some of what a side sent to the guard. */
-static void hand_over(struct end *end, const uint8_t *some, const int32_t *with, struct part part)
-{
-    struct connection *connection = end->connection;
-    watch_bytes(connection->seen, end->side, some, part.length, with, part.count);
-    if (nb_guard_received(&connection->guard, connection->policy, end->side, some, part.length, with, part.count) !=
-        NB_OK) {
-        close_all(with, part.count);
-        end->is_over = true;
-    }
-    look_for_end(connection);
-    if (!is_over(connection))
-        watch_passed(connection->seen, end->side);
-}
-
-/* Hands what a side sent to the guard. */
+/* Hands over what a side sent. */
 static void receive(struct end *end)
 {
+    static uint8_t bytes[NB_MOST_BYTES];
+    static int32_t descriptors[NB_MOST_DESCRIPTORS];
     struct connection *connection = end->connection;
-    struct part left = { 0, 0 }, part;
-    int32_t came_with[NB_MOST_DESCRIPTORS]; /* what is sent to the client as it ends takes the place of the others */
-    const ssize_t came = socket_receive(end->socket, bytes, sizeof bytes, came_with, &left.count);
-    if (came == -EAGAIN)
+    struct parcel came = { .bytes = bytes, .descriptors = descriptors };
+    const ssize_t length = socket_receive(end->socket, bytes, sizeof bytes, descriptors, &came.count);
+    if (length == -EAGAIN)
         return;
-    if (came <= 0) {
+    if (length <= 0) {
         end->is_over = true;
         return;
     }
-    left.length = (size_t)came;
-    const uint8_t *at = bytes;
-    const int32_t *with = came_with;
-    for (; left.length + left.count > 0 && !is_over(connection); left.length -= part.length, left.count -= part.count) {
-        part = watch_part(connection->seen, end->side, at, left);
-        hand_over(end, at, with, part);
-        at += part.length;
-        with += part.count;
-    }
-    close_all(with, left.count); /* they came behind the end */
-    close_released(connection);
+    came.length = (size_t)length;
+    if (!middle_receive(connection->middle, end->side, &came))
+        connection->has_ended = true;
 }
 
 /* ======== Its life */
@@ -173,7 +104,7 @@ static bool watch(struct end *end)
     if (event.events == end->watched)
         return true;
     if (epoll_ctl(end->connection->epoll, operation, end->socket, &event) < 0) {
-        perror("numbyroga-guard: epoll_ctl");
+        fprintf(stderr, "%s: epoll_ctl: %s\n", program_name, strerror(errno));
         return false;
     }
     end->watched = event.events;
@@ -190,31 +121,14 @@ static void close_end(struct end *end)
     end->is_gone = true;
 }
 
-/* Closes the descriptors that the guard has: those that are to be sent, and then, as nothing more is, those that were
- * not read. */
-static void drop_all(struct connection *connection)
-{
-    for (int round = 0; round < 2; round++) {
-        for (size_t side = 0; side < 2; side++) {
-            connection->ends[side].is_gone = true;
-            flush(&connection->ends[side]);
-        }
-        if (nb_guard_hang_up(&connection->guard, connection->policy) == NB_OUT_OF_MEMORY)
-            fprintf(stderr, "numbyroga-guard: out of memory: descriptors that were not read stay open\n");
-    }
-    close_released(connection);
-}
-
 static void end_of(struct connection *connection)
 {
     *connection->link = connection->next;
     if (connection->next)
         connection->next->link = connection->link;
-    drop_all(connection);
+    middle_end(connection->middle);
     for (size_t side = 0; side < 2; side++)
         close_end(&connection->ends[side]);
-    nb_guard_end(&connection->guard);
-    watch_free(connection->seen);
     free(connection);
 }
 
@@ -256,11 +170,12 @@ int connection_to_server(void)
     return -error;
 }
 
-struct connection *connection_new(int epoll, int client, int server, unsigned number, nb_policy *policy,
-                                  const nb_table *table)
+struct connection *connection_new(int epoll, int client, int server, unsigned number)
 {
     struct connection *connection = calloc(1, sizeof *connection);
-    if (!connection || nb_guard_new(&connection->guard) != NB_OK) {
+    if (connection)
+        connection->middle = middle_new(number);
+    if (!connection || !connection->middle) {
         close(client);
         close(server);
         free(connection);
@@ -271,9 +186,7 @@ struct connection *connection_new(int epoll, int client, int server, unsigned nu
     if (all)
         all->link = &connection->next;
     all = connection;
-    connection->policy = policy;
     connection->epoll = epoll;
-    connection->seen = watch_new(number, table);
     for (uint32_t side = 0; side < 2; side++)
         connection->ends[side] =
             (struct end){ .connection = connection, .side = side, .socket = side == NB_CLIENT_SIDE ? client : server };

@@ -1,6 +1,6 @@
 /* The loop: it waits for clients, for what they and the server send, for signals, and for the end of the program. */
 #define _GNU_SOURCE
-#include "guard.h"
+#include "proxy.h"
 #include <errno.h>
 #include <signal.h>
 #include <stdlib.h>
@@ -18,8 +18,6 @@ struct loop {
     unsigned clients, next_number;
     bool is_full;     /* there was no room for the next client: it waits, and the socket rests for a while */
     bool is_stopping; /* a signal came */
-    nb_policy *policy;
-    const nb_table *table;
 };
 
 static bool add(const struct loop *loop, int descriptor, void *data)
@@ -27,7 +25,7 @@ static bool add(const struct loop *loop, int descriptor, void *data)
     struct epoll_event event = { .events = EPOLLIN, .data.ptr = data };
     if (epoll_ctl(loop->epoll, EPOLL_CTL_ADD, descriptor, &event) == 0)
         return true;
-    perror("numbyroga-guard: epoll_ctl");
+    fprintf(stderr, "%s: epoll_ctl: %s\n", program_name, strerror(errno));
     return false;
 }
 
@@ -65,9 +63,9 @@ static void accept_client(struct loop *loop)
         if (server >= 0)
             close(server);
     } else if (server < 0) {
-        fprintf(stderr, "numbyroga-guard: a client is sent away: the server: %s\n", strerror(-server));
+        fprintf(stderr, "%s: a client is sent away: the server: %s\n", program_name, strerror(-server));
         close(client);
-    } else if (connection_new(loop->epoll, client, server, ++loop->next_number, loop->policy, loop->table)) {
+    } else if (connection_new(loop->epoll, client, server, ++loop->next_number)) {
         loop->clients++;
     }
 }
@@ -114,10 +112,10 @@ static bool goes_on(const struct loop *loop)
     return loop->clients > 0 && !loop->is_stopping;
 }
 
-int loop_run(int listener, int program, nb_policy *policy, const nb_table *table)
+int loop_run(int listener, int program)
 {
     sigset_t set;
-    struct loop loop = { .listener = listener, .program = program, .policy = policy, .table = table };
+    struct loop loop = { .listener = listener, .program = program };
     sigemptyset(&set);
     sigaddset(&set, SIGCHLD);
     sigaddset(&set, SIGTERM);
@@ -127,7 +125,7 @@ int loop_run(int listener, int program, nb_policy *policy, const nb_table *table
     loop.signals = signalfd(-1, &set, SFD_CLOEXEC | SFD_NONBLOCK);
     if (loop.epoll < 0 || loop.signals < 0 || !add(&loop, listener, &loop.listener) ||
         !add(&loop, loop.signals, &loop.signals)) {
-        perror("numbyroga-guard");
+        perror(program_name);
         return 1;
     }
     while (goes_on(&loop)) {

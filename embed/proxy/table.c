@@ -1,7 +1,7 @@
 /* The table of interfaces: those that are built in, and those of protocol files that are read at the start. */
 #define _GNU_SOURCE
-#include "guard.h"
-#include "guard-protocol.h"
+#include "proxy.h"
+#include "proxy-protocol.h"
 #include <errno.h>
 #include <stdlib.h>
 #include <string.h>
@@ -9,6 +9,7 @@
 /* A tag of a protocol file, with those of its attributes that a table has. */
 struct tag {
     struct span name, attributes[6];
+    bool is_left_out; /* an interface */
 };
 
 enum { NAME, VERSION, SINCE, TYPE, INTERFACE, ALLOW_NULL };
@@ -20,6 +21,7 @@ static const char *const types[] = { "int", "uint", "fixed", "string", "object",
 /* A protocol file while it is read. */
 struct source {
     const char *file;
+    char *text;
     struct tag *tags;
     size_t count;
 };
@@ -32,7 +34,7 @@ bool span_is(struct span span, const char *word)
 void *checked(void *memory)
 {
     if (!memory) {
-        fprintf(stderr, "numbyroga-guard: out of memory\n");
+        fprintf(stderr, "%s: out of memory\n", program_name);
         exit(1);
     }
     return memory;
@@ -74,7 +76,7 @@ static void *copied(const void *rows, size_t count, size_t size)
 
 void table_begin(struct table *table)
 {
-    const nb_table *from = &guard_table;
+    const nb_table *from = &proxy_table;
     table->rows = *from;
     table->rows.text = copied(from->text, from->text_length, 1);
     table->rows.interfaces = copied(from->interfaces, from->interface_count, sizeof *from->interfaces);
@@ -179,10 +181,10 @@ static const char *next_tag(const char *at, struct tag *tag)
     return NULL;
 }
 
-static bool read_tags(struct source *source, const char *text)
+static bool read_tags(struct source *source)
 {
     struct tag tag;
-    for (const char *at = next_tag(text, &tag); at; at = next_tag(at, &tag)) {
+    for (const char *at = next_tag(source->text, &tag); at; at = next_tag(at, &tag)) {
         source->tags = grown(source->tags, source->count, 1, sizeof tag);
         source->tags[source->count++] = tag;
     }
@@ -248,19 +250,22 @@ static bool add_messages(nb_table *rows, const struct source *source, size_t pla
     return true;
 }
 
-/* Adds the interfaces without their messages, so that each message may name each of them. Returns how many. The name of
- * one that is left out is emptied. */
-static size_t add_interfaces(nb_table *rows, const struct source *source)
+static bool is_interface(const struct tag *tag)
 {
-    const size_t before = rows->interface_count;
+    return span_is(tag->name, "interface");
+}
+
+/* Adds the interfaces without their messages, so that each message may name each of them. */
+static void add_interfaces(nb_table *rows, struct source *source)
+{
     for (size_t i = 0; i < source->count; i++) {
         struct tag *tag = &source->tags[i];
         const struct span name = tag->attributes[NAME];
-        if (!span_is(tag->name, "interface"))
+        if (!is_interface(tag) || tag->is_left_out)
             continue;
         if (name.length == 0 || table_number(rows, name) != 0) {
             refuse(source, name, "the table has this interface already");
-            tag->attributes[NAME].length = 0;
+            tag->is_left_out = true;
             continue;
         }
         nb_interface_row *interfaces = grown(rows->interfaces, rows->interface_count, 1, sizeof *interfaces);
@@ -268,32 +273,104 @@ static size_t add_interfaces(nb_table *rows, const struct source *source)
                                                                   number_in(tag->attributes[VERSION], 1), 0, 0 };
         rows->interfaces = interfaces;
     }
-    return rows->interface_count - before;
 }
 
-static bool add_all(nb_table *rows, const struct source *source)
+/* Adds the messages of the interfaces that were added, of which the first has this place. */
+static bool add_their_messages(nb_table *rows, const struct source *source, size_t *place)
 {
-    const size_t added = add_interfaces(rows, source);
-    nb_interface_row *row = (nb_interface_row *)rows->interfaces + rows->interface_count - added;
     for (size_t i = 0; i < source->count; i++) {
-        if (!span_is(source->tags[i].name, "interface") || source->tags[i].attributes[NAME].length == 0)
+        if (!is_interface(&source->tags[i]) || source->tags[i].is_left_out)
             continue;
+        nb_interface_row *row = (nb_interface_row *)rows->interfaces + (*place)++;
         if (!add_messages(rows, source, i, "request", &row->requests) ||
             !add_messages(rows, source, i, "event", &row->events))
             return false;
-        row++;
     }
     return true;
 }
 
+static bool add_all(nb_table *rows, struct source *sources, size_t count)
+{
+    size_t place = rows->interface_count;
+    for (size_t i = 0; i < count; i++)
+        add_interfaces(rows, &sources[i]);
+    for (size_t i = 0; i < count; i++)
+        if (!add_their_messages(rows, &sources[i], &place))
+            return false;
+    return true;
+}
+
+/* The interface of the same name among those that are kept; NULL if there is none. */
+static struct tag **same_among(struct tag **kept, size_t count, const struct tag *tag)
+{
+    const struct span name = tag->attributes[NAME];
+    for (size_t i = 0; i < count; i++) {
+        const struct span other = kept[i]->attributes[NAME];
+        if (other.length == name.length && memcmp(other.at, name.at, name.length) == 0)
+            return &kept[i];
+    }
+    return NULL;
+}
+
+/* Leaves out those that each table has, and of those of one name all but the first one of the greatest version. */
+static void keep_newest(struct source *source, struct tag ***kept, size_t *count)
+{
+    static const nb_table none;
+    for (size_t i = 0; i < source->count; i++) {
+        struct tag *tag = &source->tags[i];
+        if (!is_interface(tag) || tag->attributes[NAME].length == 0)
+            continue;
+        struct tag **same = same_among(*kept, *count, tag);
+        if (table_has(&none, tag->attributes[NAME])) {
+            tag->is_left_out = true;
+        } else if (!same) {
+            *kept = grown(*kept, *count, 1, sizeof **kept);
+            (*kept)[(*count)++] = tag;
+        } else {
+            const bool is_newer = number_in(tag->attributes[VERSION], 1) > number_in((*same)->attributes[VERSION], 1);
+            (is_newer ? *same : tag)->is_left_out = true;
+            *same = is_newer ? tag : *same;
+        }
+    }
+}
+
+static bool read_source(struct source *source)
+{
+    source->text = read_file(source->file);
+    return source->text && read_tags(source);
+}
+
+static void end_source(struct source *source)
+{
+    free(source->tags);
+    free(source->text);
+}
+
 bool table_read(struct table *table, const char *file)
 {
-    struct source source = { file, NULL, 0 };
-    char *text = read_file(file);
-    if (!text)
-        return false;
-    const bool is_read = read_tags(&source, text) && add_all(&table->rows, &source);
-    free(source.tags);
-    free(text);
+    struct source source = { .file = file };
+    const bool is_read = read_source(&source) && add_all(&table->rows, &source, 1);
+    end_source(&source);
     return is_read;
+}
+
+bool table_take(struct table *table, char *const *files, size_t count)
+{
+    struct source *sources = checked(calloc(count, sizeof *sources));
+    struct tag **kept = NULL;
+    size_t kept_count = 0;
+    bool is_taken = true;
+    nb_table *rows = &table->rows;
+    rows->text_length = rows->interface_count = rows->message_count = rows->argument_count = 0;
+    for (size_t i = 0; i < count && is_taken; i++) {
+        sources[i].file = files[i];
+        is_taken = read_source(&sources[i]);
+        keep_newest(&sources[i], &kept, &kept_count);
+    }
+    is_taken = is_taken && add_all(rows, sources, count);
+    for (size_t i = 0; i < count; i++)
+        end_source(&sources[i]);
+    free(kept);
+    free(sources);
+    return is_taken;
 }
