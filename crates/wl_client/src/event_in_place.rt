@@ -192,7 +192,7 @@ impl<T: Transport + Drop, U: Drop> Backend<T, U> {
         if self.freed.reserve().is_err() {
             return false;
         }
-        self.socket.skip_message();
+        self.socket.skip_message(0);
         delete_id(&mut self.objects, &mut self.freed, number);
         true
     }
@@ -218,7 +218,7 @@ impl<T: Transport + Drop, U: Drop> Backend<T, U> {
             return false;
         };
         self.open_event = Some(opened);
-        self.socket.skip_message();
+        self.socket.skip_message(0);
         true
     }
 

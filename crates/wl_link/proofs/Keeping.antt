@@ -302,6 +302,10 @@ below_bound k at n len e =
       | inr h ↦ le-ltb n (k + len) (omega arith) ∙ sym (le-ltb at len h)
     ]
 
+and_false : (b : Bool) → (b && false) ≡ false
+and_false true = refl
+and_false false = refl
+
 module _ {D : Type 0} (c s : List (Option (Object D))) (w : Within c s) where
   pub vacant_nowhere : (n : ℕ) → n ≡ 0 → is_vacant (store_of c s) n ≡ false
   vacant_nowhere n e = rw e refl
@@ -351,6 +355,9 @@ module _ {D : Type 0} (store : Store D) (n : ℕ) (vacant : is_vacant store n �
       same m (inr e) = removed_other (stored store n x) n m e ∙ stored_other store n x m e
 
 module _ {D : Type 0} (c s : List (Option (Object D))) (w : Within c s) where
+  pub free_nowhere : (n : ℕ) → n ≡ 0 → is_free (store_of c s) n ≡ false
+  free_nowhere n e = rw e (and_false (not (is_some (held (store_of c s) 0))))
+
   pub free_client : (n at : ℕ) → n ≡ client_range.first + at → n < client_range.end → is_free (store_of c s) n ≡ is_free_place c at
   free_client n at e h =
       rw (held_client c s w n at e h, is_client n h, lt-ltb 0 n (omega arith), same_bound client_range.first at n (length c) e) refl

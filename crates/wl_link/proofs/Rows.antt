@@ -11,8 +11,8 @@ use Rattle.wl_wire.specs.declared.error.IoFault.TheVariants as fault
 use Rattle.wl_wire.specs.declared.error.MessageParseError.{MessageParseError}
 use Rattle.wl_wire.specs.declared.error.MessageParseError.TheVariants as errors
 use Rattle.wl_wire.specs.Message.{WireMessage, word, piece, size}
-use Rattle.wl_wire.specs.Inside.Cursor.{argument_at, arguments_at}
-use Rattle.wl_wire.specs.Pieces.{word_at}
+use Rattle.wl_wire.specs.Inside.Cursor.{arguments_at}
+use Rattle.wl_wire.specs.Pieces.{word_at, argument_at}
 use Rattle.wl_wire.proofs.Spelling.CursorLaws.{arguments_read}
 use Rattle.wl_wire.specs.Parse.{sender_of, second_word}
 use Rattle.wl_link.specs.declared.object.Object.{Object}

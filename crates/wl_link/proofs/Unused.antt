@@ -1,13 +1,13 @@
 -- The first place past each range, and the numbers that were never in use.
-use Rattle.std.proofs.Common.{◌≡◌, ℕ, ◌+◌, ◌-◌, ◌<◌, ◌≤◌, Bool, true, false, List, length, Option, None, Some, is_some, not, refl, sym, ◌∙◌, ap, arith, T}
+use Rattle.std.proofs.Common.{◌≡◌, ℕ, ◌+◌, ◌-◌, ◌<◌, ◌≤◌, true, List, length, Option, None, Some, is_some, not, refl, ◌∙◌, ap, arith}
 use Rattle.std.specs.Prelude.{MatchOption, IfSome}
 use Rattle.std.proofs.lemmas.Bool.{and_from, le-leb, lt-leb, lt-ltb, cases_lt}
 use Rattle.std.proofs.lemmas.List.{get_or_past}
 use mathlib.Core.Logic.{inl, inr}
 use Rattle.wl_link.specs.declared.object.Object.{Object}
 use Rattle.wl_link.specs.Store.{Store, client_range, server_range, held, first_unused, is_free}
-use Rattle.wl_link.specs.Unused.{IsLeastUnused, IsUsedUp, NextUnused, all_numbers}
-use Rattle.wl_link.specs.Inside.PlaceList.{store_of, Within, place}
+use Rattle.wl_link.specs.Unused.{IsLeastUnused, NextUnused, all_numbers}
+use Rattle.wl_link.specs.Inside.PlaceList.{store_of, Within}
 use Rattle.wl_link.proofs.Keeping.{held_client, held_server}
 
 module _ {D : Type 0} (c s : List (Option (Object D))) (w : Within c s) where

@@ -309,9 +309,13 @@ EachWithin most bytes = (n : ℕ) (rest : List ℕ) → IsAfter n bytes rest →
 
 -- ---- a read
 
+-- the queue without the message at the front, and without so many tokens
+abbrev pub without_front : ℕ → Queue → Queue
+without_front count q = record { bytes = drop (length_of q.bytes) q.bytes; tokens = drop count q.tokens }
+
 -- what is left after the message at the front was read under this signature
 abbrev pub after_first : List ArgumentType → Queue → Queue
-after_first signature q = record { bytes = drop (length_of q.bytes) q.bytes; tokens = drop (fd_count signature) q.tokens }
+after_first signature q = without_front (fd_count signature) q
 
 -- the answer under this signature; memory is refused only if the message may need some
 abbrev pub ReadUnder : {T : Type 0} → List ArgumentType → LinkState T → Result WireMessage MessageParseError → LinkState T → Type 0

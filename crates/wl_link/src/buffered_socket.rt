@@ -10,7 +10,7 @@ ghost use Rattle.wl_wire.specs.declared.error.MessageParseError.TheVariants as p
 ghost use Rattle.wl_wire.specs.Parse.{IsInline, IsThere, IsWhole, ReadsMessage, RefusesMessage, length_of, opcode_of, payload_of, sender_of};
 ghost use Rattle.wl_wire.specs.Reading.{IsWord};
 ghost use Rattle.wl_link.specs.Puts.{PutsOut, Said, messages_of};
-ghost use Rattle.wl_link.specs.Link.{number_message, IsFresh, LimitSet, Flushed, Filled, Grown, Wants, Put, Placed, Wrote, ReadOne, looked_up, read_content, read_into, needed, has_room, ignoring, counted_answer, grown_capacity, free_room, with_incoming, after_first, FindsRoom, IsFull, LacksBytes};
+ghost use Rattle.wl_link.specs.Link.{number_message, IsFresh, LimitSet, Flushed, Filled, Grown, Wants, Put, Placed, Wrote, ReadOne, looked_up, read_content, read_into, needed, has_room, ignoring, counted_answer, grown_capacity, free_room, with_incoming, after_first, without_front, FindsRoom, IsFull, LacksBytes};
 ghost use Rattle.wl_link.specs.NothingLost.{FlushKeeps, FlushDrains, WriteKeeps};
 ghost use Rattle.wl_link.specs.Sides.{ReadTakes};
 ghost use Rattle.wl_link.specs.Inside.WaitingBytes.{FitsUnder, IsFullUnder, grown_to, write_answer_of};
@@ -180,13 +180,19 @@ impl<T> BufferedSocket<T> {
         word_after_header(self.incoming.bytes())
     }
 
-    /// Takes the first message off what was received without reading it. The message must be complete. All tokens stay.
-    pub fn skip_message(&mut self)
-        requires { IsWhole self.old.incoming.bytes }
-        ensures { self.new ≡ with_incoming self.old self.old.transport (after_first [] self.old.incoming) }
+    /// Takes the first message off what was received without reading it, and so many tokens with it. The message must be complete,
+    /// and so many tokens must wait.
+    pub fn skip_message(&mut self, tokens: usize)
+        requires whole { IsWhole self.old.incoming.bytes }
+        requires tokens { tokens ≤ length self.old.incoming.tokens }
+        ensures { self.new ≡ with_incoming self.old self.old.transport (without_front tokens self.old.incoming) }
     {
         if let Some(header) = message_header(self.incoming.bytes()) {
             self.incoming.consume(header.len);
+        }
+        // Most messages have none.
+        if tokens > 0 {
+            self.tokens_in.drain(..tokens);
         }
     }
 

@@ -167,6 +167,17 @@ impl<Data: Drop> ObjectMap<Data> {
         }
     }
 
+    /// Whether an object may be put at this number: `insert_at` puts one there, if there is memory. It allocates nothing.
+    pub fn is_free(&self, number: u32) -> bool
+        ensures { result ≡ is_free self.now.store number }
+    {
+        match place_of(number) {
+            Place::Nowhere => false,
+            Place::Client(at) => self.clients.is_free(at),
+            Place::Server(at) => self.servers.is_free(at),
+        }
+    }
+
     /// Takes the object with this number out of the map; `None` if there is none. It allocates nothing. The number may be
     /// given to another object.
     pub fn remove(&mut self, number: u32) -> Option<Object<Data>>

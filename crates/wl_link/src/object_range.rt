@@ -4,7 +4,7 @@
 
 ghost use Rattle.std.specs.Prelude.{◌≡◌, ◌+◌, ◌<◌, ◌≤◌, [], length, true, false, None, Some, Err, OnOk, OnErr, IsSome, option_copied};
 ghost use Rattle.std.specs.Fn.{FnOnceReturnsAtMut};
-ghost use Rattle.wl_link.specs.Inside.PlaceList.{place, free_flag, put_len, has_place_capacity, IsKnown, SetsPlace, PutsAt, PutsNew, LendsAt, IsFirstFree, ShowsFree, WordsReadIn, ReadsFew, entries_from};
+ghost use Rattle.wl_link.specs.Inside.PlaceList.{place, free_flag, is_free_place, put_len, has_place_capacity, IsKnown, SetsPlace, PutsAt, PutsNew, LendsAt, IsFirstFree, ShowsFree, WordsReadIn, ReadsFew, entries_from};
 ghost use Rattle.wl_sets.specs.FreeTree.{has_capacity};
 ghost use Rattle.wl_link.specs.declared.object_map.InsertError.TheVariants as insert;
 ghost use Rattle.wl_link.specs.declared.object_map.NewError.TheVariants as new;
@@ -62,6 +62,13 @@ impl<Data: Drop> ObjectRange<Data> {
             Some(slot) => slot.is_none(),
             None => false,
         }
+    }
+
+    /// Whether an object may be put at this place: it has none, and is not beyond the one after the last.
+    pub(crate) fn is_free(&self, at: usize) -> bool
+        ensures { result ≡ is_free_place self.now.slots.items at }
+    {
+        self.find(at).is_none() && at <= self.slots.len()
     }
 
     /// How many places there are.
@@ -161,7 +168,7 @@ impl<Data: Drop> ObjectRange<Data> {
         ensures kept { OnErr result (has_place_capacity self.old.slots self.old.free.levels ≡ true → has_place_capacity self.new.slots self.new.free.levels ≡ true) }
         ensures known { IsKnown self.old.is_ready self.old.slots self.old.free.levels → IsKnown self.new.is_ready self.new.slots self.new.free.levels }
     {
-        if at > self.slots.len() || self.find(at).is_some() {
+        if !self.is_free(at) {
             return Err(InsertError::NotFree);
         }
         match self.put(at, object) {

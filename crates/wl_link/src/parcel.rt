@@ -91,8 +91,10 @@ impl Parcel {
         ensures room { deque_len tokens.old + 28 ≤ deque_capacity tokens.old → IsOk result }
         ensures capacity { deque_capacity tokens.old ≤ deque_capacity tokens.new }
     {
-        append(tokens, &self.tokens)?;
-        self.tokens.clear();
+        if !self.tokens.is_empty() {
+            append(tokens, &self.tokens)?;
+            self.tokens.clear();
+        }
         let count = buffer.len().min(self.bytes.len() - self.start);
         buffer[..count].copy_from_slice(&self.bytes[self.start..self.start + count]);
         self.skip(count);
@@ -117,9 +119,13 @@ impl Parcel {
         ensures ok { OnOk result (self.new ≡ joined self.old (record { bytes = bytes.now; tokens = tokens.now })) }
         ensures err { OnErr result ((self.new ≡ self.old) × (record { bytes = bytes.now; tokens = tokens.now } ≢ nothing)) }
     {
-        self.move_up(bytes.len());
+        if bytes.len() > self.bytes.capacity() - self.bytes.len() {
+            self.move_up();
+        }
         self.bytes.reserve(bytes.len())?;
-        self.tokens.extend_from_slice(tokens)?;
+        if !tokens.is_empty() {
+            self.tokens.extend_from_slice(tokens)?;
+        }
         self.bytes.extend_from_slice(bytes)?;
         Ok(())
     }
@@ -136,13 +142,15 @@ impl Parcel {
         }
     }
 
-    /// Moves the bytes that are left to the front, if there is no room for `more` behind them and they are no more than
-    /// those that were given out.
-    fn move_up(&mut self, more: usize)
+    /// Moves the bytes that are left to the front, if they are no more than those that were given out.
+    ///
+    /// It is not inlined, so that it costs nothing where there is room behind them.
+    #[inline(never)]
+    fn move_up(&mut self)
         ensures { self.new ≡ self.old }
     {
         let waiting = self.bytes.len() - self.start;
-        if self.start < waiting || more <= self.bytes.capacity() - self.bytes.len() {
+        if self.start < waiting {
             return;
         }
         self.bytes.drain(..self.start);

@@ -6,5 +6,6 @@ pub mod Handling
 pub mod Limits
 pub mod Requesting
 pub mod OneMessage
-pub mod Words
+pub mod InPlace
+pub mod Naming
 pub mod DataGiven

@@ -25,6 +25,11 @@ handed (action.Request sender opcode args is_destructor created) = Request sende
 handed (action.Bind global object) = Bind global object
 handed (action.Registry object) = Registry object
 
+-- the arguments of an action: those of a request
+abbrev pub arguments_in : Action → List (Argument IdParts Token)
+arguments_in (action.Request sender opcode args is_destructor created) = args.items
+arguments_in _ = []
+
 -- one thing that a call does with a client
 pub data Deed (U : Type 0) : Type 0 where
   -- its transport was offered this, and answered so; its transport gave this to a receive

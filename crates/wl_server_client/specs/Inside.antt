@@ -3,7 +3,6 @@ pub mod Conversion
 pub mod ReadingLoop
 pub mod Responses
 pub mod Syncing
-pub mod Words
 pub mod InPlace
 pub mod Client
 pub mod Puts

@@ -6,8 +6,8 @@ use Rattle.wl_wire.specs.declared.argument.Token.{Token}
 use Rattle.wl_wire.specs.declared.error.MessageParseError.{MessageParseError}
 use Rattle.wl_wire.specs.declared.error.MessageParseError.TheVariants as errors
 use Rattle.wl_wire.specs.Argument.{WireArgument}
-use Rattle.wl_wire.specs.Inside.Cursor.{Fails, argument_at, arguments_at, rests, with_front, with_one}
-use Rattle.wl_wire.specs.Pieces.{◌>>=◌}
+use Rattle.wl_wire.specs.Inside.Cursor.{arguments_at, rests, with_front, with_one}
+use Rattle.wl_wire.specs.Pieces.{◌>>=◌, Fails, argument_at}
 
 -- where the next argument is read, the others are read behind it
 module _ (signature : List ArgumentType) (i : ℕ) (rest : List ℕ) (left : List Token) (d : ArgumentType) (lt : i < length signature) where

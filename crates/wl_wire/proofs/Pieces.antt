@@ -1,5 +1,5 @@
 -- How long the pieces of arguments are, and how one is written behind another.
-use Rattle.std.proofs.Common.{◌≡◌, ℕ, zero, suc, ◌+◌, ◌*◌, ◌-◌, ◌≤◌, ◌<◌, List, [], ◌∷◌, ◌++◌, length, get_or, map, take, drop, replicate, Some, None, refl, sym, ap, subst, ◌∙◌, append_assoc, arith, length-append, add-zero, zero-add, true≢false}
+use Rattle.std.proofs.Common.{◌≡◌, ℕ, zero, suc, ◌+◌, ◌*◌, ◌-◌, ◌≤◌, ◌<◌, List, [], ◌∷◌, ◌++◌, length, get_or, map, take, drop, replicate, Some, None, refl, sym, ap, subst, ◌∙◌, append_assoc, arith, length-append, add-zero, zero-add}
 use Rattle.std.proofs.lemmas.List.{nil_from_length, length-map, get_or-map, append-nil, length-replicate, replicate-append-replicate, take_more, length-take-le, length-drop, take_at, drop_at, drop-drop, take-append-drop, take-append-le, take-take, drop-append-le, drop-replicate, take-map}
 use Rattle.std.proofs.Math.Seq.{take-append-add}
 use Rattle.std.proofs.lemmas.Grind.{flat_map-append}
@@ -13,7 +13,7 @@ use Rattle.wl_wire.specs.declared.message.Message.{Message}
 use Rattle.wl_wire.specs.Argument.{WireArgument}
 use Rattle.wl_wire.specs.MapIds.{numbered, with_ids}
 use Rattle.wl_wire.specs.Message.{content, word, pad_len, counted, piece, pieces, size, token, tokens}
-use Rattle.wl_wire.specs.Inside.Buffer.{IsWord, overwritten, counted_len, piece_len, bytes_of, token_of, tokens_of}
+use Rattle.wl_wire.specs.Inside.Buffer.{overwritten, counted_len, piece_len, bytes_of, token_of, tokens_of}
 use Rattle.wl_wire.proofs.Spelling.RoundTrip.{length-word}
 
 word-zero : word 0 ≡ replicate 4 0
@@ -172,31 +172,6 @@ rest_at_least (x ∷ args) (suc i) a lt is none =
     let others = rest_at_least args i a (omega arith) is nones.1 in
     (others.0, omega (arith, others.1, sum_by-cons piece_len x args, sum_by-cons piece_len x (take i args)))
 
--- ---- words
-
--- a word has no token and four bytes
-token_of_word : {Id : Type 0} (a : Argument Id Token) → IsWord a → token_of a ≡ []
-token_of_word (arg.Fd t) is = absurd (true≢false (sym is))
-token_of_word _ is = refl
-
-word-len : {Id : Type 0} (a : Argument Id Token) → IsWord a → piece_len a ≡ 4
-word-len (arg.Str text) is = absurd (true≢false (sym is))
-word-len (arg.Array bytes) is = absurd (true≢false (sym is))
-word-len (arg.Fd t) is = absurd (true≢false (sym is))
-word-len _ is = refl
-
-pub sum_of_words : {Id : Type 0} (args : List (Argument Id Token)) → AllByRecursion IsWord args → sum_by piece_len args ≡ 4 * length args
-sum_of_words [] all = refl
-sum_of_words (a ∷ args) all = omega (arith, sum_by-cons piece_len a args, word-len a all.0, sum_of_words args all.1)
-
-pub tokens_of_words : {Id : Type 0} (args : List (Argument Id Token)) → AllByRecursion IsWord args → tokens_of args ≡ []
-tokens_of_words [] all = refl
-tokens_of_words (a ∷ args) all = rw (token_of_word a all.0, tokens_of_words args all.1) refl
-
-pub words_len : {Id : Type 0} (object_number new_number : Id → ℕ) (args : List (Argument Id Token)) → AllByRecursion IsWord args
-    → length (pieces (map (with_ids object_number new_number) args)) ≡ 4 * length args
-words_len f g args all = length_pieces f g args ∙ sum_of_words args all
-
 -- ---- one write behind another is one write
 
 pub overwritten-append : (old : List ℕ) (at : ℕ) (xs ys : List ℕ) → at + length xs + length ys ≤ length old
@@ -347,10 +322,3 @@ overwritten-next old now new args i at a lt is room at-is now-is new-is =
 
 pub length-header : (sender size-opcode : ℕ) → length (word sender ++ word size-opcode) ≡ 8
 length-header sender size-opcode = omega (arith, length-append (word sender) (word size-opcode), length-word sender, length-word size-opcode)
-
--- one more word is written behind the others
-pub overwritten-more-word : (old now new : List ℕ) (args : List WireArgument) (i at n : ℕ) (a : WireArgument) → i < length args → a ≡ get_or args i a
-    → piece a ≡ word n → 8 + length (pieces args) ≤ length old → at ≡ 8 + length (pieces (take i args)) → now ≡ overwritten old 8 (pieces (take i args)) → new ≡ overwritten now at (word n)
-    → new ≡ overwritten old 8 (pieces (take (i + 1) args))
-overwritten-more-word old now new args i at n a lt is spelled room at-is now-is new-is =
-    overwritten-more old now new args i at a lt is room at-is now-is (new-is ∙ ap (overwritten now at) (sym spelled))

@@ -10,8 +10,8 @@ use Rattle.wl_wire.specs.Argument.{WireArgument}
 use Rattle.wl_wire.specs.Message.{WireMessage, word, pad_len, counted, piece, pieces, tokens, size, spelling}
 use Rattle.wl_wire.specs.Reading.{Reads}
 use Rattle.wl_wire.specs.Parse.{sender_of, second_word, DoesNotRead, ReadsMessage, RefusesMessage}
-use Rattle.wl_wire.specs.Inside.Cursor.{argument_at, arguments_at}
-use Rattle.wl_wire.specs.Pieces.{word_at, counted_at, text_of}
+use Rattle.wl_wire.specs.Inside.Cursor.{arguments_at}
+use Rattle.wl_wire.specs.Pieces.{word_at, counted_at, text_of, argument_at}
 use Rattle.wl_wire.proofs.Spelling.CursorLaws.{arguments_read, none_reads}
 
 abbrev message : ℕ → ℕ → List WireArgument → WireMessage

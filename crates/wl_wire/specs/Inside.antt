@@ -1,6 +1,5 @@
 -- What the functions inside promise each other; no public clause names these.
 pub mod Cursor
 pub mod Buffer
-pub mod Writing
 pub mod TableCheck
 pub mod FixedInterfaces

@@ -16,7 +16,7 @@ pub enum AllowNull {
     No,
 }
 
-/// The type of one argument in the signature of a request or an event.
+/// The type of one argument in the signature of a request or an event. Those that are one word on the wire come first.
 #[derive(Clone, Copy, Debug, PartialEq, Eq)]
 pub enum ArgumentType {
     /// A signed integer of 32 bits.
@@ -25,12 +25,12 @@ pub enum ArgumentType {
     Uint,
     /// A signed fixed-point number with 24 bits before the point and 8 after it. It is kept as its value times 256.
     Fixed,
-    /// A string, which has no zero byte in it, or null. It need not be UTF-8.
-    Str(AllowNull),
     /// The number of an object. 0 is null.
     Object(AllowNull),
     /// The number of an object that the message creates.
     NewId,
+    /// A string, which has no zero byte in it, or null. It need not be UTF-8.
+    Str(AllowNull),
     /// An array of bytes.
     Array,
     /// A file descriptor. It takes no bytes on the wire: the transport carries it beside them.
@@ -57,7 +57,8 @@ impl ArgumentType {
 #[derive(Clone, Copy, Debug, PartialEq, Eq, Hash)]
 pub struct Token(pub i32);
 
-/// An argument of a message. `Id` is the type of object ids, and `Fd` that of file descriptors.
+/// An argument of a message. `Id` is the type of object ids, and `Fd` that of file descriptors. Those that are one word on the wire
+/// come first.
 #[derive(PartialEq, Eq, Drop)]
 pub enum Argument<Id, Fd> {
     /// A signed integer.
@@ -66,12 +67,12 @@ pub enum Argument<Id, Fd> {
     Uint(u32),
     /// A signed fixed-point number with 24 bits before the point and 8 after it, kept as its value times 256.
     Fixed(i32),
-    /// A string, or null (`None`).
-    Str(Option<CString>),
     /// An object. The id may be null.
     Object(Id),
     /// The object that the message creates.
     NewId(Id),
+    /// A string, or null (`None`).
+    Str(Option<CString>),
     /// An array of bytes.
     Array(ByteArray),
     /// A file descriptor.

@@ -10,6 +10,7 @@
 //! |---|---|---|
 //! | `write_to_buffers`, `write_numbered`, `write_once`, `message_size`, `numbered_size` | `write` | `Message`, `MapIds` |
 //! | `parse_message`, `parse_into`, `peek_into`, `message_header`, `message_is_there`, `fd_places` | `parse` | `Parse`, `Reading`, `Argument` |
+//! | `read_word`, `read_counted`, `read_text`, `read_array` | `parse` | `Pieces` |
 //! | `Protocol`, `check_for_signature`, `same_interface` | `protocol`, `table_check` | `Table`, `Argument`, `MessageRows` |
 //! | `Message::map_fd` | `message` | `MapFd` |
 //! | `push_message`, `push_argument`, `KnownObjects` | `log_text` | `LogText` |
@@ -72,7 +73,7 @@ pub use message::{Args, INLINE_ARGS, Message};
 pub use numbering::{Numbering, OwnNumbers};
 pub use parse::{
     MessageHeader, fd_places, message_header, message_is_there, parse_into, parse_message,
-    peek_into,
+    peek_into, read_array, read_counted, read_text, read_word,
 };
 pub use protocol::{
     Protocol, TableError, check_for_signature, same_interface, same_interface_or_anonymous,

@@ -13,8 +13,8 @@ ghost use Rattle.wl_wire.specs.Argument.{Matches};
 ghost use Rattle.wl_wire.specs.Message.{WireMessage, IsMessage, content, pad_len, spelling, tokens};
 ghost use Rattle.wl_wire.specs.Parse.{fd_count, IsInline, IsSmall, length_of, sender_of, opcode_of, ReadsMessage, RefusesMessage, IsWhole};
 ghost use Rattle.wl_wire.specs.Text.{HasNoZero};
-ghost use Rattle.wl_wire.specs.Inside.Cursor.{IsNumber, text_at, argument_at, arguments_at, rests, with_front, with_one, ReadsAs, RefusesArguments, RefusesHeader};
-ghost use Rattle.wl_wire.specs.Pieces.{word_at, counted_at, text_of};
+ghost use Rattle.wl_wire.specs.Inside.Cursor.{IsNumber, arguments_at, rests, with_front, with_one, RefusesArguments, RefusesHeader};
+ghost use Rattle.wl_wire.specs.Pieces.{word_at, counted_at, text_of, text_at, argument_at, ReadsAs};
 
 use crate::argument::{Argument, ArgumentType, Token};
 use crate::byte_array::ByteArray;
@@ -35,7 +35,7 @@ impl From<AllocError> for MessageParseError {
 
 /// The word at the front, and the bytes after it. `None` if there are fewer than four bytes.
 #[tactic(auto, unfolding(crate::specs::Pieces::word_at))]
-fn read_word(payload: &[u8]) -> Option<(u32, &[u8])>
+pub fn read_word(payload: &[u8]) -> Option<(u32, &[u8])>
     ensures { option_map (λ x. (x.0, x.1.now)) result ≡ word_at payload.now }
 {
     if payload.len() < 4 {
@@ -58,7 +58,7 @@ pub(crate) fn padding(len: usize) -> usize
 
 /// The counted bytes at the front, and what follows their padding. `None` if they are not complete.
 #[tactic(auto, unfolding(crate::specs::Pieces::counted_at))]
-fn read_counted(payload: &[u8]) -> Option<(&[u8], &[u8])>
+pub fn read_counted(payload: &[u8]) -> Option<(&[u8], &[u8])>
     ensures { option_map (λ x. (x.0.now, x.1.now)) result ≡ counted_at payload.now }
 {
     let (len, rest) = read_word(payload)?;
@@ -96,7 +96,7 @@ fn token_at(fds: &VecDeque<Token>, at: usize) -> Option<Token>
 }
 
 /// The integer or object of that type at the front, and the bytes after it. `None` if there are fewer than four bytes.
-#[tactic(auto, unfolding(crate::specs::Inside::Cursor::argument_at))]
+#[tactic(auto, unfolding(crate::specs::Pieces::argument_at))]
 fn read_number(kind: ArgumentType, payload: &[u8]) -> Option<(Argument<u32, Token>, &[u8])>
     requires { IsNumber kind }
     ensures { (fds : List WireToken) → option_map (λ x. (x.0, x.1.now, fds)) result ≡ argument_at kind payload.now fds }
@@ -113,8 +113,15 @@ fn read_number(kind: ArgumentType, payload: &[u8]) -> Option<(Argument<u32, Toke
     Some((arg, rest))
 }
 
-/// A copy of the string at the front, or null, and the bytes after it.
-fn read_text(alloc: Global, payload: &[u8]) -> Result<(Option<CString>, &[u8]), MessageParseError>
+/// A copy of the string at the front, or null (`None`), and the bytes after it.
+///
+/// The string stands as a word, which counts its bytes with the zero that ends it, these bytes, and padding. Null is the word 0. The
+/// error is `Malformed` if the bytes do not begin with a string: the last byte is no zero, another one is, or the bytes end first; and
+/// else `OutOfMemory`.
+pub fn read_text(
+    alloc: Global,
+    payload: &[u8],
+) -> Result<(Option<CString>, &[u8]), MessageParseError>
     ensures { ReadsAs (λ x. (x.0, x.1.now)) result (text_at payload.now) }
 {
     let (bytes, rest) = read_counted(payload).ok_or(MessageParseError::Malformed)?;
@@ -125,7 +132,10 @@ fn read_text(alloc: Global, payload: &[u8]) -> Result<(Option<CString>, &[u8]), 
 }
 
 /// A copy of the array at the front, and the bytes after it.
-fn read_array(alloc: Global, payload: &[u8]) -> Result<(ByteArray, &[u8]), MessageParseError>
+///
+/// The array stands as a word, which counts its bytes, these bytes, and padding. The error is `Malformed` if the bytes end first, and
+/// else `OutOfMemory`.
+pub fn read_array(alloc: Global, payload: &[u8]) -> Result<(ByteArray, &[u8]), MessageParseError>
     ensures { ReadsAs (λ x. (x.0, x.1.now)) result (counted_at payload.now) }
 {
     let (bytes, rest) = read_counted(payload).ok_or(MessageParseError::Malformed)?;
@@ -137,7 +147,7 @@ fn read_array(alloc: Global, payload: &[u8]) -> Result<(ByteArray, &[u8]), Messa
 /// the `used` ones. Returns the bytes after it, and how many tokens were used so far.
 ///
 /// Each kind is appended where it is read, so a number is not copied with the fields of a string or an array.
-#[tactic(auto, unfolding(crate::specs::Inside::Cursor::argument_at))]
+#[tactic(auto, unfolding(crate::specs::Pieces::argument_at))]
 fn read_next<'b>(
     alloc: Global,
     kind: ArgumentType,
@@ -219,7 +229,7 @@ fn read_arguments(
 }
 
 /// The bytes and tokens that are left after an argument of that type; `None` if it cannot be read.
-#[tactic(auto, unfolding(crate::specs::Inside::Cursor::argument_at))]
+#[tactic(auto, unfolding(crate::specs::Pieces::argument_at))]
 fn skip_argument<'b, 't>(
     kind: ArgumentType,
     payload: &'b [u8],

@@ -3,13 +3,12 @@
 //! A *token* is a number that stands for a file descriptor. A *word* is a number of 32 bits, written as four bytes in
 //! little-endian order.
 
-ghost use Rattle.std.specs.Prelude.{◌≡◌, ◌≢◌, ◌↔◌, ◌+◌, ◌-◌, ◌*◌, ◌<◌, ◌≤◌, ◌^◌, ◌++◌, [], Err, length, drop, map, nat_le, replicate, IfOk, IfSome, IsTrue, OnOk, OnErr, MatchOption, vec_len, vec_capacity};
+ghost use Rattle.std.specs.Prelude.{◌≡◌, ◌≢◌, ◌↔◌, ◌+◌, ◌-◌, ◌*◌, ◌<◌, ◌≤◌, ◌^◌, ◌++◌, [], Err, length, drop, map, nat_le, replicate, IfOk, IfSome, OnOk, OnErr, MatchOption, vec_len, vec_capacity};
 ghost use Rattle.wl_wire.specs.declared.error.MessageWriteError.TheVariants.{OutOfMemory};
 ghost use Rattle.std.specs.List.{AllByRecursion, sum_by};
 ghost use Rattle.wl_wire.specs.Message.{content, IsArgument, IsMessage, counted, pad_len, piece, pieces, size, spelling, tokens, word};
 ghost use Rattle.wl_wire.specs.MapIds.{numbered, with_ids};
 ghost use Rattle.wl_wire.specs.Inside.Buffer.{IsWord, is_word, overwritten, counted_len, piece_len, bytes_of, token_of, tokens_of};
-ghost use Rattle.wl_wire.specs.Inside.Writing.{AnswersWriting};
 
 use crate::argument::{Argument, Token};
 use crate::error::MessageWriteError;
@@ -66,6 +65,9 @@ impl Count {
         ensures tokens { self.new.tokens ≡ self.old.tokens + length (token_of arg.now) }
         ensures fits { result ≡ nat_le self.new.tails 65535 }
     {
+        if is_word(arg) {
+            return true;
+        }
         match arg {
             Argument::Str(Some(text)) => self.add_counted(text.as_bytes().len() + 1),
             Argument::Array(bytes) => self.add_counted(bytes.as_slice().len()),
@@ -199,6 +201,23 @@ fn put_counted_apart(payload: &mut [u8], at: usize, bytes: &[u8], ending: usize)
     put_counted(payload, at, bytes, ending)
 }
 
+/// The word that the argument is on the wire.
+#[tactic(auto, unfolding(crate::specs::Message::piece))]
+fn word_of<Id, N: Numbering<Id>>(arg: &Argument<Id, Token>, numbers: &N) -> u32
+    requires word { IsWord arg.now }
+    ensures bytes { piece (with_ids (N.object_number numbers.now) (N.new_number numbers.now) arg.now) ≡ word result }
+    ensures value { IsArgument (with_ids (N.object_number numbers.now) (N.new_number numbers.now) arg.now) }
+{
+    match arg {
+        Argument::Int(n) => n.cast_unsigned(),
+        Argument::Uint(n) => *n,
+        Argument::Fixed(n) => n.cast_unsigned(),
+        Argument::Object(id) => numbers.number_object(id),
+        Argument::NewId(id) => numbers.number_new(id),
+        Argument::Str(_) | Argument::Array(_) | Argument::Fd(_) => unreachable!(),
+    }
+}
+
 /// Writes the argument's bytes from the place `at` on, and returns the place after them.
 #[tactic(auto, unfolding(crate::specs::Message::piece))]
 fn put_argument<Id, N: Numbering<Id>>(
@@ -213,16 +232,15 @@ fn put_argument<Id, N: Numbering<Id>>(
     ensures next { result ≡ at + piece_len arg.now }
     ensures value { IsArgument (with_ids (N.object_number numbers.now) (N.new_number numbers.now) arg.now) }
 {
+    if is_word(arg) {
+        return put_word(payload, at, word_of(arg, numbers));
+    }
     match arg {
-        Argument::Int(n) => put_word(payload, at, n.cast_unsigned()),
-        Argument::Uint(n) => put_word(payload, at, *n),
-        Argument::Fixed(n) => put_word(payload, at, n.cast_unsigned()),
-        Argument::Str(None) => put_word(payload, at, 0),
         Argument::Str(Some(text)) => put_counted_apart(payload, at, text.as_bytes(), 1),
-        Argument::Object(id) => put_word(payload, at, numbers.number_object(id)),
-        Argument::NewId(id) => put_word(payload, at, numbers.number_new(id)),
         Argument::Array(bytes) => put_counted_apart(payload, at, bytes.as_slice(), 0),
         Argument::Fd(_) => at,
+        // Only a null string is left.
+        _ => put_word(payload, at, 0),
     }
 }
 
@@ -335,130 +353,6 @@ fn put_header(payload: &mut [u8], sender: u32, size: usize, opcode: u16)
     put_word(payload, 4, size as u32 * 65536 + u32::from(opcode));
 }
 
-/// Whether each argument is one word on the wire.
-fn are_words<Id>(args: &[Argument<Id, Token>]) -> bool
-    ensures words { IsTrue result → AllByRecursion IsWord args.now }
-    ensures others { AllByRecursion IsWord args.now → IsTrue result }
-{
-    for arg in args {
-        if !is_word(arg) {
-            return false;
-        }
-    }
-    true
-}
-
-/// The word that the argument is on the wire.
-#[tactic(auto, unfolding(crate::specs::Message::piece))]
-fn word_of<Id, N: Numbering<Id>>(arg: &Argument<Id, Token>, numbers: &N) -> u32
-    requires word { IsWord arg.now }
-    ensures bytes { piece (with_ids (N.object_number numbers.now) (N.new_number numbers.now) arg.now) ≡ word result }
-    ensures value { IsArgument (with_ids (N.object_number numbers.now) (N.new_number numbers.now) arg.now) }
-{
-    match arg {
-        Argument::Int(n) => n.cast_unsigned(),
-        Argument::Uint(n) => *n,
-        Argument::Fixed(n) => n.cast_unsigned(),
-        Argument::Object(id) => numbers.number_object(id),
-        Argument::NewId(id) => numbers.number_new(id),
-        Argument::Str(_) | Argument::Array(_) | Argument::Fd(_) => unreachable!(),
-    }
-}
-
-/// Writes arguments of one word each after the header, which has eight bytes.
-fn put_words<Id, N: Numbering<Id>>(payload: &mut [u8], args: &[Argument<Id, Token>], numbers: &N)
-    requires words { AllByRecursion IsWord args.now }
-    requires room { 8 + 4 * length args.now ≤ length payload.old }
-    ensures bytes { payload.new ≡ overwritten payload.old 8 (pieces (map (with_ids (N.object_number numbers.now) (N.new_number numbers.now)) args.now)) }
-    ensures values { AllByRecursion IsArgument (map (with_ids (N.object_number numbers.now) (N.new_number numbers.now)) args.now) }
-{
-    let mut at = 8;
-    for arg in args {
-        at = put_word(payload, at, word_of(arg, numbers));
-    }
-}
-
-/// How many bytes a message takes whose arguments are one word each; `None` if it takes more than 65535.
-fn size_of_words<Id>(args: &[Argument<Id, Token>]) -> Option<usize>
-    requires { AllByRecursion IsWord args.now }
-    ensures { MatchOption result (65535 < bytes_of args.now) (λ n. (n ≡ bytes_of args.now) × (n ≤ 65535)) }
-{
-    if args.len() > MAX_WORDS {
-        return None;
-    }
-    Some(8 + 4 * args.len())
-}
-
-/// Writes a message whose arguments are one word each, at the front of `payload`. Returns how many bytes it wrote.
-///
-/// Most messages are of this kind. Their length follows from the number of their arguments.
-fn write_words<Id, N: Numbering<Id>>(
-    message: &Message<Id, Token>,
-    numbers: &N,
-    payload: &mut [u8],
-) -> Result<usize, MessageWriteError>
-    requires words { AllByRecursion IsWord message.now.args.items }
-    ensures answer { AnswersWriting (numbered (N.object_number numbers.now) (N.new_number numbers.now) message.now) payload.old payload.new result }
-    ensures memory { result ≢ Err MessageWriteError.OutOfMemory }
-    ensures unchanged { OnErr result (payload.new ≡ payload.old) }
-{
-    let args = message.args.as_slice();
-    let Some(bytes) = size_of_words(args) else {
-        return Err(MessageWriteError::TooLong);
-    };
-    if payload.len() < bytes {
-        return Err(MessageWriteError::BufferTooSmall);
-    }
-    put_header(
-        payload,
-        numbers.number_object(&message.sender_id),
-        bytes,
-        message.opcode,
-    );
-    put_words(payload, args, numbers);
-    Ok(bytes)
-}
-
-/// Writes any message at the front of `payload`, and appends its tokens to `fds`. Returns how many bytes it wrote.
-///
-/// It is not inlined, so that it costs nothing for a message whose arguments are one word each.
-#[inline(never)]
-fn write_mixed<Id, N: Numbering<Id>>(
-    message: &Message<Id, Token>,
-    numbers: &N,
-    payload: &mut [u8],
-    fds: &mut Vec<Token>,
-) -> Result<usize, MessageWriteError>
-    ensures answer { AnswersWriting (numbered (N.object_number numbers.now) (N.new_number numbers.now) message.now) payload.old payload.new result }
-
-    ensures tokens { OnOk result (fds.new.items ≡ fds.old.items ++ tokens_of message.now.args.items) }
-    ensures memory { (result ≡ Err MessageWriteError.OutOfMemory) → (vec_capacity fds.old < vec_len fds.old + length (tokens_of message.now.args.items)) }
-    ensures no_tokens { tokens_of message.now.args.items ≡ [] → result ≢ Err MessageWriteError.OutOfMemory }
-    ensures unchanged { OnErr result ((payload.new ≡ payload.old) × (fds.new.items ≡ fds.old.items)) }
-
-    ensures refused_room { OnErr result (vec_capacity fds.new ≡ vec_capacity fds.old) }
-    ensures room { vec_len fds.old + length (tokens_of message.now.args.items) ≤ vec_capacity fds.old → vec_capacity fds.new ≡ vec_capacity fds.old }
-{
-    let args = message.args.as_slice();
-    let Some(measure) = measure_of(args) else {
-        return Err(MessageWriteError::TooLong);
-    };
-    if payload.len() < measure.bytes {
-        return Err(MessageWriteError::BufferTooSmall);
-    }
-    if measure.tokens > 0 {
-        append_tokens(fds, args, measure.tokens)?;
-    }
-    put_header(
-        payload,
-        numbers.number_object(&message.sender_id),
-        measure.bytes,
-        message.opcode,
-    );
-    put_arguments(payload, args, numbers);
-    Ok(measure.bytes)
-}
-
 /// Writes the message at the front of `payload`, with the numbers that `numbers` gives its ids, and appends its tokens to
 /// `fds`.
 ///
@@ -483,10 +377,24 @@ pub fn write_numbered<Id, N: Numbering<Id>>(
     ensures refused_room { OnErr result (vec_capacity fds.new ≡ vec_capacity fds.old) }
     ensures room { vec_len fds.old + length (tokens (numbered (N.object_number numbers.now) (N.new_number numbers.now) message.now).args) ≤ vec_capacity fds.old → vec_capacity fds.new ≡ vec_capacity fds.old }
 {
-    if are_words(message.args.as_slice()) {
-        return write_words(message, numbers, payload);
+    let args = message.args.as_slice();
+    let Some(measure) = measure_of(args) else {
+        return Err(MessageWriteError::TooLong);
+    };
+    if payload.len() < measure.bytes {
+        return Err(MessageWriteError::BufferTooSmall);
     }
-    write_mixed(message, numbers, payload, fds)
+    if measure.tokens > 0 {
+        append_tokens(fds, args, measure.tokens)?;
+    }
+    put_header(
+        payload,
+        numbers.number_object(&message.sender_id),
+        measure.bytes,
+        message.opcode,
+    );
+    put_arguments(payload, args, numbers);
+    Ok(measure.bytes)
 }
 
 /// Writes counted bytes as `put_counted` does, if their padding ends by the place `end`.

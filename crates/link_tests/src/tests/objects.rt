@@ -27,6 +27,8 @@ enum Act {
     Remove(u32),
     /// Looks for the object of this number.
     Find(u32),
+    /// Asks whether an object may be put at this number.
+    IsFree(u32),
     /// Asks whether this number was in use and is free.
     IsVacant(u32),
     /// Lends the object, in whose place the second number is written.
@@ -130,6 +132,12 @@ fn find(log: &mut String, map: &ObjectMap<u32>, number: u32) -> Result<(), Fail>
     tell_value(log, "find", number, found)
 }
 
+/// Tells whether an object may be put at the number.
+fn is_free(log: &mut String, map: &ObjectMap<u32>, number: u32) -> Result<(), Fail> {
+    let free = map.is_free(number);
+    Ok(writeln!(log, "free {number:x}: {free}")?)
+}
+
 /// Tells whether the number was in use and is free.
 fn is_vacant(log: &mut String, map: &ObjectMap<u32>, number: u32) -> Result<(), Fail> {
     let vacant = map.is_vacant(number);
@@ -191,6 +199,7 @@ fn perform(log: &mut String, map: &mut ObjectMap<u32>, act: Act) -> Result<(), F
         Act::NextClient => next_client(log, map),
         Act::Remove(number) => remove(log, map, number),
         Act::Find(number) => find(log, map, number),
+        Act::IsFree(number) => is_free(log, map, number),
         Act::IsVacant(number) => is_vacant(log, map, number),
         Act::With(number, value) => with(log, map, number, value),
         Act::Fill(last) => fill(log, map, last),
@@ -225,7 +234,7 @@ struct Row {
 }
 
 /// Calls of a new map, and what they tell.
-static ROWS: [Row; 9] = [
+static ROWS: [Row; 10] = [
     Row {
         name: "numbers are taken, freed and taken again",
         acts: &[
@@ -262,6 +271,25 @@ static ROWS: [Row; 9] = [
             Act::All,
         ],
         told: "all:\nserver new: ff000000\ninsert at ff000001: done\nclient new: 1\nclient new: 2\nremove ff000000: 1\nall: 1=3 2=4 ff000001=2\n",
+    },
+    Row {
+        name: "a number is free without an object, up to the first that was never used",
+        acts: &[
+            Act::IsFree(0),
+            Act::IsFree(1),
+            Act::IsFree(2),
+            Act::Fill(2),
+            Act::ServerNew(7),
+            Act::IsFree(1),
+            Act::IsFree(3),
+            Act::IsFree(4),
+            Act::IsFree(0xFF00_0000),
+            Act::IsFree(0xFF00_0001),
+            Act::IsFree(0xFF00_0002),
+            Act::Remove(1),
+            Act::IsFree(1),
+        ],
+        told: "free 0: false\nfree 1: true\nfree 2: false\ninsert at 2: done\nserver new: ff000000\nfree 1: false\nfree 3: true\nfree 4: false\nfree ff000000: false\nfree ff000001: true\nfree ff000002: false\nremove 1: 0\nfree 1: true\n",
     },
     Row {
         name: "a number is vacant once its object is gone",

@@ -26,8 +26,8 @@ pub enum Act {
     Read,
     /// Reads, with no signature known for any message.
     ReadUnknown,
-    /// Takes a message off, if one is there to its end.
-    Skip,
+    /// Takes a message off, with so many tokens, if it is there to its end and they are there.
+    Skip(usize),
     /// Receives so many times.
     FillEach(usize),
     /// Receives and reads so many times, and tells the messages that were there to their end.
@@ -190,12 +190,12 @@ fn read_unknown<T>(log: &mut String, link: &mut BufferedSocket<T>) -> Result<(),
     tell_read(log, &read)
 }
 
-/// Takes a message off, if one is there to its end.
-fn skip<T>(log: &mut String, link: &mut BufferedSocket<T>) -> Result<(), Fail> {
-    if link.front().is_none() {
+/// Takes a message off, with so many tokens, if it is there to its end and they are there.
+fn skip<T>(log: &mut String, link: &mut BufferedSocket<T>, tokens: usize) -> Result<(), Fail> {
+    if link.front().is_none() || link.received_tokens().len() < tokens {
         return Ok(writeln!(log, "skip: none")?);
     }
-    link.skip_message();
+    link.skip_message(tokens);
     Ok(writeln!(log, "skip: done")?)
 }
 
@@ -316,7 +316,7 @@ fn perform<T: Transport + Record>(
         Act::Fill => fill(log, link),
         Act::Read => read(log, link),
         Act::ReadUnknown => read_unknown(log, link),
-        Act::Skip => skip(log, link),
+        Act::Skip(tokens) => skip(log, link, tokens),
         Act::FillEach(count) => fill_each(link, count),
         Act::FillAndRead(count) => fill_and_read_each(log, link, count),
         Act::SetLimit(bytes) => {

@@ -4,6 +4,7 @@ use super::violations::violation;
 use server_test_kit::steps::{Call, Made, arrive, steps};
 use server_test_kit::told::{action, done, object, reply};
 use server_test_kit::values::{Event, FIRST, Named, Shown, Thing, Who, message};
+use smallvec::SmallVec;
 use std::alloc::Global;
 use std::fmt::{Display, Write};
 use std::test::Fail;
@@ -12,7 +13,7 @@ use test_kit::log::row_tells;
 use test_kit::quad::{QUAD, messages, plain, push_interface, quad_table};
 use wl_link::Memory;
 use wl_server::{Action, ActionError, Backend, ClientId, Flushed, ObjectId, Reading, Reply};
-use wl_wire::{InterfaceId, IoFault};
+use wl_wire::{Argument, InterfaceId, IoFault};
 
 /// A server of the runs.
 pub type Server = Backend<Memory, u32, Shown, bool>;
@@ -477,26 +478,42 @@ fn unread() -> Action {
     }
 }
 
-/// Whether it is still that action.
-fn is_unread(given: &Action) -> bool {
-    matches!(given, Action::Bind { global, .. } if global.name() == 99)
+/// A request of no object, with an argument.
+fn one_of_an_argument(alloc: Global) -> Result<Action, Fail> {
+    let mut args = SmallVec::new(alloc);
+    args.push(Argument::Uint(99))?;
+    Ok(Action::Request {
+        sender: ObjectId::null(),
+        opcode: 0,
+        args,
+        is_destructor: false,
+        created: None,
+    })
 }
 
-/// The answer of a call by value of which this is the answer, if the action is as it was after an error.
+/// Whether it has no arguments.
+fn has_none(given: &Action) -> bool {
+    match given {
+        Action::Request { args, .. } => args.is_empty(),
+        Action::Bind { .. } | Action::Registry { .. } => true,
+    }
+}
+
+/// The answer of a call by value of which this is the answer, if the action has no arguments after an error.
 fn answer_with(
     answer: Result<(), ActionError>,
     given: Action,
 ) -> Result<Result<Action, ActionError>, Fail> {
     match answer {
         Ok(()) => Ok(Ok(given)),
-        Err(error) if is_unread(&given) => Ok(Err(error)),
-        Err(_) => Err(Fail::new("a refused reading changed the action")),
+        Err(error) if has_none(&given) => Ok(Err(error)),
+        Err(_) => Err(Fail::new("a refused reading left arguments")),
     }
 }
 
 /// Reads into an action, and tells it as a reading does.
-fn next_into(server: &mut Server, log: &mut String, who: Who) -> Result<(), Fail> {
-    let mut given = unread();
+fn next_into(alloc: Global, server: &mut Server, log: &mut String, who: Who) -> Result<(), Fail> {
+    let mut given = one_of_an_argument(alloc)?;
     let answer = server.next_action_into(&who.id(), &mut given);
     reply(log, &Reply::NextAction(answer_with(answer, given)?))
 }
@@ -618,7 +635,7 @@ fn make_beside(
 ) -> Result<(), Fail> {
     let answer = match call {
         Beside::SendLent(event) => send_lent(alloc, server, log, event),
-        Beside::NextInto(who) => next_into(server, log, who),
+        Beside::NextInto(who) => next_into(alloc, server, log, who),
         Beside::NextTwoInto(who, user_data) => next_two_into(server, log, who, user_data),
         Beside::NextWithinInto(who, turns_left) => next_within_into(server, log, who, turns_left),
         Beside::FinishReturning(who, given) => finish_returning(server, log, who, given),

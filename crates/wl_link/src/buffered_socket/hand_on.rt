@@ -58,6 +58,13 @@ impl<T> BufferedSocket<T> {
         self.incoming.bytes()
     }
 
+    /// The tokens that were received and not read yet.
+    pub fn received_tokens(&self) -> &VecDeque<Token>
+        ensures { result.now.items ≡ self.now.incoming.tokens }
+    {
+        &self.tokens_in
+    }
+
     /// The bytes of the first message that was received, if it is there to its end.
     pub fn front(&self) -> Option<&[u8]>
         ensures { MatchOption result (¬ (IsWhole self.now.incoming.bytes))

@@ -1,11 +1,12 @@
 //! The calls that read the next action of a client, by value or into an action that the program lends.
 
-ghost use Rattle.std.specs.Prelude.{◌≡◌, Ok, OnErr};
+ghost use Rattle.std.specs.Prelude.{◌≡◌, [], Ok, OnErr};
 ghost use Rattle.std.specs.Result.{result_and};
 ghost use Rattle.wl_server_model.specs.Backend.{Calls};
 ghost use Rattle.wl_server_model.specs.Cutting.{CallIsCut};
 ghost use Rattle.wl_server_model.specs.PartStep.{Asked, over};
 ghost use Rattle.wl_server_model.specs.Plain.Reading.{ReadsClient, ReadsWithin};
+ghost use Rattle.wl_server_client.specs.Deeds.{arguments_in};
 ghost use Rattle.wl_server_client.specs.Reading.{new_reading};
 ghost use Rattle.wl_server_model.specs.ReadingEnds.{EndsForAReason};
 ghost use Rattle.wl_server_model.specs.Room.{HasRoom};
@@ -94,7 +95,7 @@ impl<T: Transport + Drop, U: Drop, G: GlobalHandler<C> + Drop, C: Drop> Backend<
     /// Reads the next action of the client into `action`, as `next_action` answers it. What was there is dropped. A program
     /// that keeps one action hands it in again and again.
     ///
-    /// The errors are those of `next_action`. After an error `action` is as it was.
+    /// The errors are those of `next_action`. After an error `action` has no arguments.
     pub fn next_action_into(
         &mut self,
         id: &ClientId,
@@ -105,7 +106,7 @@ impl<T: Transport + Drop, U: Drop, G: GlobalHandler<C> + Drop, C: Drop> Backend<
         ensures reason { (left : ReadingOf) × EndsForAReason (over T.sends T.receives G.views) self.old id.now new_reading (result_and result (Ok action.new)) left self.new }
         ensures cutting { CallIsCut (over T.sends T.receives G.views) self.old.server (Asked (step.NextAction id.now) (reply.NextAction (result_and result (Ok action.new)))) self.new.refused self.new.server }
         ensures room { HasRoom (over T.sends T.receives G.views) self.old.server (Asked (step.NextAction id.now) (reply.NextAction (result_and result (Ok action.new)))) self.new.server }
-        ensures kept { OnErr result (action.new ≡ action.old) }
+        ensures empty { OnErr result (arguments_in action.new ≡ []) }
     {
         let mut reading = Reading::new();
         self.read_client(id, &mut reading, action)
@@ -113,7 +114,7 @@ impl<T: Transport + Drop, U: Drop, G: GlobalHandler<C> + Drop, C: Drop> Backend<
 
     /// Reads the next action of the client into `action`, as `next_action_within` answers it. What was there is dropped.
     ///
-    /// The errors are those of `next_action`. After an error `action` is as it was.
+    /// The errors are those of `next_action`. After an error `action` has no arguments.
     pub fn next_action_within_into(
         &mut self,
         id: &ClientId,
@@ -125,12 +126,12 @@ impl<T: Transport + Drop, U: Drop, G: GlobalHandler<C> + Drop, C: Drop> Backend<
         ensures reason { EndsForAReason (over T.sends T.receives G.views) self.old id.now reading.old (result_and result (Ok action.new)) reading.new self.new }
         ensures cutting { CallIsCut (over T.sends T.receives G.views) self.old.server (Asked (step.NextActionWithin id.now reading.old) (reply.NextActionWithin (result_and result (Ok action.new)) reading.new)) self.new.refused self.new.server }
         ensures room { HasRoom (over T.sends T.receives G.views) self.old.server (Asked (step.NextActionWithin id.now reading.old) (reply.NextActionWithin (result_and result (Ok action.new)) reading.new)) self.new.server }
-        ensures kept { OnErr result (action.new ≡ action.old) }
+        ensures empty { OnErr result (arguments_in action.new ≡ []) }
     {
         self.read_client(id, reading, action)
     }
 
-    /// Reads the client into `action`. After an error `action` is as it was.
+    /// Reads the client into `action`. After an error `action` has no arguments.
     fn read_client(
         &mut self,
         id: &ClientId,
@@ -141,10 +142,11 @@ impl<T: Transport + Drop, U: Drop, G: GlobalHandler<C> + Drop, C: Drop> Backend<
             → Calls (over T.sends T.receives G.views) self.old (step.NextAction id.now) (reply.NextAction (result_and result (Ok action.new))) self.new }
         ensures within { Calls (over T.sends T.receives G.views) self.old (step.NextActionWithin id.now reading.old)
             (reply.NextActionWithin (result_and result (Ok action.new)) reading.new) self.new }
-        ensures kept { OnErr result (action.new ≡ action.old) }
+        ensures empty { OnErr result (arguments_in action.new ≡ []) }
     {
         self.refused = false;
         let Some(client) = stored_mut(&mut self.clients, &mut self.touched, id) else {
+            action.drop_arguments();
             return Err(ActionError::Io(IoFault::InvalidInput));
         };
         let around = Surroundings {
@@ -162,6 +164,10 @@ impl<T: Transport + Drop, U: Drop, G: GlobalHandler<C> + Drop, C: Drop> Backend<
             action,
         );
         self.refused = refused;
-        answer
+        let Err(error) = answer else {
+            return Ok(());
+        };
+        action.drop_arguments();
+        Err(error)
     }
 }

@@ -1,7 +1,7 @@
 //! What a reading hands out, how much it may read, and what became of a message.
 
 ghost use Rattle.std.specs.Prelude.{◌≡◌, ◌≤◌, []};
-ghost use Rattle.wl_server_client.specs.Deeds.{handed};
+ghost use Rattle.wl_server_client.specs.Deeds.{arguments_in, handed};
 ghost use Rattle.wl_server_client.specs.Inside.ReadingLoop.{found_with};
 ghost use Rattle.wl_server_client.specs.Reading.{new_reading};
 
@@ -144,6 +144,15 @@ impl Action {
             args: SmallVec::new(alloc),
             is_destructor: false,
             created: None,
+        }
+    }
+
+    /// Drops the arguments of a request. An action of another kind stays.
+    pub fn drop_arguments(&mut self)
+        ensures { arguments_in self.new ≡ [] }
+    {
+        if let Action::Request { args, .. } = self {
+            args.clear();
         }
     }
 }

@@ -128,7 +128,7 @@ fn take_kind(progress: &mut Progress<'_>) -> bool
 }
 
 /// Takes the next interface that the table asks for off the list.
-fn take_asked(progress: &mut Progress<'_>) -> InterfaceId
+pub fn take_asked(progress: &mut Progress<'_>) -> InterfaceId
     ensures next { result ≡ next_interface progress.old.asked.now }
     ensures rest { progress.new.asked.now ≡ rest_of progress.old.asked.now }
     ensures kinds { progress.new.kinds.now ≡ progress.old.kinds.now }

@@ -1,6 +1,6 @@
 //! Finds the next action of a client: handles messages, and receives more if no whole message waits.
 
-ghost use Rattle.std.specs.Prelude.{◌≡◌, ◌≤◌, MatchOption, Ok, OnErr, Some, option_map};
+ghost use Rattle.std.specs.Prelude.{◌≤◌, Ok, Some, option_map};
 ghost use Rattle.std.specs.Result.{result_and};
 ghost use Rattle.wl_server_client.specs.Deeds.{handed};
 ghost use Rattle.wl_server_client.specs.NoteTimes.{IsNumbered, NotesInTime};
@@ -21,7 +21,7 @@ use wl_wire::{INLINE_ARGS, IoFault, Message, Token};
 impl<T: Transport + Drop, U: Drop, C: Drop> Client<T, U, C> {
     /// Reads the messages that wait, one after another, and does what each asks for. Returns `None` when no whole message
     /// waits any more. Returns `Some` when the reading is over: `Ok` if there is an action, or else the reason why there is
-    /// none. The action is then in `action`; else that is as it was. Each message is read into `message`.
+    /// none. The action is then in `action`; else what is in it is not said. Each message is read into `message`.
     fn handle_waiting<G: GlobalHandler<C> + Drop>(
         &mut self,
         numbers: &mut NoteNumbers,
@@ -33,7 +33,6 @@ impl<T: Transport + Drop, U: Drop, C: Drop> Client<T, U, C> {
         requires live { Live self.old.part }
         requires place { INLINE_ARGS ≤ message.old.args.capacity }
         ensures waited { Waited T.sends T.receives (around_of G.views around.now) self.old reading.old (option_map (λ r. result_and r (Ok (handed action.new))) result) self.new reading.new }
-        ensures kept { MatchOption result (action.new ≡ action.old) (λ r. OnErr r (action.new ≡ action.old)) }
         ensures place { INLINE_ARGS ≤ message.new.args.capacity }
         ensures in_time { NotesInTime self.old.times numbers.old self.new.times numbers.new }
         ensures numbered { IsNumbered (Some self.old) → IsNumbered (Some self.new) }
@@ -80,7 +79,7 @@ impl<T: Transport + Drop, U: Drop, C: Drop> Client<T, U, C> {
     }
 
     /// Handles the messages that wait, and receives when no whole one is left, until there is an action or a reason why
-    /// there is none. The action is then in `action`; else that is as it was. Each message is read into `message`.
+    /// there is none. The action is then in `action`; else what is in it is not said. Each message is read into `message`.
     fn read<G: GlobalHandler<C> + Drop>(
         &mut self,
         numbers: &mut NoteNumbers,
@@ -92,7 +91,6 @@ impl<T: Transport + Drop, U: Drop, C: Drop> Client<T, U, C> {
         requires live { Live self.old.part }
         requires place { INLINE_ARGS ≤ message.old.args.capacity }
         ensures ends { EndsAs T.sends T.receives (around_of G.views around.now) self.old reading.old (result_and result (Ok (handed action.new))) self.new reading.new }
-        ensures kept { OnErr result (action.new ≡ action.old) }
         ensures place { INLINE_ARGS ≤ message.new.args.capacity }
         ensures in_time { NotesInTime self.old.times numbers.old self.new.times numbers.new }
         ensures numbered { IsNumbered (Some self.old) → IsNumbered (Some self.new) }
@@ -117,7 +115,7 @@ impl<T: Transport + Drop, U: Drop, C: Drop> Client<T, U, C> {
     }
 
     /// Finds the next action of the client, if none is open and the client was not killed. The action is then in `action`,
-    /// and stays open until it is finished; after an error `action` is as it was. Also returns whether memory ran out.
+    /// and stays open until it is finished; after an error what is in `action` is not said. Also returns whether memory ran out.
     pub fn find_action<G: GlobalHandler<C> + Drop>(
         &mut self,
         numbers: &mut NoteNumbers,
@@ -127,7 +125,6 @@ impl<T: Transport + Drop, U: Drop, C: Drop> Client<T, U, C> {
         action: &mut Action,
     ) -> (Result<(), ActionError>, bool)
         ensures does { Does self.old (λ p did q. NextAction T.sends T.receives (around_of G.views around.now) reading.old p (action_content (result_and result.0 (Ok action.new))) reading.new result.1 did q) self.new }
-        ensures kept { OnErr result.0 (action.new ≡ action.old) }
         ensures in_time { NotesInTime self.old.times numbers.old self.new.times numbers.new }
         ensures numbered { IsNumbered (Some self.old) → IsNumbered (Some self.new) }
     {

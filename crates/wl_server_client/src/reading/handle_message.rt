@@ -1,6 +1,6 @@
 //! Takes the message at the front of the incoming buffer, and handles it.
 
-ghost use Rattle.std.specs.Prelude.{◌≡◌, ◌≢◌, ◌≤◌, ◌<◌, List, [], true, Some, length, vec_len, vec_capacity, IfOk, OnErr, OnOk};
+ghost use Rattle.std.specs.Prelude.{◌≡◌, ◌≤◌, ◌<◌, List, [], true, Some, length, vec_len, vec_capacity, IfOk, OnErr, OnOk};
 ghost use Rattle.wl_wire.specs.MessageRows.{creates};
 ghost use Rattle.wl_wire.specs.Parse.{IsThere};
 ghost use Rattle.wl_wire.specs.Table.{message_row};
@@ -12,7 +12,6 @@ ghost use Rattle.wl_server_client.specs.NoteTimes.{IsNumbered, NotesInTime};
 ghost use Rattle.wl_server_client.specs.Reading.{row_asks};
 ghost use Rattle.wl_server_client.specs.Telling.{core_of};
 ghost use Rattle.wl_server_client.specs.declared.reading.action.Found.{Found as FoundOf};
-ghost use Rattle.wl_server_client.specs.declared.reading.action.MessageEnd.TheVariants as came;
 ghost use Rattle.wl_server_client.specs.declared.reading.action.Reading.{Reading as ReadingOf};
 ghost use Rattle.wl_server_client.specs.Inside.Responses.{HasNames, IsOther, TookRequest, addressed_by, response_to};
 ghost use Rattle.wl_server_client.specs.Inside.ReadingLoop.{HandlesMessage, IsFront, IsHandled, Live, NotTaken, around_of, found_with, message_result};
@@ -100,7 +99,7 @@ fn take_request<'p, 'm, T: Drop, U: Drop, G: GlobalHandler<C> + Drop, C>(
 
 impl<T: Transport + Drop, U: Drop, C: Drop> Client<T, U, C> {
     /// Takes the message at the front off the incoming buffer, and handles it. `message` is the place that it is read
-    /// into. An action that is handed out is in `action` then; else that is as it was.
+    /// into. An action that is handed out is in `action` then; else what is in it is not said.
     pub fn handle_message<G: GlobalHandler<C> + Drop>(
         &mut self,
         numbers: &mut NoteNumbers,
@@ -112,7 +111,6 @@ impl<T: Transport + Drop, U: Drop, C: Drop> Client<T, U, C> {
         requires live { Live self.old.part }
         requires place { INLINE_ARGS ≤ message.old.args.capacity }
         ensures handles { HandlesMessage T.sends T.receives (around_of G.views around.now) self.old reading.old (message_result result (handed action.new)) self.new reading.new }
-        ensures kept { result ≢ came.HandsOut → action.new ≡ action.old }
         ensures place { INLINE_ARGS ≤ message.new.args.capacity }
         ensures in_time { NotesInTime self.old.times numbers.old self.new.times numbers.new }
         ensures numbered { IsNumbered (Some self.old) → IsNumbered (Some self.new) }
@@ -140,7 +138,6 @@ impl<T: Transport + Drop, U: Drop, C: Drop> Client<T, U, C> {
         requires front { IsFront around.now.protocol.now self.old.part.store self.old.part.link front.now }
         requires place { INLINE_ARGS ≤ message.old.args.capacity }
         ensures handles { HandlesMessage T.sends T.receives (around_of G.views around.now) self.old reading.old (message_result result (handed action.new)) self.new reading.new }
-        ensures kept { result ≢ came.HandsOut → action.new ≡ action.old }
         ensures place { INLINE_ARGS ≤ message.new.args.capacity }
         ensures in_time { NotesInTime self.old.times numbers.old self.new.times numbers.new }
         ensures numbered { IsNumbered (Some self.old) → IsNumbered (Some self.new) }
@@ -172,7 +169,6 @@ impl<T: Transport + Drop, U: Drop, C: Drop> Client<T, U, C> {
         requires front { IsFront around.now.protocol.now self.old.part.store self.old.part.link front.now }
         requires place { INLINE_ARGS ≤ message.old.args.capacity }
         ensures handles { HandlesMessage T.sends T.receives (around_of G.views around.now) self.old reading.old (message_result result (handed action.new)) self.new reading.new }
-        ensures kept { result ≢ came.HandsOut → action.new ≡ action.old }
         ensures place { INLINE_ARGS ≤ message.new.args.capacity }
         ensures in_time { NotesInTime self.old.times numbers.old self.new.times numbers.new }
         ensures numbered { IsNumbered (Some self.old) → IsNumbered (Some self.new) }

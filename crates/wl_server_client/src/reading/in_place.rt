@@ -7,15 +7,14 @@ ghost use Rattle.wl_server_client.specs.Deeds.{handed};
 ghost use Rattle.wl_server_client.specs.NoteTimes.{IsNumbered};
 ghost use Rattle.wl_server_client.specs.Inside.ReadingLoop.{Acts, HandlesMessage, IsFront, Live, around_of};
 ghost use Rattle.wl_server_client.specs.Inside.Conversion.{objects_of};
-ghost use Rattle.wl_server_client.specs.Inside.InPlace.{IsPut};
-ghost use Rattle.wl_server_client.specs.Inside.Words.{MayStand};
+ghost use Rattle.wl_server_client.specs.Inside.InPlace.{IsPut, MayStand};
 
-/// The arguments of a request in place: words, strings and arrays, or one new object.
+/// The arguments of a request in place, read and named in one pass.
 pub mod arguments;
+/// The numbers in them, and the ids that they become.
+pub mod naming;
 /// Answers a `wl_display.sync` where it stands.
 pub mod sync;
-/// The arguments that are words: numbers, and the ids of objects that are there.
-pub mod words;
 
 use crate::client::Client;
 use crate::globals::handler::GlobalHandler;
@@ -27,18 +26,17 @@ use crate::reading::action::{Action, Reading};
 use crate::reading::front_request::FrontRequest;
 use crate::reading::in_place::arguments::put_arguments;
 use wl_link::{BufferedSocket, Transport};
-use wl_wire::{Args, INLINE_ARGS, WL_DISPLAY_INTERFACE, WL_REGISTRY_INTERFACE};
+use wl_wire::{Args, WL_DISPLAY_INTERFACE, WL_REGISTRY_INTERFACE};
 
-/// Whether this request may be handed out where it stands: those to displays and registries are answered, those that the
-/// object's version does not have are refused, and more than four arguments need memory.
+/// Whether this request may be handed out where it stands: those to displays and registries are answered, and those that the
+/// object's version does not have are refused.
 fn may_stand(front: &FrontRequest<'_>) -> bool
     ensures { IsTrue result → MayStand (message_row front.now.desc.now) front.now.sender }
 {
     let sender = front.sender;
-    let desc = front.desc;
     let is_answered = sender.interface == WL_DISPLAY_INTERFACE
         || sender.interface == WL_REGISTRY_INTERFACE;
-    !is_answered && sender.version >= desc.since && desc.signature.len() <= INLINE_ARGS
+    !is_answered && sender.version >= front.desc.since
 }
 
 /// The bytes of the arguments of the request at the front, if it is complete and may be handed out where it stands.
@@ -56,9 +54,9 @@ fn waiting_payload<'s, T: Drop>(
     Some(message.split_at(8).1)
 }
 
-/// Puts the arguments of the request at the front into `args`, and makes the object that it makes. Returns that object. The
-/// outer `None` says that the request cannot be handed out where it stands; so it is with one that passes the limit of objects.
-/// Then nothing is changed.
+/// Puts the arguments of the request at the front into `args`, and makes the object that it makes. Returns that object, and how
+/// many tokens are the request's. `None` says that the request cannot be handed out where it stands; so it is with one that passes
+/// the limit of objects. Then no object is made, and what is in `args` is not said.
 #[inline(always)]
 fn put_waiting<T: Drop, U: Drop>(
     client: ClientId,
@@ -67,9 +65,9 @@ fn put_waiting<T: Drop, U: Drop>(
     socket: &BufferedSocket<T>,
     front: &FrontRequest<'_>,
     args: &mut Args<ObjectId>,
-) -> Option<Option<ObjectId>>
-    ensures put { MatchOption result ((objects_of objects.new ≡ objects_of objects.old) × (args.new ≡ args.old))
-        (λ created. IsPut client limit (objects_of objects.old) socket.now front.now (objects_of objects.new) args.new.items created) }
+) -> Option<(Option<ObjectId>, usize)>
+    ensures put { MatchOption result (objects_of objects.new ≡ objects_of objects.old)
+        (λ x. IsPut client limit (objects_of objects.old) socket.now front.now (objects_of objects.new) args.new.items x.0 x.1) }
     ensures registries { objects.new.registries ≡ objects.old.registries }
 {
     let payload = waiting_payload(socket, front)?;
@@ -80,14 +78,15 @@ fn put_waiting<T: Drop, U: Drop>(
         front.desc,
         objects,
         payload,
+        socket.received_tokens(),
         args,
     )
 }
 
 impl<T: Transport + Drop, U: Drop, C: Drop> Client<T, U, C> {
     /// Hands the request at the front out into `action`. It does so only if `action` is a request too, and the request at the
-    /// front is complete, has at most four arguments and no descriptor, and makes no object or has the new id as its one
-    /// argument. Returns whether it did. If not, nothing is changed.
+    /// front is complete, with its descriptors, nothing is wrong with it, and there is memory for it. Returns whether it did. If not,
+    /// nothing is changed but the arguments of `action`.
     #[inline(always)]
     pub fn hand_out_in_place<G: GlobalHandler<C> + Drop>(
         &mut self,
@@ -100,7 +99,7 @@ impl<T: Transport + Drop, U: Drop, C: Drop> Client<T, U, C> {
         requires front { IsFront around.now.protocol.now self.old.part.store self.old.part.link front.now }
         ensures handles { MatchBool result
             (HandlesMessage T.sends T.receives (around_of G.views around.now) self.old reading.old (Acts (handed action.new)) self.new reading.new)
-            ((self.new ≡ self.old) × (reading.new ≡ reading.old) × (action.new ≡ action.old)) }
+            ((self.new ≡ self.old) × (reading.new ≡ reading.old)) }
         ensures times { self.new.times ≡ self.old.times }
         ensures numbered { IsNumbered (Some self.old) → IsNumbered (Some self.new) }
     {
@@ -122,14 +121,14 @@ impl<T: Transport + Drop, U: Drop, C: Drop> Client<T, U, C> {
             front,
             args,
         );
-        let Some(made) = put else {
+        let Some((made, tokens)) = put else {
             return false;
         };
         let kept = front.sender;
         let id = ObjectId::from_parts(front.number, kept.serial, around.client, kept.interface);
         self.action
             .open_request(id, front.desc.is_destructor, &made);
-        self.socket.skip_message();
+        self.socket.skip_message(tokens);
         reading.read = reading.read.saturating_add(1);
         *sender = id;
         *opcode = front.opcode;

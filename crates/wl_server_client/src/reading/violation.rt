@@ -10,10 +10,12 @@ ghost use Rattle.wl_server_client.specs.Violations.{misread, rest_after};
 
 use crate::objects::Kept;
 use crate::reading::front_request::find_request;
-use crate::reading::in_place::arguments::{read_counted, read_word};
 use crate::reading::response::RequestFault;
 use wl_link::{BufferedSocket, ObjectMap};
-use wl_wire::{ANONYMOUS_INTERFACE, ArgumentType, InterfaceId, Protocol, message_header};
+use wl_wire::{
+    ANONYMOUS_INTERFACE, ArgumentType, InterfaceId, Protocol, message_header, read_counted,
+    read_word,
+};
 
 /// What was wrong with a message for which a client was killed. The arguments count from 0.
 ///

@@ -8,8 +8,8 @@ use Rattle.std.specs.Prelude.{codes, ℕ}
 use Rattle.wl_wire.specs.declared.error.IoFault.{IoFault}
 use Rattle.wl_wire.specs.Message.{word, piece, spelling}
 use Rattle.wl_wire.specs.Parse.{ReadsMessage, sender_of, second_word}
-use Rattle.wl_wire.specs.Inside.Cursor.{argument_at, arguments_at}
-use Rattle.wl_wire.specs.Pieces.{word_at, counted_at, text_of}
+use Rattle.wl_wire.specs.Inside.Cursor.{arguments_at}
+use Rattle.wl_wire.specs.Pieces.{word_at, counted_at, text_of, argument_at}
 use Rattle.wl_wire.proofs.Spelling.CursorLaws.{arguments_read}
 use Rattle.wl_link.specs.Exchange.{Queue, Sending, nothing}
 use Rattle.wl_link.specs.Link.{FlushedBy, Grown, LinkState, Wants, WroteBy, needed}

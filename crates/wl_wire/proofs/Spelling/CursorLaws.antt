@@ -17,8 +17,8 @@ use Rattle.wl_wire.specs.Argument.{WireArgument, kind_of, type_of}
 use Rattle.wl_wire.specs.Message.{pad_len, token, tokens}
 use Rattle.wl_wire.specs.Reading.{IsWord, IsCounted, IsPiece, Reads}
 use Rattle.wl_wire.specs.Parse.{is_fd, fd_count}
-use Rattle.wl_wire.specs.Inside.Cursor.{argument_at, arguments_at}
-use Rattle.wl_wire.specs.Pieces.{◌>>=◌, word_at, counted_at, front, is_no_text, text_of}
+use Rattle.wl_wire.specs.Inside.Cursor.{arguments_at}
+use Rattle.wl_wire.specs.Pieces.{◌>>=◌, word_at, counted_at, front, is_no_text, text_of, argument_at}
 
 -- ---- steps that may find nothing
 

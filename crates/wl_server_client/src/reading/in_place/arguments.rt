@@ -1,275 +1,256 @@
-//! The arguments of a request that is handed out where it stands, if they are not all words: strings and arrays, or one new
-//! object. All else is left to the general way, which also says what is wrong with a request.
+//! The arguments of a request that is handed out where it stands: each is read, checked and named in one pass, from left to right. A
+//! request with something wrong, or without memory for it, is left to the general way, which says what it is.
 
-ghost use Rattle.std.specs.Prelude.{◌≡◌, ◌≤◌, ◌+◌, [], ◌∷◌, false, true, IfSome, IsTrue, List, MatchBool, MatchOption, None, Some, length, option_map};
-ghost use Rattle.wl_wire.specs.declared.argument.Argument.TheVariants as argument;
+ghost use Rattle.std.specs.Prelude.{◌≡◌, ℕ, ◌≤◌, ◌+◌, [], IfSome, List, MatchOption, Some, drop, length};
+ghost use Rattle.std.specs.VecDeque.{deque_len};
+ghost use Rattle.smallvec.specs.SmallVec.{HasRoomFor};
 ghost use Rattle.wl_wire.specs.declared.argument.ArgumentType.TheVariants as kind;
 ghost use Rattle.wl_wire.specs.declared.argument.Token.{Token as WireToken};
-ghost use Rattle.wl_wire.specs.Pieces.{counted_at, text_of, word_at};
-ghost use Rattle.wl_wire.specs.MessageRows.{next_interface};
 ghost use Rattle.wl_wire.specs.Table.{message_row};
-ghost use Rattle.wl_server_client.specs.Inside.Conversion.{MakesObject, objects_of};
-ghost use Rattle.wl_server_client.specs.Inside.InPlace.{HandsOut, array_front, front_of, fronts, text_front, word_front};
-ghost use Rattle.wl_server_client.specs.Inside.Words.{first_word};
-ghost use Rattle.wl_server_client.specs.Limited.{is_above};
+ghost use Rattle.wl_server_client.specs.Inside.Conversion.{objects_of};
+ghost use Rattle.wl_server_client.specs.Inside.InPlace.{HandsOut, IsMade, IsPlainNumber, PutsNext, converting, named};
 
 use crate::ids::client_id::ClientId;
 use crate::ids::object_id::ObjectId;
-use crate::objects::{ClientObjects, Kept};
-use crate::reading::arguments::insert_object;
-use crate::reading::in_place::words::{
-    asked_after, empty, first_word, handed_word, put_words, word_fits, words_fit,
-};
-use crate::reading::limit::is_above;
-use smallvec::SmallVec;
-use std::alloc::Global;
-use wl_link::ObjectMap;
+use crate::objects::ClientObjects;
+use crate::reading::arguments::{Progress, insert_object, take_asked};
+use crate::reading::in_place::naming::{Naming, new_id, object_id};
+use std::collections::VecDeque;
 use wl_wire::{
-    Args, Argument, ArgumentType, ByteArray, CString, INLINE_ARGS, InterfaceId, MessageDesc, Token,
+    AllowNull, Args, Argument, ArgumentType, INLINE_ARGS, MessageDesc, Token, read_array,
+    read_text, read_word,
 };
 
-/// An argument that is handed out, and the bytes behind it.
-type Front<'b> = (Argument<ObjectId, Token>, &'b [u8]);
-
-/// The word at the front, and the bytes after it. `None` if there are fewer than four bytes.
-#[tactic(auto, unfolding(wl_wire::specs::Pieces::word_at))]
-pub fn read_word(bytes: &[u8]) -> Option<(u32, &[u8])>
-    ensures { option_map (λ x. (x.0, x.1.now)) result ≡ word_at bytes.now }
-{
-    if bytes.len() < 4 {
-        return None;
-    }
-    let (word, rest) = bytes.split_at(4);
-    Some((
-        u32::from_le_bytes([word[0], word[1], word[2], word[3]]),
-        rest,
-    ))
-}
-
-/// The counted bytes at the front, and what follows their padding. `None` if they are not complete.
-#[tactic(auto, unfolding(wl_wire::specs::Pieces::counted_at))]
-pub fn read_counted(bytes: &[u8]) -> Option<(&[u8], &[u8])>
-    ensures { option_map (λ x. (x.0.now, x.1.now)) result ≡ counted_at bytes.now }
-{
-    let (count, rest) = read_word(bytes)?;
-    let count = count as usize;
-    let padded = count + (4 - count % 4) % 4;
-    if rest.len() < padded {
-        return None;
-    }
-    Some((&rest[..count], &rest[padded..]))
-}
-
-/// A copy of the string in the counted bytes, without the zero that ends it. No bytes at all are null (`Some(None)`). The
-/// outer `None` says that the bytes are no string, or that there is no memory.
-#[tactic(auto, unfolding(wl_wire::specs::Pieces::text_of))]
-fn copied_text(alloc: Global, bytes: &[u8]) -> Option<Option<CString>>
-    ensures { IfSome result (λ text. text_of bytes.now ≡ Some text) }
-{
-    let Some((last, text)) = bytes.split_last() else {
-        return Some(None);
-    };
-    if *last != 0 {
-        return None;
-    }
-    let Ok(copy) = Vec::from_slice(alloc, text) else {
-        return None;
-    };
-    match CString::new(copy) {
-        Ok(text) => Some(Some(text)),
-        Err(_) => None,
-    }
-}
-
-/// The string at the front.
-fn text_front(alloc: Global, bytes: &[u8]) -> Option<Front<'_>>
-    ensures { IfSome result (λ x. text_front bytes.now ≡ Some (x.0, x.1.now)) }
-{
-    let (counted, rest) = read_counted(bytes)?;
-    let text = copied_text(alloc, counted)?;
-    Some((Argument::Str(text), rest))
-}
-
-/// The array at the front.
-fn array_front(alloc: Global, bytes: &[u8]) -> Option<Front<'_>>
-    ensures { IfSome result (λ x. array_front bytes.now ≡ Some (x.0, x.1.now)) }
-{
-    let (counted, rest) = read_counted(bytes)?;
-    let Ok(copy) = Vec::from_slice(alloc, counted) else {
-        return None;
-    };
-    Some((Argument::Array(ByteArray::new(copy)), rest))
-}
-
-/// The word at the front, if it may stand for an argument of this type.
-fn word_front<'b, U: Drop>(
-    client: ClientId,
-    objects: &ObjectMap<Kept<U>>,
+/// Puts an integer or a fixed-point number behind the arguments that are there. Returns the bytes after it.
+#[inline(always)]
+#[tactic(auto, unfolding(wl_wire::specs::Pieces::argument_at))]
+fn put_number<'b, U: Drop>(
+    naming: &Naming<'_, U>,
+    progress: &Progress<'_>,
     kind: ArgumentType,
-    asked: &[InterfaceId],
     bytes: &'b [u8],
-) -> Option<Front<'b>>
-    ensures { IfSome result (λ x. word_front client objects.now.store kind (next_interface asked.now) bytes.now ≡ Some (x.0, x.1.now)) }
+    args: &mut Args<ObjectId>,
+) -> Option<&'b [u8]>
+    requires number { IsPlainNumber kind }
+    requires room { HasRoomFor args.old 1 }
+    ensures put { (fds : List WireToken) → IfSome result (λ rest. PutsNext naming.now progress.now args.old.items kind bytes.now fds progress.now args.new.items rest.now fds) }
+    ensures one { IfSome result (λ _. length args.new.items ≡ length args.old.items + 1) }
+    ensures capacity { args.new.capacity ≡ args.old.capacity }
 {
-    if bytes.len() < 4 || !word_fits(objects, kind, asked, first_word(bytes)) {
-        return None;
-    }
-    let arg = handed_word(client, objects, kind, first_word(bytes));
-    Some((arg, bytes.split_at(4).1))
-}
-
-/// The argument of this type at the front. `None` if it makes an object or is a descriptor, if it is wrong, or if there is no
-/// memory for it.
-fn front_of<'b, U: Drop>(
-    client: ClientId,
-    objects: &ObjectMap<Kept<U>>,
-    kind: ArgumentType,
-    asked: &[InterfaceId],
-    bytes: &'b [u8],
-    alloc: Global,
-) -> Option<Front<'b>>
-    ensures { IfSome result (λ x. front_of client objects.now.store kind (next_interface asked.now) bytes.now ≡ Some (x.0, x.1.now)) }
-{
+    let (word, rest) = read_word(bytes)?;
     match kind {
-        ArgumentType::Str(_) => text_front(alloc, bytes),
-        ArgumentType::Array => array_front(alloc, bytes),
-        ArgumentType::Int
-        | ArgumentType::Uint
-        | ArgumentType::Fixed
-        | ArgumentType::Object(_)
-        | ArgumentType::NewId
-        | ArgumentType::Fd => word_front(client, objects, kind, asked, bytes),
+        ArgumentType::Int => args.push_reserved(Argument::Int(word.cast_signed())),
+        ArgumentType::Fixed => args.push_reserved(Argument::Fixed(word.cast_signed())),
+        _ => args.push_reserved(Argument::Uint(word)),
     }
+    Some(rest)
 }
 
-/// Puts the arguments of the request, of which there are at most four, behind those in `args`. Returns whether all could be
-/// put: none makes an object or is a descriptor, none is wrong, and there is memory for each.
-fn put_fronts<U: Drop>(
-    client: ClientId,
-    objects: &ObjectMap<Kept<U>>,
-    desc: &MessageDesc,
-    payload: &[u8],
+/// Puts the id of an object behind the arguments that are there. Returns the bytes after it.
+#[inline(always)]
+#[tactic(auto, unfolding(wl_wire::specs::Pieces::argument_at))]
+fn put_object<'b, U: Drop>(
+    naming: &Naming<'_, U>,
+    progress: &mut Progress<'_>,
+    null: AllowNull,
+    bytes: &'b [u8],
     args: &mut Args<ObjectId>,
-) -> bool
-    requires room { length args.old.items + length desc.now.signature.items ≤ args.old.capacity }
-    ensures put { IsTrue result → fronts client objects.now.store args.old.items desc.now.signature.items desc.now.arg_interfaces.items payload.now ≡ Some args.new.items }
+) -> Option<&'b [u8]>
+    requires made { IsMade naming.now progress.old }
+    requires room { HasRoomFor args.old 1 }
+    ensures put { (fds : List WireToken) → IfSome result (λ rest. PutsNext naming.now progress.old args.old.items (kind.Object null) bytes.now fds progress.new args.new.items rest.now fds) }
+    ensures made { IsMade naming.now progress.new }
+    ensures kinds { progress.new.kinds.now ≡ progress.old.kinds.now }
+    ensures one { IfSome result (λ _. length args.new.items ≡ length args.old.items + 1) }
     ensures capacity { args.new.capacity ≡ args.old.capacity }
 {
-    let alloc = *args.allocator();
-    let mut kinds = desc.signature.as_slice();
-    let mut asked = desc.arg_interfaces.as_slice();
-    let mut bytes = payload;
-    while let Some((kind, others)) = kinds.split_first() {
-        let Some((arg, rest)) = front_of(client, objects, *kind, asked, bytes, alloc) else {
-            return false;
-        };
-        args.push_reserved(arg);
-        kinds = others;
-        asked = asked_after(*kind, asked);
-        bytes = rest;
-    }
-    true
+    let (number, rest) = read_word(bytes)?;
+    let allows_null = matches!(null, AllowNull::Yes);
+    let asked = take_asked(progress);
+    let id = object_id(naming, &progress.created, allows_null, asked, number)?;
+    args.push_reserved(Argument::Object(id));
+    Some(rest)
 }
 
-/// Puts the arguments of the request, of which there are at most four, in place of those in `args`. Returns whether that could
-/// be done; if not, nothing is changed.
-fn put_each<U: Drop>(
-    client: ClientId,
-    objects: &ObjectMap<Kept<U>>,
-    desc: &MessageDesc,
-    payload: &[u8],
+/// Puts the id of a new object behind the arguments that are there. Returns the bytes after it.
+#[inline(always)]
+#[tactic(auto, unfolding(wl_wire::specs::Pieces::argument_at))]
+fn put_new_id<'b, U: Drop>(
+    naming: &Naming<'_, U>,
+    progress: &mut Progress<'_>,
+    bytes: &'b [u8],
     args: &mut Args<ObjectId>,
-) -> bool
-    requires few { length desc.now.signature.items ≤ INLINE_ARGS }
-    ensures put { MatchBool result
-        (fronts client objects.now.store [] desc.now.signature.items desc.now.arg_interfaces.items payload.now ≡ Some args.new.items)
-        (args.new ≡ args.old) }
-    ensures inline { INLINE_ARGS ≤ args.old.capacity → INLINE_ARGS ≤ args.new.capacity }
-{
-    // Those in `args` stay until there is memory for all.
-    let mut fresh = SmallVec::new(*args.allocator());
-    if !put_fronts(client, objects, desc, payload, &mut fresh) {
-        return false;
-    }
-    *args = fresh;
-    true
-}
-
-/// Makes the object of a request whose one argument is a new id, which may not be above the limit, and puts that in place of the
-/// arguments in `args`. Returns the object; if none is made, nothing is changed.
-fn put_new<U: Drop>(
-    client: ClientId,
-    limit: Option<u32>,
-    version: u32,
-    interface: InterfaceId,
-    objects: &mut ClientObjects<U>,
-    payload: &[u8],
-    args: &mut Args<ObjectId>,
-) -> Option<ObjectId>
-    ensures made { MatchOption result ((objects_of objects.new ≡ objects_of objects.old) × (args.new ≡ args.old))
-        (λ id. (4 ≤ length payload.now) × (is_above limit (first_word payload.now) ≡ false)
-        × MakesObject client (objects_of objects.old) interface version (first_word payload.now) (Some id) (objects_of objects.new)
-        × (args.new.items ≡ argument.NewId id ∷ [])) }
+) -> Option<&'b [u8]>
+    requires made { IsMade naming.now progress.old }
+    requires room { HasRoomFor args.old 1 }
+    ensures put { (fds : List WireToken) → IfSome result (λ rest. PutsNext naming.now progress.old args.old.items kind.NewId bytes.now fds progress.new args.new.items rest.now fds) }
+    ensures made { IsMade naming.now progress.new }
+    ensures kinds { progress.new.kinds.now ≡ progress.old.kinds.now }
+    ensures one { IfSome result (λ _. length args.new.items ≡ length args.old.items + 1) }
     ensures capacity { args.new.capacity ≡ args.old.capacity }
-    ensures registries { objects.new.registries ≡ objects.old.registries }
 {
-    if payload.len() < 4 || is_above(limit, first_word(payload)) {
-        return None;
-    }
-    let made = insert_object(client, objects, interface, version, first_word(payload));
-    let Ok(id) = made else {
+    let (number, rest) = read_word(bytes)?;
+    let id = new_id(naming, progress, number)?;
+    args.push_reserved(Argument::NewId(id));
+    Some(rest)
+}
+
+/// Puts a copy of a string, or null, behind the arguments that are there. Returns the bytes after it.
+///
+/// It is not inlined, so that it costs nothing for an argument that is a word.
+#[inline(never)]
+#[tactic(auto, unfolding(wl_wire::specs::Pieces::argument_at))]
+fn put_text<'b, U: Drop>(
+    naming: &Naming<'_, U>,
+    progress: &Progress<'_>,
+    null: AllowNull,
+    bytes: &'b [u8],
+    args: &mut Args<ObjectId>,
+) -> Option<&'b [u8]>
+    requires room { HasRoomFor args.old 1 }
+    ensures put { (fds : List WireToken) → IfSome result (λ rest. PutsNext naming.now progress.now args.old.items (kind.Str null) bytes.now fds progress.now args.new.items rest.now fds) }
+    ensures one { IfSome result (λ _. length args.new.items ≡ length args.old.items + 1) }
+    ensures capacity { args.new.capacity ≡ args.old.capacity }
+{
+    let Ok((text, rest)) = read_text(*args.allocator(), bytes) else {
         return None;
     };
-    // There is always room for one.
+    args.push_reserved(Argument::Str(text));
+    Some(rest)
+}
+
+/// Puts a copy of an array behind the arguments that are there. Returns the bytes after it.
+///
+/// It is not inlined, so that it costs nothing for an argument that is a word.
+#[inline(never)]
+#[tactic(auto, unfolding(wl_wire::specs::Pieces::argument_at))]
+fn put_array<'b, U: Drop>(
+    naming: &Naming<'_, U>,
+    progress: &Progress<'_>,
+    bytes: &'b [u8],
+    args: &mut Args<ObjectId>,
+) -> Option<&'b [u8]>
+    requires room { HasRoomFor args.old 1 }
+    ensures put { (fds : List WireToken) → IfSome result (λ rest. PutsNext naming.now progress.now args.old.items kind.Array bytes.now fds progress.now args.new.items rest.now fds) }
+    ensures one { IfSome result (λ _. length args.new.items ≡ length args.old.items + 1) }
+    ensures capacity { args.new.capacity ≡ args.old.capacity }
+{
+    let Ok((array, rest)) = read_array(*args.allocator(), bytes) else {
+        return None;
+    };
+    args.push_reserved(Argument::Array(array));
+    Some(rest)
+}
+
+/// Puts the token after the `used` ones behind the arguments that are there.
+#[tactic(auto, unfolding(wl_wire::specs::Pieces::argument_at))]
+fn put_token<U: Drop>(
+    naming: &Naming<'_, U>,
+    progress: &Progress<'_>,
+    tokens: &VecDeque<Token>,
+    used: usize,
+    args: &mut Args<ObjectId>,
+) -> Option<()>
+    requires room { HasRoomFor args.old 1 }
+    ensures put { (bytes : List ℕ) → IfSome result (λ _. PutsNext naming.now progress.now args.old.items kind.Fd bytes (drop used tokens.now.items)
+        progress.now args.new.items bytes (drop (used + 1) tokens.now.items)) }
+    ensures there { IfSome result (λ _. used + 1 ≤ deque_len tokens.now) }
+    ensures one { IfSome result (λ _. length args.new.items ≡ length args.old.items + 1) }
+    ensures capacity { args.new.capacity ≡ args.old.capacity }
+{
+    let token = *tokens.get(used)?;
+    args.push_reserved(Argument::Fd(token));
+    Some(())
+}
+
+/// Puts the argument of this type at the front of the bytes behind those that are there. Its type was taken off those that are
+/// left. Returns the bytes after it, and how many tokens are used then. `None` if it is wrong, or there is no memory for it.
+#[inline(always)]
+fn put_next<'b, U: Drop>(
+    naming: &Naming<'_, U>,
+    progress: &mut Progress<'_>,
+    kind: ArgumentType,
+    bytes: &'b [u8],
+    tokens: &VecDeque<Token>,
+    used: usize,
+    args: &mut Args<ObjectId>,
+) -> Option<(&'b [u8], usize)>
+    requires made { IsMade naming.now progress.old }
+    requires room { HasRoomFor args.old 1 }
+    requires used { used ≤ deque_len tokens.now }
+    ensures put { IfSome result (λ x. PutsNext naming.now progress.old args.old.items kind bytes.now (drop used tokens.now.items)
+        progress.new args.new.items x.0.now (drop x.1 tokens.now.items)) }
+    ensures made { IsMade naming.now progress.new }
+    ensures kinds { progress.new.kinds.now ≡ progress.old.kinds.now }
+    ensures used { IfSome result (λ x. x.1 ≤ deque_len tokens.now) }
+    ensures one { IfSome result (λ _. length args.new.items ≡ length args.old.items + 1) }
+    ensures capacity { args.new.capacity ≡ args.old.capacity }
+{
+    let rest = match kind {
+        ArgumentType::Int | ArgumentType::Uint | ArgumentType::Fixed => {
+            put_number(naming, progress, kind, bytes, args)?
+        }
+        ArgumentType::Object(null) => put_object(naming, progress, null, bytes, args)?,
+        ArgumentType::NewId => put_new_id(naming, progress, bytes, args)?,
+        ArgumentType::Str(null) => put_text(naming, progress, null, bytes, args)?,
+        ArgumentType::Array => put_array(naming, progress, bytes, args)?,
+        ArgumentType::Fd => {
+            put_token(naming, progress, tokens, used, args)?;
+            return Some((bytes, used + 1));
+        }
+    };
+    Some((rest, used))
+}
+
+/// Puts all arguments behind those that are there, and returns how many tokens they use. `None` if one is wrong, or there is no
+/// memory for it.
+fn put_each<U: Drop>(
+    naming: &Naming<'_, U>,
+    progress: &mut Progress<'_>,
+    payload: &[u8],
+    tokens: &VecDeque<Token>,
+    args: &mut Args<ObjectId>,
+) -> Option<usize>
+    requires made { IsMade naming.now progress.old }
+    requires room { HasRoomFor args.old (length progress.old.kinds.now) }
+    ensures named { IfSome result (λ used. named naming.now.client naming.now.limit naming.now.version (converting naming.now progress.old) args.old.items
+        progress.old.kinds.now payload.now tokens.now.items ≡ Some (converting naming.now progress.new, args.new.items, drop used tokens.now.items)) }
+    ensures made { IsMade naming.now progress.new }
+    ensures used { IfSome result (λ used. used ≤ deque_len tokens.now) }
+{
+    let mut bytes = payload;
+    let mut used = 0;
+    while let Some((kind, others)) = progress.kinds.split_first() {
+        progress.kinds = others;
+        let (rest, so_far) = put_next(naming, progress, *kind, bytes, tokens, used, args)?;
+        bytes = rest;
+        used = so_far;
+    }
+    Some(used)
+}
+
+/// Empties the arguments, and makes room for so many. Up to four fit already, and take no memory. `None` if there is no memory.
+fn empty_for(args: &mut Args<ObjectId>, count: usize) -> Option<()>
+    ensures empty { args.new.items ≡ [] }
+    ensures room { IfSome result (λ _. HasRoomFor args.new count) }
+{
+    // Most often there are none.
+    if !args.is_empty() {
+        args.clear();
+    }
     let room = args.capacity();
     prove!(INLINE_ARGS <= room);
-    empty(args);
-    args.push_reserved(Argument::NewId(id));
-    Some(id)
-}
-
-/// Whether a new id is the one argument of this signature.
-fn is_one_new(signature: &[ArgumentType]) -> bool
-    ensures { IsTrue result → signature.now ≡ kind.NewId ∷ [] }
-{
-    matches!(signature, [ArgumentType::NewId])
-}
-
-/// Does the same as `put_arguments` for a request whose arguments are not all words. It is not inlined, so that it costs
-/// nothing for a request of words.
-#[inline(never)]
-fn put_others<U: Drop>(
-    client: ClientId,
-    limit: Option<u32>,
-    version: u32,
-    desc: &MessageDesc,
-    objects: &mut ClientObjects<U>,
-    payload: &[u8],
-    args: &mut Args<ObjectId>,
-) -> Option<Option<ObjectId>>
-    requires few { length desc.now.signature.items ≤ INLINE_ARGS }
-    ensures put { MatchOption result ((objects_of objects.new ≡ objects_of objects.old) × (args.new ≡ args.old))
-        (λ created. (fds : List WireToken) → HandsOut client limit version (objects_of objects.old) (message_row desc.now) payload.now fds created (objects_of objects.new) args.new.items) }
-    ensures inline { INLINE_ARGS ≤ args.old.capacity → INLINE_ARGS ≤ args.new.capacity }
-    ensures registries { objects.new.registries ≡ objects.old.registries }
-{
-    if is_one_new(desc.signature.as_slice()) {
-        let interface = desc.child_interface?;
-        let id = put_new(client, limit, version, interface, objects, payload, args)?;
-        return Some(Some(id));
+    if count > INLINE_ARGS {
+        args.reserve(count).ok()?;
     }
-    if !put_each(client, &objects.map, desc, payload, args) {
-        return None;
-    }
-    Some(None)
+    Some(())
 }
 
-/// Puts the arguments of a request into `args`, in place of those that are there, and makes the object that it makes. Returns
-/// that object. `version` is the version of the object that the request was sent to, and `payload` has the bytes of the
-/// arguments. No object is made above the limit.
+/// Puts the arguments of a request into `args`, in place of those that are there, and makes the object that it makes. Returns that
+/// object, and how many tokens are the request's. `version` is the version of the object that it was sent to, and `payload` has the
+/// bytes of the arguments. No object is made above the limit.
 ///
-/// The outer `None` says that it is a request for the general way. Then nothing is changed.
-#[inline(always)]
+/// `None` says that it is a request for the general way. Then no object is made, and what is in `args` is not said.
 pub fn put_arguments<U: Drop>(
     client: ClientId,
     limit: Option<u32>,
@@ -277,17 +258,30 @@ pub fn put_arguments<U: Drop>(
     desc: &MessageDesc,
     objects: &mut ClientObjects<U>,
     payload: &[u8],
+    tokens: &VecDeque<Token>,
     args: &mut Args<ObjectId>,
-) -> Option<Option<ObjectId>>
-    requires few { length desc.now.signature.items ≤ INLINE_ARGS }
-    ensures put { MatchOption result ((objects_of objects.new ≡ objects_of objects.old) × (args.new ≡ args.old))
-        (λ created. (fds : List WireToken) → HandsOut client limit version (objects_of objects.old) (message_row desc.now) payload.now fds created (objects_of objects.new) args.new.items) }
-    ensures inline { INLINE_ARGS ≤ args.old.capacity → INLINE_ARGS ≤ args.new.capacity }
+) -> Option<(Option<ObjectId>, usize)>
+    ensures put { MatchOption result (objects_of objects.new ≡ objects_of objects.old)
+        (λ x. HandsOut client limit version (objects_of objects.old) (message_row desc.now) payload.now tokens.now.items x.0 x.1 (objects_of objects.new) args.new.items) }
     ensures registries { objects.new.registries ≡ objects.old.registries }
 {
-    if words_fit(&objects.map, desc, payload) {
-        put_words(client, &objects.map, desc, payload, args);
-        return Some(None);
+    empty_for(args, desc.signature.len())?;
+    let mut progress = Progress {
+        kinds: desc.signature.as_slice(),
+        asked: desc.arg_interfaces.as_slice(),
+        child: desc.child_interface,
+        created: None,
+    };
+    let naming = Naming {
+        client,
+        limit,
+        version,
+        objects,
+    };
+    let used = put_each(&naming, &mut progress, payload, tokens, args)?;
+    let created = progress.created;
+    if let Some(id) = &created {
+        insert_object(client, objects, id.interface(), version, id.protocol_id()).ok()?;
     }
-    put_others(client, limit, version, desc, objects, payload, args)
+    Some((created, used))
 }

@@ -62,7 +62,7 @@ impl<T: Transport + Drop, U: Drop, C: Drop> Client<T, U, C> {
         if !leaves_no_trace(&self.objects, number) || !self.socket.has_room(DONE_SIZE) {
             return false;
         }
-        self.socket.skip_message();
+        self.socket.skip_message(0);
         put_done_at_once(&mut self.socket, number);
         self.objects.last_serial += 1;
         reading.read = reading.read.saturating_add(1);

@@ -15,5 +15,5 @@ returns g c =
       reason = next_action_within_ends _ _ _ _ _ _ _ call;
       cutting = (call.step, histories_cut _ _ _ _);
       room = λ e id p call by there. grind (arith, seen, reads_for_room, action_content);
-      kept = c.read_client.ensures.kept;
+      empty = c.read_client.ensures.empty;
     }

@@ -1,6 +1,6 @@
 use Rattle.std.proofs.Common.{◌+◌, ◌∙◌, refl, sym}
 use Rattle.wl_server_client.specs.Inside.Conversion.{objects_of}
-use Rattle.wl_server_client.proofs.Readings.Words.{own, sync_answered}
+use Rattle.wl_server_client.proofs.Readings.InPlace.{own, sync_answered}
 use Rattle.wl_server_client.proofs.client.Client.answer_sync.Goals as goal
 
 pub put_done_at_once-requires-clause-own : goal.put_done_at_once-requires-clause-own

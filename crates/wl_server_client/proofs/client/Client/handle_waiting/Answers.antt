@@ -10,7 +10,6 @@ loop-end-init g c = grind (arith, common_steps, goes_none, in_time_none)
 pub loop-end-preserved : goal.loop-end-preserved
 loop-end-preserved g c = record {
   place = c.handle_message.ensures.place;
-  kept = c.in-Continues.ensures.kept (λ same. cc) ∙ c.loop-end.invariant.kept;
   left = c.in-Continues.ensures.handles.1 ∙ c.loop-end.invariant.left;
   goes = goes_goes _ _ _ _ _ _ _ _ _ c.loop-end.invariant.goes c.in-Continues.ensures.handles.0;
   in_time = in_time_both _ _ _ _ _ _ c.loop-end.invariant.in_time c.handle_message.ensures.in_time;

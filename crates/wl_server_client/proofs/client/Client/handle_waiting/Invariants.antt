@@ -7,7 +7,6 @@ use Rattle.wl_server_client.proofs.client.Client.handle_waiting.Given as goal
 abbrev pub invariant-loop-end : goal.invariant-loop-end
 invariant-loop-end g l = record {
   place : 4 ≤ l.message.args.capacity;
-  kept : l.action ≡ l.fn.action;
   left : l.reading.turns_left ≡ l.fn.reading.turns_left;
   goes : ReadsOn g.T.Transport.sends g.T.Transport.receives (around_of g.G.GlobalHandler.views l.fn.around) l.fn.self l.fn.reading l.self l.reading;
   in_time : NotesInTime l.fn.self.times l.fn.numbers l.self.times l.numbers;

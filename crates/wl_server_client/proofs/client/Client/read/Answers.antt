@@ -1,4 +1,4 @@
-use Rattle.std.proofs.Common.{◌≡◌, ◌-◌, suc, arith, refl, ◌∙◌}
+use Rattle.std.proofs.Common.{◌≡◌, ◌-◌, suc, arith, refl}
 use Rattle.std.proofs.lemmas.Grind.{common_steps}
 use Rattle.wl_server_client.proofs.CallSteps.Numbers.{in_time_both, in_time_none}
 use Rattle.wl_server_client.proofs.Readings.OneMessage.{fills_ends, fills_goes, goes_ends, goes_goes, goes_none, goes_within, none_left}
@@ -31,7 +31,6 @@ loop-end-preserved g c =
     let so = goes_goes _ _ _ _ _ _ _ _ _ c.loop-end.invariant.goes waited.0 in
     record {
       place = c.handle_waiting.ensures.place;
-      kept = c.in_default.ensures.kept ∙ c.loop-end.invariant.kept;
       goes = goes_goes _ _ _ _ _ _ _ _ _ so
           (fills_goes _ _ _ _ _ _ waited.0.live (goes_within _ _ _ _ _ _ _ so) waited.2 left refl c.receive.new.self
           c.in_default-receive.ensures.fills);
