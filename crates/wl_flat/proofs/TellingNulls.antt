@@ -1,9 +1,10 @@
 -- The number that tells of a forbidden null says which is the first.
-use Rattle.std.proofs.Common.{◌≡◌, ◌∙◌, ◌<◌, ◌+◌, ℕ, zero, suc, Bool, true, false, List, [], ◌∷◌, None, Option, Some, ap, arith, cond, refl, sym, true≢false}
+use Rattle.std.proofs.Common.{◌≡◌, ◌∙◌, ◌<◌, ◌≤◌, ◌+◌, ℕ, zero, suc, Bool, true, false, List, [], ◌∷◌, None, Option, Some, ap, arith, cond, drop, length, refl, subst, sym, true≢false}
 use Rattle.std.proofs.lemmas.Bool.Decides.{nat_tests}
 use Rattle.std.proofs.lemmas.Iterator.Adapters.{position_from-zero}
+use Rattle.std.proofs.lemmas.List.{drop-drop}
 use Rattle.std.specs.List.{position_from, zip}
-use Rattle.std.specs.Prelude.{IsSomeAnd, IsTrue, slice_get}
+use Rattle.std.specs.Prelude.{IsSomeAnd, IsTrue, MatchOption, slice_get}
 use Rattle.wl_wire.specs.declared.argument.Argument.{Argument}
 use Rattle.wl_wire.specs.declared.argument.ArgumentType.{ArgumentType}
 use Rattle.wl_wire.specs.declared.argument.Token.{Token}
@@ -30,6 +31,19 @@ not_this false h = refl
 none_behind : (b : Bool) (i : ℕ) (found : Option ℕ) → cond b (Some i) found ≡ None → (b ≡ false) × (found ≡ None)
 none_behind true i found h = let no : ⊥ = cc in absurd no
 none_behind false i found h = (refl, h)
+
+-- what stands at a place stands first behind those before it
+pub first_behind : {A : Type 0} (xs : List A) (i : ℕ) → slice_get xs i ≡ slice_get (drop i xs) 0
+first_behind [] zero = refl
+first_behind [] (suc i) = refl
+first_behind (x ∷ xs) zero = refl
+first_behind (x ∷ xs) (suc i) = first_behind xs i
+
+nothing_behind : {A : Type 0} (xs : List A) (i : ℕ) → length xs ≤ i → drop i xs ≡ []
+nothing_behind [] zero h = refl
+nothing_behind [] (suc i) h = refl
+nothing_behind (x ∷ xs) zero h = absurd (omega arith)
+nothing_behind (x ∷ xs) (suc i) h = nothing_behind xs i (omega arith)
 
 module _ {Id : Type 0} (flat : Id → FlatObjectId) where
   -- the place of the first one, in lists whose places are counted from i on
@@ -62,6 +76,58 @@ module _ {Id : Type 0} (flat : Id → FlatObjectId) where
   all_allowed (type ∷ signature) [] i allowed = refl
   all_allowed (type ∷ signature) (a ∷ args) i allowed =
       rw (not_this (is_forbidden flat (type, a)) (allowed zero)) (all_allowed signature args (i + 1) (λ n here. allowed (suc n) here))
+
+  -- an argument is forbidden, or the search goes on behind it
+  pub search_on : (types : List ArgumentType) (rest : List (Argument Id Token)) (i : ℕ) (a : Argument Id Token) (b : Bool)
+      → MatchOption (slice_get types 0) (b ≡ false) (λ kind. b ≡ is_forbidden flat (kind, a))
+      → position_from (is_forbidden flat) i (zip types (a ∷ rest)) ≡ cond b (Some i) (position_from (is_forbidden flat) (i + 1) (zip (drop 1 types) rest))
+  search_on [] rest i a b h = rw h refl
+  search_on (kind ∷ types) rest i a b h = rw h refl
+
+  -- the search from a place on, at which an argument stands
+  search_from : (signature : List ArgumentType) (args : List (Argument Id Token)) (i : ℕ) (a : Argument Id Token) (b : Bool) (found : Option ℕ)
+      → drop i args ≡ a ∷ drop (i + 1) args
+      → MatchOption (slice_get signature i) (b ≡ false) (λ kind. b ≡ is_forbidden flat (kind, a))
+      → position_from (is_forbidden flat) i (zip (drop i signature) (drop i args)) ≡ found
+      → found ≡ cond b (Some i) (position_from (is_forbidden flat) (i + 1) (zip (drop (i + 1) signature) (drop (i + 1) args)))
+  search_from signature args i a b found d h w =
+      let first = subst (λ type. MatchOption type (b ≡ false) (λ kind. b ≡ is_forbidden flat (kind, a))) (first_behind signature i) h in
+      sym w ∙ (ap (λ rest. position_from (is_forbidden flat) i (zip (drop i signature) rest)) d
+      ∙ (search_on (drop i signature) (drop (i + 1) args) i a b first
+      ∙ ap (λ types. cond b (Some i) (position_from (is_forbidden flat) (i + 1) (zip types (drop (i + 1) args)))) (drop-drop 1 i signature)))
+
+  -- it goes on behind one that is allowed
+  pub search_goes_on : (signature : List ArgumentType) (args : List (Argument Id Token)) (i : ℕ) (a : Argument Id Token) (b : Bool) (found : Option ℕ)
+      → drop i args ≡ a ∷ drop (i + 1) args
+      → MatchOption (slice_get signature i) (b ≡ false) (λ kind. b ≡ is_forbidden flat (kind, a)) → b ≡ false
+      → position_from (is_forbidden flat) i (zip (drop i signature) (drop i args)) ≡ found
+      → position_from (is_forbidden flat) (i + 1) (zip (drop (i + 1) signature) (drop (i + 1) args)) ≡ found
+  search_goes_on signature args i a b found d h allowed w =
+      sym (search_from signature args i a b found d h w
+      ∙ ap (λ b. cond b (Some i) (position_from (is_forbidden flat) (i + 1) (zip (drop (i + 1) signature) (drop (i + 1) args)))) allowed)
+
+  -- it ends at one that is forbidden
+  pub search_ends : (signature : List ArgumentType) (args : List (Argument Id Token)) (i : ℕ) (a : Argument Id Token) (b : Bool)
+      → drop i args ≡ a ∷ drop (i + 1) args
+      → MatchOption (slice_get signature i) (b ≡ false) (λ kind. b ≡ is_forbidden flat (kind, a)) → b ≡ true
+      → position_from (is_forbidden flat) i (zip (drop i signature) (drop i args)) ≡ position_from (is_forbidden flat) 0 (zip signature args)
+      → count_number (i + 1) ≡ forbidden_null flat signature args
+  search_ends signature args i a b d h forbidden w =
+      ap counted_from_one (sym (position_from-zero (is_forbidden flat) (zip signature args)
+      ∙ (search_from signature args i a b _ d h w
+      ∙ ap (λ b. cond b (Some i) (position_from (is_forbidden flat) (i + 1) (zip (drop (i + 1) signature) (drop (i + 1) args)))) forbidden)))
+
+  none_left : (types : List ArgumentType) (i : ℕ) → position_from (is_forbidden flat) i (zip types []) ≡ None
+  none_left [] i = refl
+  none_left (kind ∷ types) i = refl
+
+  -- it finds none
+  pub search_fails : (signature : List ArgumentType) (args : List (Argument Id Token)) (i : ℕ) → length args ≤ i
+      → position_from (is_forbidden flat) i (zip (drop i signature) (drop i args)) ≡ position_from (is_forbidden flat) 0 (zip signature args)
+      → 0 ≡ forbidden_null flat signature args
+  search_fails signature args i past w =
+      let none = ap (λ rest. position_from (is_forbidden flat) i (zip (drop i signature) rest)) (nothing_behind args i past) ∙ none_left (drop i signature) i in
+      ap counted_from_one (sym (position_from-zero (is_forbidden flat) (zip signature args) ∙ (sym w ∙ none)))
 
   pub tells_null : (signature : List ArgumentType) (args : List (Argument Id Token)) → TellsNull flat signature args (forbidden_null flat signature args)
   tells_null signature args = record {

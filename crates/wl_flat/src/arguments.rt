@@ -87,7 +87,9 @@ impl Needs {
     {
         let mut bytes = 0usize;
         for arg in args {
-            bytes = bytes.saturating_add(length_of(arg));
+            if takes_bytes(arg) {
+                bytes = bytes.saturating_add(length_of(arg));
+            }
         }
         Needs {
             arguments: args.len(),
@@ -115,6 +117,13 @@ pub fn zeros_behind_array(length: usize) -> usize
     ensures { result ≡ zeros_behind_array length }
 {
     (8 - length % 8) % 8
+}
+
+/// Whether the argument is a string or an array.
+fn takes_bytes<Id>(arg: &Argument<Id, Token>) -> bool
+    ensures { result ≡ false → bytes_of arg.now ≡ [] }
+{
+    matches!(arg, Argument::Str(Some(_)) | Argument::Array(_))
 }
 
 /// How many bytes the argument takes, if it is a string or an array, with the zeros behind it. It saturates at `usize::MAX`.
@@ -225,6 +234,63 @@ fn flat_argument<Id, Session, O: Objects<Id, Session>>(
 /// The number that is no descriptor. It stands for a token that names none, which the core never gives.
 const NO_DESCRIPTOR: i32 = -1;
 
+/// Writes the argument to `place` as a flat struct. The bytes of a string or an array go to the place `at` of the lent ones, which
+/// have room for them. A descriptor is taken out. Returns where the bytes of the next argument go.
+///
+/// Most arguments are numbers: they are written without a call.
+#[inline(always)]
+#[tactic(auto, using(crate::proofs::Flattening::written_nothing))]
+fn write_argument<Id, Session, O: Objects<Id, Session>>(
+    objects: &O,
+    arg: &Argument<Id, Token>,
+    descriptors: &mut DescriptorQueue,
+    place: &mut FlatArgument,
+    bytes: &mut [u8],
+    at: usize,
+) -> usize
+    requires { at + length (bytes_of arg.now) ≤ length bytes.old }
+    ensures flat { place.new ≡ flat_argument O.flat_of (O.data_of objects.now) descriptors.old at arg.now }
+    ensures descriptors { descriptors.new ≡ queue_after descriptors.old arg.now }
+    ensures bytes { bytes.new ≡ written_at at (bytes_of arg.now) bytes.old }
+    ensures next { result ≡ at + length (bytes_of arg.now) }
+{
+    match arg {
+        Argument::Int(value) => {
+            *place = FlatArgument::of_number(kind::INT, *value);
+            at
+        }
+        Argument::Uint(value) => {
+            *place = FlatArgument::of_number(kind::UINT, value.cast_signed());
+            at
+        }
+        Argument::Fixed(value) => {
+            *place = FlatArgument::of_number(kind::FIXED, *value);
+            at
+        }
+        _ => write_other(objects, arg, descriptors, place, bytes, at),
+    }
+}
+
+/// The same for an argument of any type.
+#[inline(never)]
+fn write_other<Id, Session, O: Objects<Id, Session>>(
+    objects: &O,
+    arg: &Argument<Id, Token>,
+    descriptors: &mut DescriptorQueue,
+    place: &mut FlatArgument,
+    bytes: &mut [u8],
+    at: usize,
+) -> usize
+    requires { at + length (bytes_of arg.now) ≤ length bytes.old }
+    ensures flat { place.new ≡ flat_argument O.flat_of (O.data_of objects.now) descriptors.old at arg.now }
+    ensures descriptors { descriptors.new ≡ queue_after descriptors.old arg.now }
+    ensures bytes { bytes.new ≡ written_at at (bytes_of arg.now) bytes.old }
+    ensures next { result ≡ at + length (bytes_of arg.now) }
+{
+    *place = flat_argument(objects, arg, descriptors, bytes, at);
+    at + length_of(arg)
+}
+
 /// Writes the arguments to the front of the lent memory, which has room for them. Their descriptors are taken out.
 pub fn write_arguments<Id, Session, O: Objects<Id, Session>>(
     objects: &O,
@@ -242,16 +308,15 @@ pub fn write_arguments<Id, Session, O: Objects<Id, Session>>(
     let mut count = 0usize;
     let mut at = 0usize;
     for arg in args {
-        arguments[count] = flat_argument(objects, arg, descriptors, bytes, at);
+        at = write_argument(objects, arg, descriptors, &mut arguments[count], bytes, at);
         count += 1;
-        at += length_of(arg);
     }
 }
 
 /// A copy of the bytes of a string or an array, in the memory of `spare`, which grows if it is too small.
 ///
 /// The status is `InvalidInput` if they are not all in the bytes that were passed, and `OutOfMemory`.
-fn copy_bytes(spare: &mut Vec<u8>, arg: &FlatArgument, bytes: &[u8]) -> Result<Vec<u8>, Status>
+fn copy_bytes(spare: Vec<u8>, arg: &FlatArgument, bytes: &[u8]) -> Result<Vec<u8>, Status>
     ensures ok { IfOk result (λ copy. part_of bytes.now arg.now ≡ Some copy.items) }
     ensures err { IfErr result (λ s. IsUnread s (part_of bytes.now arg.now)) }
 {
@@ -259,7 +324,7 @@ fn copy_bytes(spare: &mut Vec<u8>, arg: &FlatArgument, bytes: &[u8]) -> Result<V
     let Some(part) = bytes.get(from..from + arg.length as usize) else {
         return Err(Status::InvalidInput);
     };
-    let mut copy = mem::replace(spare, Vec::new(*spare.allocator()));
+    let mut copy = spare;
     copy.clear();
     match copy.extend_from_slice(part) {
         Ok(()) => Ok(copy),
@@ -297,7 +362,7 @@ pub fn text_of(alloc: Global, bytes: &[u8]) -> Result<CString, Status>
 ///
 /// The status is `InvalidInput` if its bytes were not all passed or one of them is zero, and `OutOfMemory`.
 fn read_string<Id>(
-    spare: &mut Vec<u8>,
+    spare: Vec<u8>,
     arg: &FlatArgument,
     bytes: &[u8],
 ) -> Result<Argument<Id, Token>, Status>
@@ -312,7 +377,7 @@ fn read_string<Id>(
 ///
 /// The status is `InvalidInput` if its bytes were not all passed, and `OutOfMemory`.
 fn read_array<Id>(
-    spare: &mut Vec<u8>,
+    spare: Vec<u8>,
     arg: &FlatArgument,
     bytes: &[u8],
 ) -> Result<Argument<Id, Token>, Status>
@@ -334,15 +399,25 @@ fn put_in(descriptors: &mut DescriptorQueue, descriptor: i32) -> Result<Token, O
     Ok(token)
 }
 
-/// The argument that the flat struct stands for. Its descriptor is put in. The memory of `spare` is used for its bytes.
+/// Takes the memory of a string or an array out of `place`. There is none in another argument.
+fn take_memory<Id: Drop>(place: &mut Argument<Id, Token>, alloc: Global) -> Vec<u8> {
+    match mem::replace(place, Argument::Int(0)) {
+        Argument::Str(Some(text)) => text.into_bytes(),
+        Argument::Array(array) => array.into_vec(),
+        _ => Vec::new(alloc),
+    }
+}
+
+/// The argument that the flat struct stands for. Its descriptor is put in. The memory of what is at `place` is used for its bytes.
 ///
 /// The status is `InvalidInput` if the flat struct cannot be read, and `OutOfMemory`. Then no descriptor was put in.
 #[tactic(auto, using(crate::proofs::Flattening::put_nothing))]
-fn read_argument<Id: FromFlat>(
-    spare: &mut Vec<u8>,
+fn read_argument<Id: FromFlat + Drop>(
+    place: &mut Argument<Id, Token>,
     arg: &FlatArgument,
     bytes: &[u8],
     descriptors: &mut DescriptorQueue,
+    alloc: Global,
 ) -> Result<Argument<Id, Token>, Status>
     ensures ok { IfOk result (λ a. argument_of Id.stands_for bytes.now (token_after descriptors.old (length descriptors.old.held)) arg.now ≡ Some a) }
     ensures put_in { OnOk result (descriptors.new ≡ put_in descriptors.old (descriptor_given arg.now)) }
@@ -353,27 +428,119 @@ fn read_argument<Id: FromFlat>(
         kind::INT => Ok(Argument::Int(arg.value)),
         kind::UINT => Ok(Argument::Uint(arg.value.cast_unsigned())),
         kind::FIXED => Ok(Argument::Fixed(arg.value)),
-        kind::STRING => read_string(spare, arg, bytes),
+        kind::STRING => read_string(take_memory(place, alloc), arg, bytes),
         kind::OBJECT => Ok(Argument::Object(Id::from_flat(&arg.object))),
         kind::NEW_ID => Ok(Argument::NewId(Id::from_flat(&arg.object))),
-        kind::ARRAY => read_array(spare, arg, bytes),
+        kind::ARRAY => read_array(take_memory(place, alloc), arg, bytes),
         kind::DESCRIPTOR => Ok(Argument::Fd(put_in(descriptors, arg.value)?)),
         kind::NULL_STRING => Ok(Argument::Str(None)),
         _ => Err(Status::InvalidInput),
     }
 }
 
-/// Takes the memory of the first argument out, if that is a string.
-fn take_spare<Id>(args: &mut Arguments<Id>) -> Vec<u8>
-    ensures { length args.new.items ≡ length args.old.items }
+/// Reads the argument that the flat struct stands for in place of the one at `place`. Its descriptor is put in.
+///
+/// The status is `InvalidInput` if the flat struct cannot be read, and `OutOfMemory`. Then no descriptor was put in.
+///
+/// Most arguments are numbers: they are read without a call.
+#[inline(always)]
+#[tactic(auto, using(crate::proofs::Flattening::put_nothing))]
+fn fill_argument<Id: FromFlat + Drop>(
+    place: &mut Argument<Id, Token>,
+    arg: &FlatArgument,
+    bytes: &[u8],
+    descriptors: &mut DescriptorQueue,
+    alloc: Global,
+) -> Result<(), Status>
+    ensures ok { OnOk result (argument_of Id.stands_for bytes.now (token_after descriptors.old (length descriptors.old.held)) arg.now ≡ Some place.new) }
+    ensures put_in { OnOk result (descriptors.new ≡ put_in descriptors.old (descriptor_given arg.now)) }
+    ensures err { OnErr result (descriptors.new ≡ descriptors.old) }
+    ensures why { IfErr result (λ s. IsUnread s (argument_of Id.stands_for bytes.now (token_after descriptors.old (length descriptors.old.held)) arg.now)) }
 {
-    let alloc = *args.allocator();
-    if let Some(Argument::Str(first)) = args.as_mut_slice().first_mut() {
-        if let Some(text) = first.take() {
-            return text.into_bytes();
+    match arg.kind {
+        kind::INT => {
+            *place = Argument::Int(arg.value);
+            Ok(())
         }
+        kind::UINT => {
+            *place = Argument::Uint(arg.value.cast_unsigned());
+            Ok(())
+        }
+        kind::FIXED => {
+            *place = Argument::Fixed(arg.value);
+            Ok(())
+        }
+        _ => fill_other(place, arg, bytes, descriptors, alloc),
     }
-    Vec::new(alloc)
+}
+
+/// The same for an argument of any type.
+#[inline(never)]
+fn fill_other<Id: FromFlat + Drop>(
+    place: &mut Argument<Id, Token>,
+    arg: &FlatArgument,
+    bytes: &[u8],
+    descriptors: &mut DescriptorQueue,
+    alloc: Global,
+) -> Result<(), Status>
+    ensures ok { OnOk result (argument_of Id.stands_for bytes.now (token_after descriptors.old (length descriptors.old.held)) arg.now ≡ Some place.new) }
+    ensures put_in { OnOk result (descriptors.new ≡ put_in descriptors.old (descriptor_given arg.now)) }
+    ensures err { OnErr result (descriptors.new ≡ descriptors.old) }
+    ensures why { IfErr result (λ s. IsUnread s (argument_of Id.stands_for bytes.now (token_after descriptors.old (length descriptors.old.held)) arg.now)) }
+{
+    match read_argument(place, arg, bytes, descriptors, alloc) {
+        Ok(argument) => {
+            *place = argument;
+            Ok(())
+        }
+        Err(status) => Err(status),
+    }
+}
+
+/// Reads the arguments that the flat structs stand for, each in place of one that was there. Their descriptors are put in.
+///
+/// The status is `InvalidInput` if a flat struct cannot be read, and `OutOfMemory`. Then some of the descriptors were put in.
+fn fill_each<Id: FromFlat + Drop>(
+    places: &mut [Argument<Id, Token>],
+    arguments: &[FlatArgument],
+    bytes: &[u8],
+    descriptors: &mut DescriptorQueue,
+    alloc: Global,
+) -> Result<(), Status>
+    requires { length places.old ≡ length arguments.now }
+    ensures ok { OnOk result (arguments_of Id.stands_for bytes.now descriptors.old arguments.now ≡ Some places.new) }
+    ensures put_in { OnOk result (descriptors.new ≡ put_in descriptors.old (descriptors_given arguments.now)) }
+    ensures longer { IsLonger descriptors.old descriptors.new }
+    ensures why { IfErr result (λ s. IsUnread s (arguments_of Id.stands_for bytes.now descriptors.old arguments.now)) }
+{
+    let mut count = 0usize;
+    for arg in arguments {
+        match fill_argument(&mut places[count], arg, bytes, descriptors, alloc) {
+            Ok(()) => {}
+            Err(status) => return Err(status),
+        }
+        count += 1;
+    }
+    Ok(())
+}
+
+/// Gives the list this length: arguments at its end are dropped, or numbers are appended.
+///
+/// The status is `OutOfMemory`.
+#[inline(never)]
+fn set_length<Id: Drop>(args: &mut Arguments<Id>, count: usize) -> Result<(), Status>
+    ensures length { OnOk result (length args.new.items ≡ count) }
+    ensures err { IfErr result (λ s. s ≡ status.OutOfMemory) }
+{
+    args.truncate(count);
+    let missing = count - args.len();
+    if args.reserve(missing).is_err() {
+        return Err(Status::OutOfMemory);
+    }
+    for _place in 0..missing {
+        args.push_reserved(Argument::Int(0));
+    }
+    Ok(())
 }
 
 /// Reads the arguments that the flat structs stand for in place of those that were there. Their descriptors are put in.
@@ -390,16 +557,13 @@ fn fill_arguments<Id: FromFlat + Drop>(
     ensures longer { IsLonger descriptors.old descriptors.new }
     ensures why { IfErr result (λ s. IsUnread s (arguments_of Id.stands_for bytes.now descriptors.old arguments.now)) }
 {
-    let mut spare = take_spare(args);
-    args.clear();
-    if args.reserve(arguments.len()).is_err() {
-        return Err(Status::OutOfMemory);
+    let alloc = *args.allocator();
+    if args.len() != arguments.len() {
+        if let Err(status) = set_length(args, arguments.len()) {
+            return Err(status);
+        }
     }
-    for arg in arguments {
-        let argument = read_argument(&mut spare, arg, bytes, descriptors)?;
-        args.push_reserved(argument);
-    }
-    Ok(())
+    fill_each(args.as_mut_slice(), arguments, bytes, descriptors, alloc)
 }
 
 /// Reads the arguments that the flat structs stand for in place of those that were there, and puts their descriptors in.

@@ -1,10 +1,10 @@
 //! Nulls that the table forbids. The core hands them out; the host is told of the first one of a message, or has it refused.
 
-ghost use Rattle.std.specs.Prelude.{◌≡◌, IfOk, option_map};
+ghost use Rattle.std.specs.Prelude.{◌≡◌, IfOk, MatchOption, false, option_map, slice_get};
 ghost use Rattle.std.specs.Option.{option_copied};
 ghost use Rattle.std.specs.String.{string_bytes};
 ghost use Rattle.wl_wire.specs.Table.{message_row};
-ghost use Rattle.wl_flat.specs.Nulls.{allows_null, forbidden_null, is_null, is_refused, name_in, null_text as text_of_null};
+ghost use Rattle.wl_flat.specs.Nulls.{allows_null, forbidden_null, is_forbidden, is_null, is_refused, name_in, null_text as text_of_null};
 
 use crate::arguments::Objects;
 use crate::flat::count_number;
@@ -32,6 +32,24 @@ fn is_null<Id, Session, O: Objects<Id, Session>>(objects: &O, arg: &Argument<Id,
     }
 }
 
+/// Whether the argument is null, and the signature allows no null at its place.
+fn is_forbidden<Id, Session, O: Objects<Id, Session>>(
+    objects: &O,
+    signature: &[ArgumentType],
+    place: usize,
+    arg: &Argument<Id, Token>,
+) -> bool
+    ensures { MatchOption (slice_get signature.now place) (result ≡ false) (λ kind. result ≡ is_forbidden O.flat_of (kind, arg.now)) }
+{
+    if !is_null(objects, arg) {
+        return false;
+    }
+    match signature.get(place) {
+        Some(kind) => !allows_null(*kind),
+        None => false,
+    }
+}
+
 /// The place of the first argument that is null where the signature allows no null, counted from 1; 0 if there is none.
 pub fn forbidden_null<Id, Session, O: Objects<Id, Session>>(
     objects: &O,
@@ -40,11 +58,12 @@ pub fn forbidden_null<Id, Session, O: Objects<Id, Session>>(
 ) -> u32
     ensures { result ≡ forbidden_null O.flat_of signature.now args.now }
 {
-    let mut typed = signature.iter().zip(args);
-    match typed.position(|(kind, arg)| is_null(objects, arg) && !allows_null(*kind)) {
-        Some(place) => count_number(place + 1),
-        None => 0,
+    for (index, arg) in args.iter().enumerate() {
+        if is_forbidden(objects, signature, index, arg) {
+            return count_number(index + 1);
+        }
     }
+    0
 }
 
 /// Whether a message whose first null that is forbidden has this place is refused.

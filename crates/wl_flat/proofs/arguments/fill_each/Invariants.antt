@@ -1,9 +1,8 @@
-use Rattle.std.proofs.Common.{◌≡◌, ◌++◌, length, drop}
-use Rattle.smallvec.specs.SmallVec.{HasRoomFor}
+use Rattle.std.proofs.Common.{◌≡◌, ◌++◌, drop, take}
 use Rattle.std.specs.Option.{option_map}
 use Rattle.wl_flat.specs.Arguments.{arguments_of, descriptors_given}
 use Rattle.wl_flat.specs.Descriptors.{IsLonger, put_in}
-use Rattle.wl_flat.proofs.arguments.fill_arguments.Given as goal
+use Rattle.wl_flat.proofs.arguments.fill_each.Given as goal
 
 -- what was read so far and what is left are all
 abbrev pub invariant-loop-arg : goal.invariant-loop-arg
@@ -11,8 +10,8 @@ invariant-loop-arg g l =
     let stands_for = g.Id.FromFlat.stands_for in
     let rest = drop l.arg-index l.arguments in
     record {
-      read : option_map (λ others. l.args.items ++ others) (arguments_of stands_for l.bytes l.descriptors rest) ≡ arguments_of stands_for l.bytes l.fn.descriptors l.arguments;
+      counted : l.count ≡ l.arg-index;
+      read : option_map (λ others. take l.count l.places ++ others) (arguments_of stands_for l.bytes l.descriptors rest) ≡ arguments_of stands_for l.bytes l.fn.descriptors l.arguments;
       put : put_in l.descriptors (descriptors_given rest) ≡ put_in l.fn.descriptors (descriptors_given l.arguments);
-      room : HasRoomFor l.args (length rest);
       longer : IsLonger l.fn.descriptors l.descriptors;
     }
