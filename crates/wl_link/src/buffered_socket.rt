@@ -180,11 +180,10 @@ impl<T> BufferedSocket<T> {
         word_after_header(self.incoming.bytes())
     }
 
-    /// Takes the first message off what was received without reading it, and so many tokens with it. The message must be complete,
-    /// and so many tokens must wait.
+    /// Takes the first message off what was received without reading it, and so many tokens with it, or all if fewer wait. The message
+    /// must be complete.
     pub fn skip_message(&mut self, tokens: usize)
-        requires whole { IsWhole self.old.incoming.bytes }
-        requires tokens { tokens ≤ length self.old.incoming.tokens }
+        requires { IsWhole self.old.incoming.bytes }
         ensures { self.new ≡ with_incoming self.old self.old.transport (without_front tokens self.old.incoming) }
     {
         if let Some(header) = message_header(self.incoming.bytes()) {
@@ -192,7 +191,7 @@ impl<T> BufferedSocket<T> {
         }
         // Most messages have none.
         if tokens > 0 {
-            self.tokens_in.drain(..tokens);
+            self.tokens_in.drain(..tokens.min(self.tokens_in.len()));
         }
     }
 
