@@ -4,6 +4,7 @@ mod Closed
 mod Ended
 mod Endings
 mod Fated
+mod Judged
 mod Kept
 mod Long
 mod Noted

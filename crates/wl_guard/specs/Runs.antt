@@ -7,7 +7,8 @@ use Rattle.wl_follow.specs.declared.side.Side.{Side}
 use Rattle.wl_follow.specs.declared.side.Side.TheVariants.{Client, Server}
 use Rattle.wl_guard.specs.Ends.{told_end}
 use Rattle.wl_guard.specs.Guard.{Arrives, GivesBack, GuardState, Sent, to_send}
-use Rattle.wl_guard.specs.Passages.{Passage}
+use Rattle.wl_guard.specs.Known.{Known}
+use Rattle.wl_guard.specs.Passages.{IsPassed, Passage}
 use Rattle.wl_guard.specs.Policy.{PolicyState}
 use Rattle.wl_guard.specs.Queues.{part_sent}
 
@@ -60,6 +61,17 @@ passed_in _ _ = []
 abbrev pub all_passed : Side → List Call → List Passage
 all_passed side [] = []
 all_passed side (c ∷ calls) = passed_in side c ++ all_passed side calls
+
+-- Each of these messages of the side was passed under what was known before it, and left what is known before the next.
+abbrev pub PassesUnder : PolicyState → Side → Known → List Passage → Known → Type 0
+PassesUnder p side k [] k' = k' ≡ k
+PassesUnder p side k (x ∷ xs) k' = (mid : Known) × ((q : Queue) × (rest : Queue) × IsPassed p side k q x mid rest) × PassesUnder p side mid xs k'
+
+-- so were those of all calls, of both sides, in the order in which they came to the guard
+abbrev pub AllPassUnder : PolicyState → Known → List Call → Known → Type 0
+AllPassUnder p k [] k' = k' ≡ k
+AllPassUnder p k (Came side came passages ∷ calls) k' = (mid : Known) × PassesUnder p side k passages mid × AllPassUnder p mid calls k'
+AllPassUnder p k (_ ∷ calls) k' = AllPassUnder p k calls k'
 
 -- the tokens that were given back
 abbrev pub back_in : Call → List Token

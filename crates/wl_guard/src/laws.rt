@@ -15,10 +15,11 @@ ghost use Rattle.wl_guard.specs.Closure.{AreWithin, IsBounded, IsClosed};
 ghost use Rattle.wl_guard.specs.Ends.{told_end};
 ghost use Rattle.wl_guard.specs.Fates.{IsEvent, IsRequest};
 ghost use Rattle.wl_guard.specs.Guard.{GuardState, new_guard, to_send, unread};
+ghost use Rattle.wl_guard.specs.Known.{Known, nothing_known};
 ghost use Rattle.wl_guard.specs.Passages.{all_pieces, all_sent};
 ghost use Rattle.wl_guard.specs.Policy.{Given, GivesAll, IsSound, LetsNoneChoose, PolicyState, new_policy};
 ghost use Rattle.wl_guard.specs.Requests.{BindsTold};
-ghost use Rattle.wl_guard.specs.Runs.{Call, Leads, all_came, all_out, all_passed, error_to, kept_weight, most_came, weight_in, weight_out};
+ghost use Rattle.wl_guard.specs.Runs.{AllPassUnder, Call, Leads, all_came, all_out, all_passed, error_to, kept_weight, most_came, weight_in, weight_out};
 ghost use Rattle.wl_guard.specs.declared.policy.Limits.{Limits};
 ghost use Rattle.wl_guard.specs.declared.session.Told.{Told};
 
@@ -52,6 +53,14 @@ pub fn only_what_is_hidden_is_hidden()
     ensures { (p : PolicyState) (calls : List Call) (after : GuardState) → Leads p new_guard calls after
         → (joined (all_out Client calls) (to_send Client after) ≡ told_end p after.known after.end (all_sent (all_passed Server calls)))
         × ((rest : Queue) × (joined (all_pieces (all_passed Server calls)) rest ≡ all_came Server calls) × (after.end ≡ None → rest ≡ unread Server after)) }
+{}
+
+/// Of a new guard: each message that was passed, of either side, was read and judged by what the messages before it left, from a session
+/// that begins: its object is one that they made or left, and a bind is of a global that they announced last. As long as the connection has
+/// not ended, that is what the guard knows.
+pub fn each_message_is_judged_by_those_before_it()
+    ensures { (p : PolicyState) (calls : List Call) (after : GuardState) → Leads p new_guard calls after
+        → (last : Known) × AllPassUnder p nothing_known calls last × (after.end ≡ None → last ≡ after.known) }
 {}
 
 /// Each request that was passed is exactly as long as its arguments, is one of the version of its object, and is not refused. It goes on
