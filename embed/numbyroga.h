@@ -1579,7 +1579,8 @@ enum {
     NB_END_OBJECTS = 9,       /* a new object has a number beyond the limit */
     NB_END_GLOBALS = 10,      /* more numbers of globals were announced than the limit */
     NB_END_DESCRIPTORS = 11,  /* there are descriptors that no message takes, or a message waits for one */
-    NB_END_OUT_OF_MEMORY = 12 /* malloc refused */
+    NB_END_OUT_OF_MEMORY = 12, /* malloc refused */
+    NB_END_HUNG_UP = 13        /* nb_guard_hang_up was called */
 };
 
 /* How a guard's connection ended: 16 bytes. */
@@ -1626,7 +1627,7 @@ nb_status nb_guard_new(nb_guard *place);
 
 /* Ends the guard. It forgets the descriptors that it has: so before the end close those of nb_guard_to_send, of both
  * sides, and those of nb_guard_next_released. Those that were not read are among the latter only once the connection
- * has ended: nb_guard_hang_up, below, ends it. */
+ * has ended: nb_guard_hang_up ends it. */
 nb_status nb_guard_end(nb_guard *place);
 
 /* Takes what was received from a side. The descriptors are the guard's if the status is NB_OK, and else stay yours.
@@ -1649,6 +1650,10 @@ nb_status nb_guard_sent(nb_guard *place, uint32_t side, uint32_t count);
 
 /* The next descriptor that does not go on. Close it. Statuses: NB_WOULD_BLOCK (there is none now). */
 nb_status nb_guard_next_released(nb_guard *place, int32_t *descriptor);
+
+/* Ends the connection, since a side has hung up; one that has ended stays as it is. What is to be sent may still be
+ * sent, and nb_guard_next_released gives what was not read, too. */
+nb_status nb_guard_hang_up(nb_guard *place);
 
 /* How the connection ended, if it has. */
 nb_status nb_guard_how_ended(nb_guard *place, nb_end *end);
@@ -1798,24 +1803,6 @@ static inline nb_status nb_relay_start(nb_relay *place, const nb_table *table, u
     return nb_relay_new(place, table->text, table->text_length, table->interfaces, table->interface_count,
                         table->messages, table->message_count, table->arguments, table->argument_count, log_only,
                         fault);
-}
-
-/* Ends the connection of a guard, since a side hung up, so that nb_guard_next_released answers all descriptors that were
- * not read. Make it once nothing waits for either side, and send nothing after it: the guard is given descriptors of -1
- * until it has too many, and these may go with a message that awaited one. So take what it answers from then on for no
- * descriptor if it is -1. Statuses: NB_OK; NB_NO_SESSION; NB_WOULD_BLOCK (something waits); NB_OUT_OF_MEMORY. */
-static inline nb_status nb_guard_hang_up(nb_guard *place, nb_policy *policy)
-{
-    int32_t none[NB_MOST_BYTES / 512];
-    nb_status status;
-    for (size_t i = 0; i < sizeof none / sizeof none[0]; i++)
-        none[i] = -1;
-    do
-        status = nb_guard_received(place, policy, NB_CLIENT_SIDE, NULL, 0, none, sizeof none / sizeof none[0]);
-    while (status == NB_OK);
-    if (status == NB_CLOSED)
-        status = NB_OK;
-    return status;
 }
 
 /* nb_server_create_global without data, in group 1 and hidden from nobody: each client of nb_serve_client sees it. */

@@ -38,19 +38,11 @@ struct middle *middle_new(unsigned number)
 
 /* ======== What goes through */
 
-/* Closes those that are there: -1 stands for none (nb_guard_hang_up). */
-static void close_some(const int32_t *some, size_t count)
-{
-    for (size_t i = 0; i < count; i++)
-        if (some[i] >= 0)
-            close(some[i]);
-}
-
 static void close_released(struct middle *middle)
 {
     int32_t descriptor;
     while (nb_guard_next_released(&middle->guard, &descriptor) == NB_OK)
-        close_some(&descriptor, 1);
+        close(descriptor);
 }
 
 bool middle_to_send(struct middle *middle, uint32_t side, struct parcel *next)
@@ -66,7 +58,7 @@ void middle_sent(struct middle *middle, uint32_t side, const struct parcel *next
 {
     (void)is_dropped;
     nb_guard_sent(&middle->guard, side, (uint32_t)taken);
-    close_some(next->descriptors, next->count);
+    close_all(next->descriptors, next->count);
 }
 
 /* The text that tells the client of its breach, which stands last in what waits for it. */
@@ -132,16 +124,12 @@ static void drop_next(struct middle *middle, uint32_t side)
         middle_sent(middle, side, &next, next.length, true);
 }
 
-/* Closes the descriptors that the guard has: those that are to be sent, and then, as nothing more is, those that were
- * not read. */
+/* Closes the descriptors that the guard has: those that are to be sent, and those that were not read. */
 static void drop_all(struct middle *middle)
 {
-    for (int round = 0; round < 2; round++) {
-        drop_next(middle, NB_CLIENT_SIDE);
-        drop_next(middle, NB_SERVER_SIDE);
-        if (nb_guard_hang_up(&middle->guard, the_policy) == NB_OUT_OF_MEMORY)
-            fprintf(stderr, "%s: out of memory: descriptors that were not read stay open\n", program_name);
-    }
+    drop_next(middle, NB_CLIENT_SIDE);
+    drop_next(middle, NB_SERVER_SIDE);
+    nb_guard_hang_up(&middle->guard);
     close_released(middle);
 }
 

@@ -165,10 +165,10 @@ static void hangs_up(void)
     wire_length -= 4;
     OK(came(NB_CLIENT_SIDE, given, 1));
     IS(nb_guard_next_released(&guard, descriptors), NB_WOULD_BLOCK);
-    OK(nb_guard_hang_up(&guard, &policy));
+    OK(nb_guard_hang_up(&guard));
     HOLDS(is_released(21));
     end_guard();
-    IS(nb_guard_hang_up(&guard, &policy), NB_NO_SESSION);
+    IS(nb_guard_hang_up(&guard), NB_NO_SESSION);
 }
 
 /* A compositor announces more numbers of globals than are remembered. */
@@ -227,7 +227,7 @@ static int run_without(long refused)
         nb_guard_sent(&guard, NB_SERVER_SIDE, counts.bytes);
     }
     nb_guard_sent(&guard, NB_CLIENT_SIDE, 1000);
-    nb_guard_hang_up(&guard, &policy);
+    nb_guard_hang_up(&guard);
     while (nb_guard_next_released(&guard, &descriptor) == NB_OK)
         out += descriptor == 31;
     nb_guard_end(&guard);

@@ -2,7 +2,7 @@
 //!
 //! | Calls | File |
 //! |---|---|
-//! | `new`, `end`, `how_ended` | `whole` |
+//! | `new`, `end`, `hang_up`, `how_ended` | `whole` |
 //! | `received`, `to_send`, `sent`, `next_released` | `passing` |
 
 mod kept;

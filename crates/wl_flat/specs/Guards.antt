@@ -15,7 +15,7 @@ use Rattle.wl_guard.specs.Policy.{RefusesAllow, RefusesIgnore, RefusesRefuse, Re
 use Rattle.wl_guard.specs.Policy as rules
 use Rattle.wl_guard.specs.Queues.{one_send}
 use Rattle.wl_guard.specs.declared.ending.End.{End}
-use Rattle.wl_guard.specs.declared.ending.End.TheVariants.{Breach, OutOfMemory as NoMemory}
+use Rattle.wl_guard.specs.declared.ending.End.TheVariants.{Breach, HungUp, OutOfMemory as NoMemory}
 use Rattle.wl_guard.specs.declared.guard.ArriveError.{ArriveError}
 use Rattle.wl_guard.specs.declared.guard.ArriveError.TheVariants as arrive
 use Rattle.wl_guard.specs.declared.policy.Limits.{Limits}
@@ -64,6 +64,7 @@ abbrev pub flat_end : Option End → FlatEnd
 flat_end None = record { reason = 0; side = 0; object = 0; opcode = 0 }
 flat_end (Some (Breach b)) = record { reason = reason_of b.rule; side = side_number b.side; object = b.object; opcode = b.opcode }
 flat_end (Some NoMemory) = record { reason = 12; side = 0; object = 0; opcode = 0 }
+flat_end (Some HungUp) = record { reason = 13; side = 0; object = 0; opcode = 0 }
 
 -- a descriptor's own number is its token
 abbrev pub token_of : ℤ → Token
@@ -194,3 +195,7 @@ Sends n count before _ after = ⊥
 abbrev pub Frees : Guard → Result ℤ Status → Guard → Type 0
 Frees before (Ok d) after = GivesBack before.core (Some (token_of d)) after.core
 Frees before (Err s) after = GivesBack before.core None after.core × (s ≡ status.WouldBlock)
+
+-- the connection ends; one that has ended stays as it was
+abbrev pub HangsUp : Guard → Guard → Type 0
+HangsUp before after = (before.core.end ≡ None → guard.HangsUp before.core after.core) × (IsSome before.core.end → after.core ≡ before.core)

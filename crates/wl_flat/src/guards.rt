@@ -3,7 +3,7 @@
 ghost use Rattle.std.specs.Prelude.{◌≡◌, ◌≤◌, IfErr, IfOk, length, map};
 ghost use Rattle.wl_guard.specs.Guard.{new_guard};
 ghost use Rattle.wl_flat.specs.Flat.{over_front};
-ghost use Rattle.wl_flat.specs.Guards.{Allows, Frees, Ignores, IsNewPolicy, IsPolicyFault, IsPolicyOver, Receives, Refuses, RefusesPolicy, Sends, copied_for, descriptor_of, flat_end, of_arrival, of_rule, policy_fault, reason_of, side_number, side_of, token_of};
+ghost use Rattle.wl_flat.specs.Guards.{Allows, Frees, HangsUp, Ignores, IsNewPolicy, IsPolicyFault, IsPolicyOver, Receives, Refuses, RefusesPolicy, Sends, copied_for, descriptor_of, flat_end, of_arrival, of_rule, policy_fault, reason_of, side_number, side_of, token_of};
 
 use crate::flat::Counts;
 use crate::outgoing::copy_bytes;
@@ -50,6 +50,8 @@ pub mod reason {
     pub const DESCRIPTORS: u32 = 11;
     /// `End::OutOfMemory`: there was no memory.
     pub const OUT_OF_MEMORY: u32 = 12;
+    /// `End::HungUp`: the host hung up.
+    pub const HUNG_UP: u32 = 13;
 }
 
 /// How a connection ended.
@@ -113,6 +115,7 @@ fn flat_end(end: Option<End>) -> FlatEnd
     let (reason, side, object, opcode) = match end {
         None => (reason::NONE, CLIENT_SIDE, 0, 0),
         Some(End::OutOfMemory) => (reason::OUT_OF_MEMORY, CLIENT_SIDE, 0, 0),
+        Some(End::HungUp) => (reason::HUNG_UP, CLIENT_SIDE, 0, 0),
         Some(End::Breach(breach)) => (
             reason_of(breach.rule),
             side_number(breach.side),
@@ -366,6 +369,14 @@ impl Guard {
             Some(token) => Ok(token.0),
             None => Err(Status::WouldBlock),
         }
+    }
+
+    /// Ends the connection, as a host does once a side has hung up; one that has ended stays as it is. What is to be sent may still be
+    /// sent, and `next_released` gives what was not read.
+    pub fn hang_up(&mut self)
+        ensures call { HangsUp self.old self.new }
+    {
+        self.core.hang_up();
     }
 
     /// How the connection ended, if it has.

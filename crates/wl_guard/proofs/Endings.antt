@@ -29,6 +29,7 @@ module _ (p : PolicyState) (side : Side) (k k' : Known) (q rest out out' : Queue
   ends_if None passed none = (passed.0, passed.1, (passed.2.0, passed.2.1, none))
   ends_if (Some (end.Breach b)) passed some = (passed.0, passed.1, (some.1, some.3, some.4, ap (λ (s : Known). s.objects) passed.2.0, inr (some.2, passed.2.1, some.0)))
   ends_if (Some end.OutOfMemory) passed some = absurd some
+  ends_if (Some end.HungUp) passed some = absurd some
 
   -- there was no memory
   pub ends_so : (e : OutOfMemory) → PassesUpTo p side k q out released (Err e) k' rest out' released'

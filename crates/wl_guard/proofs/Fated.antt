@@ -22,7 +22,7 @@ use Rattle.wl_guard.specs.Guard.{GuardState}
 use Rattle.wl_guard.specs.Known.{Known, told_of}
 use Rattle.wl_guard.specs.Passages.{IsPassed, Passage, Passes, released_for, sent_for}
 use Rattle.wl_guard.specs.Policy.{PolicyState, lists}
-use Rattle.wl_guard.specs.Runs.{Call, Came, GaveBack, Leads, WasSent, all_passed}
+use Rattle.wl_guard.specs.Runs.{Call, Came, GaveBack, HungUp, Leads, WasSent, all_passed}
 use Rattle.wl_guard.specs.declared.session.Fate.{Fate}
 use Rattle.wl_guard.specs.declared.session.Fate.TheVariants as fate
 use Rattle.wl_guard.specs.declared.session.Rule.{Rule}
@@ -193,6 +193,7 @@ module _ (p : PolicyState) where
   all_requests (Came Server came passages ∷ calls) before after (mid, one, more) = all_requests calls mid after more
   all_requests (WasSent side out ∷ calls) before after (mid, one, more) = all_requests calls mid after more
   all_requests (GaveBack t ∷ calls) before after (mid, one, more) = all_requests calls mid after more
+  all_requests (HungUp ∷ calls) before after (mid, one, more) = all_requests calls mid after more
 
   pub all_events : (calls : List Call) (before after : GuardState) → Leads p before calls after → AllByRecursion (IsEvent p) (all_passed Server calls)
   all_events [] before after is = tt
@@ -203,3 +204,4 @@ module _ (p : PolicyState) where
   all_events (Came Client came passages ∷ calls) before after (mid, one, more) = all_events calls mid after more
   all_events (WasSent side out ∷ calls) before after (mid, one, more) = all_events calls mid after more
   all_events (GaveBack t ∷ calls) before after (mid, one, more) = all_events calls mid after more
+  all_events (HungUp ∷ calls) before after (mid, one, more) = all_events calls mid after more

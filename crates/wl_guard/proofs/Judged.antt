@@ -3,14 +3,15 @@ use Rattle.std.specs.Prelude.{◌≡◌, List, [], ◌∷◌, Option, None, Some
 use Rattle.std.proofs.Common.{ap, refl, subst, sym, ◌∙◌}
 use Rattle.wl_link.specs.Exchange.{Queue, joined}
 use Rattle.wl_follow.specs.declared.side.Side.{Side}
+use Rattle.wl_follow.specs.declared.side.Side.TheVariants.{Client}
 use Rattle.wl_guard.specs.Ends.{StopsBy}
 use Rattle.wl_guard.specs.Guard.{GuardState, new_guard, unread}
 use Rattle.wl_guard.specs.Known.{Known, nothing_known}
 use Rattle.wl_guard.specs.Passages.{Passage, Passes}
 use Rattle.wl_guard.specs.Policy.{PolicyState}
-use Rattle.wl_guard.specs.Runs.{AllPassUnder, Call, Came, GaveBack, Leads, PassesUnder, WasSent}
+use Rattle.wl_guard.specs.Runs.{AllPassUnder, Call, Came, GaveBack, HungUp, Leads, PassesUnder, WasSent}
 use Rattle.wl_guard.specs.declared.ending.End.{End}
-use Rattle.wl_guard.proofs.Runs.{back_keeps, not_some, nothing_follows, sent_keeps}
+use Rattle.wl_guard.proofs.Runs.{back_keeps, hang_ends, not_some, nothing_follows, sent_keeps}
 
 module _ (p : PolicyState) where
   one_by_one : (side : Side) (xs : List Passage) (k k' : Known) (q rest : Queue) → Passes p side k q xs k' rest → PassesUnder p side k xs k'
@@ -25,6 +26,7 @@ module _ (p : PolicyState) where
       none_after calls k mid after (subst (λ (e : Option End). IsSome e) (sym (sent_keeps side count before mid is).1) some) more
   none_after (GaveBack t ∷ calls) k before after some (mid, back, more) =
       none_after calls k mid after (subst (λ (e : Option End). IsSome e) (sym (back_keeps before mid t back).end) some) more
+  none_after (HungUp ∷ calls) k before after some (mid, hangs, more) = absurd (not_some before.end hangs.0 some)
 
   known_stays : (side : Side) (last k : Known) (rest : Queue) (e : Option End) → e ≡ None → StopsBy p side last rest e k → k ≡ last
   known_stays side last k rest None is stops = stops.0
@@ -62,6 +64,10 @@ module _ (p : PolicyState) where
       let keeps = back_keeps before mid t back in
       let rest = all_judged calls mid after (keeps.end ∙ begun) more in
       (rest.0, subst (λ (k : Known). AllPassUnder p k calls rest.0) keeps.known rest.1, rest.2)
+  all_judged (HungUp ∷ calls) before after begun (mid, hangs, more) =
+      let some = hang_ends before mid hangs in
+      let ended = (nothing_follows p calls mid after Client some more).1 in
+      (before.known, none_after calls before.known mid after some more, λ still. absurd (not_some mid.end (sym ended ∙ still) some))
 
   pub judged : (calls : List Call) (after : GuardState) → Leads p new_guard calls after
       → (last : Known) × AllPassUnder p nothing_known calls last × (after.end ≡ None → last ≡ after.known)

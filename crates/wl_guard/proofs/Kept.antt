@@ -11,10 +11,10 @@ use Rattle.wl_guard.specs.Guard.{GuardState, new_guard, unread}
 use Rattle.wl_guard.specs.Known.{Known}
 use Rattle.wl_guard.specs.Passages.{Passage, Passes}
 use Rattle.wl_guard.specs.Policy.{PolicyState}
-use Rattle.wl_guard.specs.Runs.{Call, Came, Does, GaveBack, Leads, WasSent}
+use Rattle.wl_guard.specs.Runs.{Call, Came, Does, GaveBack, HungUp, Leads, WasSent}
 use Rattle.wl_guard.specs.declared.ending.End.{End}
 use Rattle.wl_guard.proofs.Closed.{first_bounded, first_within, passes_bounded, passes_within}
-use Rattle.wl_guard.proofs.Runs.{all_stays, back_keeps, sent_keeps}
+use Rattle.wl_guard.proofs.Runs.{all_stays, back_keeps, hang_knows, sent_keeps}
 
 -- without an end, the last that was known is what is known
 last_known : (p : PolicyState) (side : Side) (last k : Known) (rest : Queue) (e : Option End) → StopsBy p side last rest e k → e ≡ None → k ≡ last
@@ -28,6 +28,7 @@ module _ (p : PolicyState) (Inv : Known → Type 0) (kept : (side : Side) (xs : 
       (kept side arrives.at.passages before.known arrives.at.last _ (unread side after) arrives.at.passes inv)
   call_keeps (WasSent side out) before after (count, is, out_is) begun inv = subst (λ (k : Known). Inv k) (sym (sent_keeps side count before after is).0) inv
   call_keeps (GaveBack t) before after back begun inv = subst (λ (k : Known). Inv k) (sym (back_keeps before after t back).known) inv
+  call_keeps HungUp before after hangs begun inv = subst (λ (k : Known). Inv k) (sym (hang_knows before after hangs)) inv
 
   pub calls_keep : (calls : List Call) (before after : GuardState) → Leads p before calls after → after.end ≡ None → Inv before.known → Inv after.known
   calls_keep [] before after is begun inv = subst (λ (g : GuardState). Inv g.known) (sym is) inv

@@ -8,12 +8,12 @@ use Rattle.wl_link.proofs.Calls.QueueLaws.{joined_assoc, joined_nothing, queue_i
 use Rattle.wl_follow.specs.declared.side.Side.{Side}
 use Rattle.wl_follow.specs.declared.side.Side.TheVariants.{Client, Server}
 use Rattle.wl_guard.specs.Ends.{StopsBy, told_end, told_for}
-use Rattle.wl_guard.specs.Guard.{Arrives, GivesBack, GuardState, Sent, new_guard, to_send, unread}
+use Rattle.wl_guard.specs.Guard.{Arrives, GivesBack, GuardState, HangsUp, Sent, new_guard, to_send, unread}
 use Rattle.wl_guard.specs.Known.{Known}
 use Rattle.wl_guard.specs.Passages.{Passage, all_pieces, all_sent}
 use Rattle.wl_guard.specs.Policy.{PolicyState}
 use Rattle.wl_guard.specs.Queues.{left_after, offered, part_sent}
-use Rattle.wl_guard.specs.Runs.{Call, Came, Does, GaveBack, Leads, WasSent, all_came, all_out, all_passed, came_in, out_in, passed_in}
+use Rattle.wl_guard.specs.Runs.{Call, Came, Does, GaveBack, HungUp, Leads, WasSent, all_came, all_out, all_passed, came_in, out_in, passed_in}
 use Rattle.wl_guard.specs.declared.ending.Breach.{Breach}
 use Rattle.wl_guard.specs.declared.ending.End.{End}
 use Rattle.wl_guard.specs.declared.ending.End.TheVariants as end
@@ -44,6 +44,7 @@ told_none p k e q is = ap (λ (x : Option End). told_end p k x q) is
 pub told_server : (p : PolicyState) (last k : Known) (rest : Queue) (e : Option End) (q : Queue) → StopsBy p Server last rest e k → told_end p k e q ≡ q
 told_server p last k rest None q stops = refl
 told_server p last k rest (Some end.OutOfMemory) q stops = refl
+told_server p last k rest (Some end.HungUp) q stops = absurd stops
 told_server p last k rest (Some (end.Breach b)) q stops = ap (λ (s : Side). told_for p k b s q) stops.0
 
 -- what was sent before comes before it
@@ -54,6 +55,7 @@ told_for_joined p k b Server o q = refl
 pub told_joined : (p : PolicyState) (k : Known) (e : Option End) (o q : Queue) → joined o (told_end p k e q) ≡ told_end p k e (joined o q)
 told_joined p k None o q = refl
 told_joined p k (Some end.OutOfMemory) o q = refl
+told_joined p k (Some end.HungUp) o q = refl
 told_joined p k (Some (end.Breach b)) o q = told_for_joined p k b b.side o q
 
 -- ---- a call
@@ -114,6 +116,21 @@ pub back_sends : (side : Side) (before after : GuardState) → Keeps before afte
 back_sends Client before after keeps = keeps.to_client
 back_sends Server before after keeps = keeps.to_server
 
+-- what a program that hangs up leaves as it is
+pub hang_reads : (side : Side) (before after : GuardState) → HangsUp before after → unread side after ≡ unread side before
+hang_reads Client before after hangs = ap (λ (g : GuardState). g.from_client) hangs.1
+hang_reads Server before after hangs = ap (λ (g : GuardState). g.from_server) hangs.1
+
+pub hang_sends : (side : Side) (before after : GuardState) → HangsUp before after → to_send side after ≡ to_send side before
+hang_sends Client before after hangs = ap (λ (g : GuardState). g.to_client) hangs.1
+hang_sends Server before after hangs = ap (λ (g : GuardState). g.to_server) hangs.1
+
+pub hang_knows : (before after : GuardState) → HangsUp before after → after.known ≡ before.known
+hang_knows before after hangs = ap (λ (g : GuardState). g.known) hangs.1
+
+pub hang_ends : (before after : GuardState) → HangsUp before after → IsSome after.end
+hang_ends before after hangs = subst (λ (g : GuardState). IsSome g.end) (sym hangs.1) refl
+
 pub not_some : (o : Option End) → o ≡ None → IsSome o → ⊥
 not_some o none some = let e : IsSome {T = End} None = subst (λ (x : Option End). IsSome x) none some in absurd cc
 
@@ -164,6 +181,7 @@ module _ (p : PolicyState) where
   call_stays Server (GaveBack t) before after some back =
       let keeps = back_keeps before after t back in
       record { none = refl; nothing_came = refl; end = keeps.end; known = keeps.known; sends = keeps.to_server }
+  call_stays side HungUp before after some hangs = absurd (not_some before.end hangs.0 some)
 
   pub all_stays : (side : Side) (calls : List Call) (before after : GuardState) → IsSome before.end → Leads p before calls after
       → Stays side (all_out side calls) (all_came side calls) (all_passed side calls) before after
@@ -201,6 +219,7 @@ module _ (p : PolicyState) where
   server_call (WasSent Server out) before after (count, is, out_is) =
       sent_sends Server Server count out before after is out_is ∙ sym (joined_nothing before.to_server)
   server_call (GaveBack t) before after back = (back_keeps before after t back).to_server ∙ sym (joined_nothing before.to_server)
+  server_call HungUp before after hangs = hang_sends Server before after hangs ∙ sym (joined_nothing before.to_server)
 
   server_all : (calls : List Call) (before after : GuardState) → Leads p before calls after
       → joined (all_out Server calls) after.to_server ≡ joined before.to_server (all_sent (all_passed Client calls))
@@ -231,6 +250,9 @@ module _ (p : PolicyState) where
   client_call (GaveBack t) before after begun back =
       let keeps = back_keeps before after t back in
       keeps.to_client ∙ sym (joined_nothing before.to_client) ∙ sym (told_none p after.known after.end (joined before.to_client nothing) (keeps.end ∙ begun))
+  client_call HungUp before after begun hangs =
+      hang_sends Client before after hangs ∙ sym (joined_nothing before.to_client)
+      ∙ sym (ap (λ (g : GuardState). told_end p after.known g.end (joined before.to_client nothing)) hangs.1)
 
   client_all : (calls : List Call) (before after : GuardState) → before.end ≡ None → Leads p before calls after
       → joined (all_out Client calls) after.to_client ≡ told_end p after.known after.end (joined before.to_client (all_sent (all_passed Server calls)))
@@ -335,6 +357,10 @@ module _ (p : PolicyState) where
             ap (λ (xs : List Passage). joined (all_pieces xs) (unread side before)) rest.none
                 ∙ sym (joined_nothing (unread side before)) ∙ ap (λ (q : Queue). joined (unread side before) q) (sym rest.nothing_came),
           )
+  are_first Client (HungUp ∷ calls) before after (mid, hangs, more) =
+      same_more Client calls before mid (hang_reads Client before mid hangs) (are_first Client calls mid after more)
+  are_first Server (HungUp ∷ calls) before after (mid, hangs, more) =
+      same_more Server calls before mid (hang_reads Server before mid hangs) (are_first Server calls mid after more)
 
   -- what is to be read stays if a token is given back, as long as there is no end
   still_read : (side : Side) (calls : List Call) (before mid after : GuardState) (t : Token) → after.end ≡ None → GivesBack before (Some t) mid → Leads p mid calls after
@@ -372,6 +398,10 @@ module _ (p : PolicyState) where
       all_read Client calls mid after begun more ∙ ap (λ (q : Queue). joined q (all_came Client calls)) (still_read Client calls before mid after t begun back more)
   all_read Server (GaveBack t ∷ calls) before after begun (mid, back, more) =
       all_read Server calls mid after begun more ∙ ap (λ (q : Queue). joined q (all_came Server calls)) (still_read Server calls before mid after t begun back more)
+  all_read Client (HungUp ∷ calls) before after begun (mid, hangs, more) =
+      all_read Client calls mid after begun more ∙ ap (λ (q : Queue). joined q (all_came Client calls)) (hang_reads Client before mid hangs)
+  all_read Server (HungUp ∷ calls) before after begun (mid, hangs, more) =
+      all_read Server calls mid after begun more ∙ ap (λ (q : Queue). joined q (all_came Server calls)) (hang_reads Server before mid hangs)
 
   nothing_read : (side : Side) → unread side new_guard ≡ nothing
   nothing_read Client = refl

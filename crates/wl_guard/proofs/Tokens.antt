@@ -15,7 +15,7 @@ use Rattle.wl_guard.specs.Guard.{ArrivesAt, GuardState, new_guard}
 use Rattle.wl_guard.specs.Known.{Known}
 use Rattle.wl_guard.specs.Passages.{IsPassed, Passage, Passes, all_pieces, all_released, all_sent, released_for, sent_for}
 use Rattle.wl_guard.specs.Policy.{PolicyState}
-use Rattle.wl_guard.specs.Runs.{Call, Came, Does, GaveBack, Leads, WasSent, all_back, all_came, all_out, back_in, came_in, kept_weight, out_in, weight_in, weight_out}
+use Rattle.wl_guard.specs.Runs.{Call, Came, Does, GaveBack, HungUp, Leads, WasSent, all_back, all_came, all_out, back_in, came_in, kept_weight, out_in, weight_in, weight_out}
 use Rattle.wl_guard.specs.declared.ending.Breach.{Breach}
 use Rattle.wl_guard.specs.declared.ending.End.{End}
 use Rattle.wl_guard.specs.declared.ending.End.TheVariants as end
@@ -65,6 +65,7 @@ module _ (p : PolicyState) (weight : Token → ℕ) where
   told_tokens : (k : Known) (e : Option End) (q : Queue) → w (told_end p k e q).tokens ≡ w q.tokens
   told_tokens k None q = refl
   told_tokens k (Some end.OutOfMemory) q = refl
+  told_tokens k (Some end.HungUp) q = refl
   told_tokens k (Some (end.Breach b)) q = told_for_tokens k b b.side q
 
   -- what came is passed on, given back, or still to be read
@@ -120,6 +121,7 @@ module _ (p : PolicyState) (weight : Token → ℕ) where
       let a = ap (kept_weight weight) some.3 in
       let b = both (t ∷ []) after.from_server.tokens in
       omega (arith, a, b)
+  call_balance HungUp before after hangs = let a = ap (kept_weight weight) hangs.1 in omega (arith, a)
 
   calls_balance : (calls : List Call) (before after : GuardState) → Leads p before calls after
       → weight_in weight calls + kept_weight weight before ≡ weight_out weight calls + kept_weight weight after

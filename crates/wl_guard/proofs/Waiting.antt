@@ -16,11 +16,11 @@ use Rattle.wl_guard.specs.Known.{Known}
 use Rattle.wl_guard.specs.Passages.{all_pieces, all_sent}
 use Rattle.wl_guard.specs.Policy.{PolicyState}
 use Rattle.wl_guard.specs.Queues.{left_after, offered}
-use Rattle.wl_guard.specs.Runs.{Call, Came, Does, GaveBack, Leads, WasSent, came_in, error_to, most_came}
+use Rattle.wl_guard.specs.Runs.{Call, Came, Does, GaveBack, HungUp, Leads, WasSent, came_in, error_to, most_came}
 use Rattle.wl_guard.specs.declared.ending.End.{End}
 use Rattle.wl_guard.proofs.Long.{all_long}
 use Rattle.wl_guard.proofs.Passing.{pieces_are}
-use Rattle.wl_guard.proofs.Runs.{back_keeps, back_reads, back_sends, not_some, sent_keeps, sent_reads, told_joined, told_none, told_server}
+use Rattle.wl_guard.proofs.Runs.{back_keeps, back_reads, back_sends, hang_ends, hang_sends, not_some, sent_keeps, sent_reads, told_joined, told_none, told_server}
 
 -- what waits to be read is less than a message and 112 tokens
 hoards_none : (q : Queue) → hoards q ≡ false → (length q.bytes ≤ 65535) × (length q.tokens ≤ 112)
@@ -81,6 +81,7 @@ module _ (p : PolicyState) where
       go : before.end ≡ None → (IsSome before.end) ⊎ (unread side after ≡ unread side before) → hoards (unread side after) ≡ false
       go same (inl some) = absurd (not_some before.end same some)
       go same (inr reads) = ap (λ (q : Queue). hoards q) reads ∙ on same
+  call_reads side HungUp before after hangs on = λ begun. absurd (not_some after.end begun (hang_ends before after hangs))
 
   -- ---- what waits for a side
 
@@ -131,6 +132,10 @@ module _ (p : PolicyState) where
         let sends = ap (λ (q : Queue). length q.bytes) (back_sends side before after keeps) in
         let same = ap (λ (q : Queue). length q.bytes) (same_error side before after keeps.known keeps.end) in
         omega (arith, sends, same, waits)
+    call_waits side HungUp before after few hangs on waits =
+        let sends = ap (λ (q : Queue). length q.bytes) (hang_sends side before after hangs) in
+        let none = no_error side before hangs.0 in
+        omega (arith, sends, none, waits)
 
     all_wait : (side : Side) (calls : List Call) (before after : GuardState) → most_came (other_side side) calls ≤ most → Leads p before calls after
         → ReadsOn (other_side side) before → Waits side before → Waits side after

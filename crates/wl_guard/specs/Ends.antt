@@ -41,13 +41,14 @@ StopsBy p side k q (Some (end.Breach b)) k' =
     (b.side ≡ side) × (b.object ≡ front_sender q) × (b.opcode ≡ front_opcode q) × (k'.objects ≡ k.objects)
     × (Breaks p side k q b.rule ⊎ ((b.rule ≡ rule.Descriptors) × Awaits p side k q × (hoards q ≡ true)))
 StopsBy p side k q (Some end.OutOfMemory) k' = Unit {0}
+StopsBy p side k q (Some end.HungUp) k' = ⊥
 
 -- the end, if there is one for what waits
 abbrev pub HoardsAs : Side → Queue → Option End → Type 0
 HoardsAs side q None = hoards q ≡ false
 HoardsAs side q (Some (end.Breach b)) =
     (hoards q ≡ true) × (b.side ≡ side) × (b.rule ≡ rule.Descriptors) × (b.object ≡ front_sender q) × (b.opcode ≡ front_opcode q)
-HoardsAs side q (Some end.OutOfMemory) = ⊥
+HoardsAs side q (Some _) = ⊥
 
 -- the messages of what a side sent were passed, up to one that is not, and to an end if it is one
 abbrev pub PassesToEnd : PolicyState → Side → Known → Queue → Queue → List Token → Option End → Known → Queue → Queue → List Token → Type 0

@@ -11,6 +11,7 @@ use Rattle.wl_guard.specs.Passages.{Passage, Passes, all_released, all_sent}
 use Rattle.wl_guard.specs.Policy.{PolicyState}
 use Rattle.wl_guard.specs.Queues.{left_after}
 use Rattle.wl_guard.specs.declared.ending.End.{End}
+use Rattle.wl_guard.specs.declared.ending.End.TheVariants.{HungUp}
 
 -- What is known of the session; what came from each side and was not read; what is to be sent to each; the tokens that were given back
 -- and not taken; and how the connection ended, if it has.
@@ -71,3 +72,7 @@ GivesBack before (Some t) after =
     ⊎ (IsSome before.end × (before.released ≡ []) × (before ≡ record after { from_client = record { bytes = after.from_client.bytes; tokens = t ∷ after.from_client.tokens } }))
     ⊎ (IsSome before.end × (before.released ≡ []) × (before.from_client.tokens ≡ [])
     × (before ≡ record after { from_server = record { bytes = after.from_server.bytes; tokens = t ∷ after.from_server.tokens } }))
+
+-- the connection ends, which it had not: the program hung up
+abbrev pub HangsUp : GuardState → GuardState → Type 0
+HangsUp before after = (before.end ≡ None) × (after ≡ record before { end = Some HungUp })

@@ -6,7 +6,7 @@ use Rattle.wl_link.specs.Exchange.{Queue, joined, nothing}
 use Rattle.wl_follow.specs.declared.side.Side.{Side}
 use Rattle.wl_follow.specs.declared.side.Side.TheVariants.{Client, Server}
 use Rattle.wl_guard.specs.Ends.{told_end}
-use Rattle.wl_guard.specs.Guard.{Arrives, GivesBack, GuardState, Sent, to_send}
+use Rattle.wl_guard.specs.Guard.{Arrives, GivesBack, GuardState, HangsUp, Sent, to_send}
 use Rattle.wl_guard.specs.Known.{Known}
 use Rattle.wl_guard.specs.Passages.{IsPassed, Passage}
 use Rattle.wl_guard.specs.Policy.{PolicyState}
@@ -20,12 +20,15 @@ pub data Call : Type 0 where
   WasSent : (side : Side) (out : Queue) → Call
   -- this token was given back
   GaveBack : (token : Token) → Call
+  -- the program hung up
+  HungUp : Call
 
 -- What a call does. All are by one policy.
 abbrev pub Does : PolicyState → GuardState → Call → GuardState → Type 0
 Does p before (Came side came passages) after = (arrives : Arrives p side came before after) × (arrives.at.passages ≡ passages)
 Does p before (WasSent side out) after = (count : ℕ) × Sent side count before after × (out ≡ part_sent count (to_send side before))
 Does p before (GaveBack token) after = GivesBack before (Some token) after
+Does p before HungUp after = HangsUp before after
 
 -- the calls lead from one state of the guard to another
 abbrev pub Leads : PolicyState → GuardState → List Call → GuardState → Type 0

@@ -48,6 +48,8 @@ pub enum End {
     Breach(Breach),
     /// There was no memory.
     OutOfMemory,
+    /// The program hung up ([`Guard::hang_up`](crate::Guard::hang_up)).
+    HungUp,
 }
 
 impl Rule {

@@ -4,7 +4,7 @@ ghost use Rattle.std.specs.Prelude.{◌≡◌, ◌↔◌, ◌<◌, ◌≤◌, Er
 ghost use Rattle.wl_link.specs.Exchange.{joined};
 ghost use Rattle.wl_follow.specs.Sides.{other_side};
 ghost use Rattle.wl_follow.specs.declared.side.Side.TheVariants.{Client, Server};
-ghost use Rattle.wl_guard.specs.Guard.{Arrives, ArrivesAt, GivesBack, Sent, new_guard, to_send};
+ghost use Rattle.wl_guard.specs.Guard.{Arrives, ArrivesAt, GivesBack, HangsUp, Sent, new_guard, to_send};
 ghost use Rattle.wl_guard.specs.Known.{known};
 ghost use Rattle.wl_guard.specs.declared.guard.ArriveError.TheVariants.{OutOfMemory as NoMemory};
 ghost use Rattle.wl_guard.specs.Queues.{one_send};
@@ -41,8 +41,8 @@ pub enum ArriveError {
 /// ([`to_send`](Guard::to_send), [`sent`](Guard::sent)). The compositor is sent what the client sent, message by message, as far as the
 /// policy allows it; and the client what the compositor sent, but for globals that the policy does not allow.
 ///
-/// Once a side breaks a rule, or there is no memory, the connection has ended ([`end`](Guard::end)): nothing more is taken. What is to be
-/// sent may still be sent.
+/// Once a side breaks a rule, there is no memory, or the program hangs up ([`hang_up`](Guard::hang_up)), the connection has ended
+/// ([`end`](Guard::end)): nothing more is taken. What is to be sent may still be sent.
 ///
 /// Descriptors of what does not go on are given back for closing ([`next_released`](Guard::next_released)).
 #[derive(Drop)]
@@ -250,6 +250,15 @@ impl Guard {
             Some(token) => Some(token),
             None => self.from_server.pop_token(),
         }
+    }
+
+    /// Ends the connection, as a program does once a side has hung up; one that has ended stays as it is. What is to be sent may still be
+    /// sent, and what was not read is given back.
+    pub fn hang_up(&mut self)
+        ensures ended { self.old.end ≡ None → HangsUp self.old self.new }
+        ensures unchanged { IsSome self.old.end → self.new ≡ self.old }
+    {
+        self.end = Some(self.end.unwrap_or(End::HungUp));
     }
 
     /// How the connection ended; `None` if it has not.

@@ -4,7 +4,7 @@ use crate::kit::{Allowed, NOTHING, Named, Raw, Row, Sent, policy_of, put_in, row
 use std::alloc::Global;
 use std::test::Fail;
 use test_kit::log::holds;
-use wl_guard::{ArriveError, Guard, Policy, Rule, Side};
+use wl_guard::{ArriveError, End, Guard, Policy, Rule, Side};
 use wl_wire::Token;
 
 /// The client asks for the registry, as object 2.
@@ -511,4 +511,64 @@ fn a_compositor_rests(rt: HostRuntime) -> Result<(), Fail> {
     holds(&rt, "from the compositor", rest.from_server == Ok(()))?;
     holds(&rt, "more", rest.more == 1)?;
     holds(&rt, "end", rest.is_open)
+}
+
+/// The header of a `wl_display.sync` whose argument has not come, with the descriptor 21.
+const BEGUN: Raw = Raw {
+    side: Side::Client,
+    bytes: &[1, 0, 0, 0, 0, 0, 12, 0],
+    tokens: &[Token(21)],
+};
+
+/// What is seen of a guard that hangs up.
+#[derive(Clone, Copy)]
+struct HungUp {
+    open: Option<Token>,
+    end: Option<End>,
+    arrival: Result<(), ArriveError>,
+    released: Option<Token>,
+    more: Option<Token>,
+}
+
+/// Hangs up twice, once this came.
+fn hang_up(policy: &Policy, guard: &mut Guard, came: &Raw) -> HungUp {
+    let arrived = guard.arrive(policy, came.side, came.bytes, came.tokens);
+    let open = guard.next_released();
+    guard.hang_up();
+    let end = guard.end();
+    guard.hang_up();
+    HungUp {
+        open,
+        end,
+        arrival: arrived.and(guard.arrive(policy, came.side, came.bytes, &[])),
+        released: guard.next_released(),
+        more: guard.next_released(),
+    }
+}
+
+/// The same with a new guard.
+fn hung_up_after(alloc: Global, policy: &Policy, came: &Raw) -> Result<HungUp, Fail> {
+    let mut guard = Guard::new(alloc)?;
+    let seen = hang_up(policy, &mut guard, came);
+    drop(guard);
+    Ok(seen)
+}
+
+/// The same under a new policy.
+fn hung_up_under(alloc: Global, came: &Raw) -> Result<HungUp, Fail> {
+    let policy = policy_of(alloc, Allowed::Quad)?;
+    let seen = hung_up_after(alloc, &policy, came);
+    drop(policy);
+    seen
+}
+
+#[test]
+fn a_program_hangs_up(rt: HostRuntime) -> Result<(), Fail> {
+    let seen = hung_up_under(rt.alloc(), &BEGUN)?;
+    holds(&rt, "before", seen.open.is_none())?;
+    holds(&rt, "end", seen.end == Some(End::HungUp))?;
+    holds(&rt, "nothing more is taken", seen.arrival == Err(ArriveError::Ended))?;
+    holds(&rt, "the descriptor", seen.released == Some(Token(21)) && seen.more.is_none())?;
+    let refused = hung_up_under(rt.alloc(), &SHORT_HEADER)?;
+    holds(&rt, "a breach stays", matches!(refused.end, Some(End::Breach(_))))
 }

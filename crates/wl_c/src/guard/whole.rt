@@ -1,9 +1,9 @@
 //! A guard as a whole: its begin, its end, and how its connection ended.
 
 ghost use Rattle.std.specs.Prelude.{IsSome, None, Ok, Some, ◌↔◌, ◌≡◌, ◌≢◌};
-ghost use Rattle.wl_c.specs.Calls.{Found};
+ghost use Rattle.wl_c.specs.Calls.{Did, Found};
 ghost use Rattle.wl_guard.specs.Guard.{new_guard};
-ghost use Rattle.wl_flat.specs.Guards.{flat_end};
+ghost use Rattle.wl_flat.specs.Guards.{HangsUp, flat_end};
 ghost use Rattle.wl_flat.specs.declared.guards.Guard.{Guard};
 
 use super::place::{GuardPlace, in_box};
@@ -45,6 +45,22 @@ pub extern "C" fn nb_guard_end(alloc: Global, place: &mut GuardPlace) -> u32
         Some(_) => Status::Ok.code(),
         None => Status::NoSession.code(),
     }
+}
+
+/// Ends the connection, since a side has hung up. One that has ended stays as it is.
+#[unsafe(no_mangle)]
+pub extern "C" fn nb_guard_hang_up(alloc: Global, place: &mut GuardPlace) -> u32
+    ensures none { place.old.kept.held ≡ None → (result ≡ 1) × (place.new.kept.held ≡ None) }
+    ensures stays { IsSome place.old.kept.held → IsSome place.new.kept.held }
+    ensures call { Did place.old.kept.held result place.new.kept.held (λ g status h. HangsUp g h) }
+    ensures status { IsSome place.old.kept.held → result ≡ 0 }
+{
+    let Some(mut guard) = place.take(alloc) else {
+        return Status::NoSession.code();
+    };
+    guard.hang_up();
+    place.put(guard);
+    Status::Ok.code()
 }
 
 /// Writes how the connection ended, if it has.

@@ -800,6 +800,8 @@ pub const NB_END_GLOBALS: u32 = 10;
 pub const NB_END_DESCRIPTORS: u32 = 11;
 /// malloc refused.
 pub const NB_END_OUT_OF_MEMORY: u32 = 12;
+/// `nb_guard_hang_up` was called.
+pub const NB_END_HUNG_UP: u32 = 13;
 
 plain! {
     /// How a guard's connection ended.
@@ -1581,6 +1583,8 @@ unsafe extern "C" {
     pub safe fn nb_guard_sent(place: &mut nb_guard, side: u32, count: u32) -> nb_status;
     /// The next descriptor that does not go on.
     pub safe fn nb_guard_next_released(place: &mut nb_guard, descriptor: &mut i32) -> nb_status;
+    /// Ends the connection, since a side has hung up.
+    pub safe fn nb_guard_hang_up(place: &mut nb_guard) -> nb_status;
     /// How the connection ended.
     pub safe fn nb_guard_how_ended(place: &mut nb_guard, end: &mut nb_end) -> nb_status;
 
