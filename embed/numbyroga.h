@@ -1662,7 +1662,7 @@ nb_status nb_guard_how_ended(nb_guard *place, nb_end *end);
  *
  * For a program between a client and its compositor that shows what they say: numbyroga-relay is one. It takes what
  * both sides send, hands it on as it came, byte for byte and with its descriptors, and has a line of text for each
- * message. docs/RELAY.md has the lines.
+ * message. docs/relay.md has the lines.
  *
  *   1. For each client make a relay by nb_relay_new, and connect to the compositor.
  *   2. Receive from a side: nb_relay_received. Take the lines out: nb_relay_next_line, until there is none.

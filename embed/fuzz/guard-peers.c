@@ -43,7 +43,7 @@ static const char *const policies[] = {
     "# nothing\n",
 };
 
-/* Reads a policy as GUARD.md says. It is right, and its words stand each behind one space. */
+/* Reads a policy as docs/guard.md says. It is right, and its words stand each behind one space. */
 static void read_policy(struct rules *rules, const char *text)
 {
     char verb[8], first[32], second[16];

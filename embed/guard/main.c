@@ -1,4 +1,4 @@
-/* numbyroga-guard: a guard between Wayland clients and their compositor. docs/GUARD.md says what it is for.
+/* numbyroga-guard: a guard between Wayland clients and their compositor. docs/guard.md says what it is for.
  *
  *   numbyroga-guard [-p POLICY] [-l LOG [-m]] [-x FILE.xml]... [-a APP_ID [-e ENGINE]] [-s SOCKET] [-- PROGRAM ..]
  *   numbyroga-guard --what [-l LOG [-m]] [-x FILE.xml]... -- PROGRAM ..

@@ -1,4 +1,4 @@
-/* numbyroga-relay: a relay between Wayland clients and their compositor, which logs what they say. docs/RELAY.md says
+/* numbyroga-relay: a relay between Wayland clients and their compositor, which logs what they say. docs/relay.md says
  * what it does.
  *
  *   numbyroga-relay [-l LOG] [-n] [-x FILE.xml]... [-s SOCKET] [-- PROGRAM ..]

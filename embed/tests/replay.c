@@ -1,4 +1,4 @@
-/* Carries out recordings of wl-bench (docs/BENCH.md) through the library, and compares each line: replay FILE..
+/* Carries out recordings of wl-bench (docs/bench.md) through the library, and compares each line: replay FILE..
  *
  * A recording is passed over that says `dispatch`, since the library counts no requests; or in which a send takes a
  * part and then fails, or fails by another fault than WouldBlock, since a mailbox takes a send whole. */

@@ -2,7 +2,7 @@
 //!
 //! [`commands::run_commands`] carries out the lines of a reader and writes what they answer, [`commands::record`] writes each line
 //! with its answer; the crate `wl_replay` compares such a recording with the answers of today. [`sync::request`] and
-//! [`sync::answer`] are the first exchange of a client and a server. `docs/BENCH.md` has the language of the lines.
+//! [`sync::answer`] are the first exchange of a client and a server. `docs/bench.md` has the language of the lines.
 //!
 //! | Subject | Code | Definitions, in `specs/` |
 //! |---|---|---|

@@ -57,7 +57,7 @@ pub enum NewError {
 ///
 /// A new object gets the least number of its range that holds no object. It is looked up in a tree of words. The search
 /// reads one word more each time that there are 64 times as many objects; apart from that its time does not grow with them.
-/// `docs/SPEED.md` counts its instructions.
+/// `docs/speed.md` counts its instructions.
 #[derive(Drop)]
 pub struct ObjectMap<Data> {
     clients: ObjectRange<Data>,

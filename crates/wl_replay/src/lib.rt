@@ -2,7 +2,7 @@
 //! recorded.
 //!
 //! [`replay`] reads a recording, writes the verdict as a line, and returns it. `specs/Replay` defines verdicts; the page
-//! `docs/BENCH.md` has the language of the lines. `laws` says which verdict a recording has (`specs/OneVerdict`): what was
+//! `docs/bench.md` has the language of the lines. `laws` says which verdict a recording has (`specs/OneVerdict`): what was
 //! recorded is the same again, and else the first line is named that differs.
 #![tactic(auto)]
 

@@ -1,4 +1,4 @@
-//! Sessions over `Memory`: the examples of `docs/EMBEDDING.md`.
+//! Sessions over `Memory`: the examples of `docs/rattle.md`.
 
 use anyhow::Result;
 use smallvec::SmallVec;
