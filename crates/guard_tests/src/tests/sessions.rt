@@ -567,8 +567,20 @@ fn a_program_hangs_up(rt: HostRuntime) -> Result<(), Fail> {
     let seen = hung_up_under(rt.alloc(), &BEGUN)?;
     holds(&rt, "before", seen.open.is_none())?;
     holds(&rt, "end", seen.end == Some(End::HungUp))?;
-    holds(&rt, "nothing more is taken", seen.arrival == Err(ArriveError::Ended))?;
-    holds(&rt, "the descriptor", seen.released == Some(Token(21)) && seen.more.is_none())?;
+    holds(
+        &rt,
+        "nothing more is taken",
+        seen.arrival == Err(ArriveError::Ended),
+    )?;
+    holds(
+        &rt,
+        "the descriptor",
+        seen.released == Some(Token(21)) && seen.more.is_none(),
+    )?;
     let refused = hung_up_under(rt.alloc(), &SHORT_HEADER)?;
-    holds(&rt, "a breach stays", matches!(refused.end, Some(End::Breach(_))))
+    holds(
+        &rt,
+        "a breach stays",
+        matches!(refused.end, Some(End::Breach(_))),
+    )
 }
