@@ -242,11 +242,12 @@ def members(top, name):
     for module in modules(top, name):
         hidden = {it.name for it in module.items if it.kind != "impl" and it is not items.get(it.name)}
         for it in module.items:
-            of = re.match(r"impl(?:<.*?>)? (\w+)(?:<.*>)?(?: where.*)? \{|(?=pub trait)", " ".join(line.strip() for line in it.lines[:it.head]))
-            owner = it.name if it.kind == "trait" else of and it.kind == "impl" and of[1]
+            head = " ".join(line.strip() for line in it.lines[:it.head])
+            of = re.match(r"impl(?:<.*?>)? (\w+)(?:<.*>)?(?: where.*)? \{|pub trait (\w+)", head)
+            owner = of and (of[1] or of[2])
             if owner in items and owner not in hidden:
-                inside = items_of(it.lines[it.head:-1], 4, it.first + it.head)
-                found.setdefault(owner, []).extend((module, at) for at in inside if at.kind in ("fn", "const") and (at.is_public or it.kind == "trait"))
+                inside = (at for at in items_of(it.lines[it.head:-1], 4, it.first + it.head) if at.is_public or it.kind == "trait")
+                found.setdefault(owner, []).extend((module, at) for at in inside if at.kind in ("fn", "const"))
     return found
 
 
@@ -268,8 +269,9 @@ def page(top, name, all_to_html):
         last = module
         writer.put_item(3, anchor, item.name, module, item)
         if item.kind == "trait":
-            laws = [it for it in items_of(item.lines[item.head:-1], 4, item.first + item.head) if it.kind == "ghost" and it.name != "use"]
-            writer.put_contract("What an implementation says", [(f"ghost {it.name}", textwrap.dedent("\n".join(it.lines)), it.first) for it in laws], module)
+            ghosts = (it for it in items_of(item.lines[item.head:-1], 4, item.first + item.head) if it.kind == "ghost" and it.name != "use")
+            laws = [(f"ghost {it.name}", textwrap.dedent("\n".join(it.lines)), it.first) for it in ghosts]
+            writer.put_contract("What an implementation says", laws, module)
         inside = own.get(item.name, [])
         if len(inside) > 3:
             links = (f'<a href="#{anchor}.{it.name}">{it.name}</a>' for _, it in inside)
@@ -277,7 +279,8 @@ def page(top, name, all_to_html):
         for at, it in inside:
             writer.put_item(4, f"{anchor}.{it.name}", f"{item.name}::{it.name}", at, it, item.name)
     others = sorted({(re.match(r"wl_\w+", it)[0], word) for it in shown(top, name) if it.startswith("wl_") for word in re.findall(r"\w+", it)})
-    rows = [f'<li><a href="/reference/{place}.html#{word}"><code>{of}::{word}</code></a></li>' for of, word in others if (place := place_of(top, of, word))]
+    rows = [f'<li><a href="/reference/{place}.html#{word}"><code>{of}::{word}</code></a></li>'
+            for of, word in others if (place := place_of(top, of, word))]
     if rows:
         writer.put(f'<h2 id="of-other-crates">Of other crates</h2>\n<ul>{"".join(rows)}</ul>')
     return writer.page(all_to_html), writer.entries
