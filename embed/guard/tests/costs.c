@@ -118,7 +118,7 @@ static void receive_answer(void)
         size_t at = 0; /* in words */
         while (have >= 8 && have >= came[at + 1] >> 16) {
             const size_t size = came[at + 1] >> 16;
-            is_answered = take(came + at);
+            is_answered = take(came + at) || is_answered;
             at += size / 4;
             have -= size;
         }
