@@ -16,14 +16,15 @@ enum { MOST_ARGUMENTS = 24 };
 struct maker {
     nb_client session;
     int socket;
+    int listener, until_end; /* what the compositor gets; -1 before there is one */
     nb_object_id registry, manager;
     uint32_t name; /* of the manager; 0 if none was announced */
     bool is_done;
 };
 
-/* Where the compositor listens, and a pipe that tells it when to stop: by the end of this program. */
+/* Where the compositor listens, and the end of a pipe that tells it when to stop: by the end of this program. */
 static char folder[PATH_MAX], path[PATH_MAX];
-static int until_end[2] = { -1, -1 };
+static int kept_end = -1;
 
 static bool was_stopped;
 
@@ -36,6 +37,7 @@ static bool say(const char *why)
     return false;
 }
 
+/* Sends what waits. The descriptors among it stay open here: context_make closes them, sent or not. */
 static bool send_all(struct maker *maker)
 {
     nb_counts counts;
@@ -48,7 +50,6 @@ static bool send_all(struct maker *maker)
         if (taken < 0)
             return false;
         nb_client_sent(&maker->session, (uint32_t)taken);
-        close_all(descriptors, counts.descriptors);
     }
     return true;
 }
@@ -94,7 +95,8 @@ static bool wait_for_answer(struct maker *maker)
         const ssize_t came = socket_receive(maker->socket, bytes, sizeof bytes, descriptors, &count);
         if (came == -EAGAIN)
             continue;
-        if (came <= 0 || nb_client_received(&maker->session, bytes, (size_t)came, descriptors, count) != NB_OK)
+        close_all(descriptors, count); /* no event of these objects has one */
+        if (came <= 0 || nb_client_received(&maker->session, bytes, (size_t)came, NULL, 0) != NB_OK)
             return false;
         while (nb_client_next_event(&maker->session, &event, arguments, MOST_ARGUMENTS, bytes, sizeof bytes) == NB_OK) {
             take_event(maker, &event, arguments);
@@ -170,10 +172,13 @@ static bool make(struct maker *maker, const char *application, const char *engin
 {
     nb_object_id context;
     char instance[32];
-    const int listener = listen_there();
-    if (listener < 0 || pipe2(until_end, O_CLOEXEC) < 0)
+    int ends[2];
+    maker->listener = listen_there();
+    if (maker->listener < 0 || pipe2(ends, O_CLOEXEC) < 0)
         return say("there is no socket for it");
-    const nb_argument arguments[] = { nb_placeholder(), nb_descriptor(listener), nb_descriptor(until_end[0]) };
+    maker->until_end = ends[0];
+    kept_end = ends[1];
+    const nb_argument arguments[] = { nb_placeholder(), nb_descriptor(maker->listener), nb_descriptor(ends[0]) };
     const nb_request create = { .sender = maker->manager,
                                 .opcode = NB_WP_SECURITY_CONTEXT_MANAGER_V1_REQUEST_CREATE_LISTENER,
                                 .has_data = 1 };
@@ -188,18 +193,28 @@ static bool make(struct maker *maker, const char *application, const char *engin
            say("the compositor refuses it");
 }
 
+static void close_one(int *descriptor)
+{
+    if (*descriptor >= 0)
+        close(*descriptor);
+    *descriptor = -1;
+}
+
 bool context_make(const nb_table *table, const char *application, const char *engine)
 {
-    struct maker maker = { .session = NB_EMPTY, .socket = socket_connect() };
+    struct maker maker = { .session = NB_EMPTY, .socket = socket_connect(), .listener = -1, .until_end = -1 };
     nb_table_fault fault;
     bool is_made = false;
     if (maker.socket >= 0 && nb_client_start(&maker.session, table, &fault) == NB_OK)
         is_made = find_manager(&maker) && make(&maker, application, engine);
+    nb_client_end(&maker.session);
+    close_one(&maker.socket);
+    close_one(&maker.listener);
+    close_one(&maker.until_end);
     if (is_made)
         setenv("WAYLAND_DISPLAY", path, 1);
-    nb_client_end(&maker.session);
-    if (maker.socket >= 0)
-        close(maker.socket);
+    else
+        context_end();
     return !was_stopped;
 }
 
@@ -209,6 +224,6 @@ void context_end(void)
         unlink(path);
     if (folder[0])
         rmdir(folder);
-    if (until_end[1] >= 0)
-        close(until_end[1]);
+    path[0] = folder[0] = 0;
+    close_one(&kept_end);
 }

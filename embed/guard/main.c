@@ -67,12 +67,13 @@ static bool read_options(int argc, char **argv, struct options *options, struct 
 static int run(const struct options *options, nb_policy *policy, const nb_table *table)
 {
     int status = NOT_STARTED;
+    bool has_begun = false;
     prepare();
     guard_by(policy, table);
     if (!options->application || context_make(table, options->application, options->engine))
-        status = serve(options->socket, options->program);
+        has_begun = serve(options->socket, options->program, &status);
     context_end();
-    if (options->says_what && status != NOT_STARTED)
+    if (options->says_what && has_begun)
         print_what(table, stdout);
     return status;
 }

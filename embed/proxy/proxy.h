@@ -107,8 +107,9 @@ void close_given(void);
  * started later has both as they were. It is called once. */
 void prepare(void);
 /* Listens at a path or a name in $XDG_RUNTIME_DIR, or, if it is NULL, in a folder that only this user may enter. Starts
- * the program, if it is not NULL, as a client of that socket, and serves all that connect. Returns the status of the
- * program, 0 if there is none, or NOT_STARTED if it cannot begin, which is said. prepare() comes before it. */
-int serve(const char *socket, char **program);
+ * the program, if it is not NULL, as a client of that socket, and serves all that connect. `*status` is then that of
+ * the program, which may be NOT_STARTED, too, or 0 if there is none. False if it cannot begin, which is said: the
+ * status stays as it is. prepare() comes before it. */
+bool serve(const char *socket, char **program, int *status);
 
 #endif

@@ -125,17 +125,18 @@ void prepare(void)
     hold_signals();
 }
 
-int serve(const char *socket, char **program)
+bool serve(const char *socket, char **program, int *status)
 {
     struct door door = { .listener = -1 };
-    int status = NOT_STARTED;
+    bool has_begun = false;
     if (open_door(&door, socket)) {
         const pid_t started = program ? start_program(program, door.path) : 0;
-        if (started < 0)
-            fprintf(stderr, "%s: fork: %s\n", program_name, strerror(errno));
+        has_begun = started >= 0;
+        if (has_begun)
+            *status = loop_run(door.listener, started > 0 ? started : -1);
         else
-            status = loop_run(door.listener, started > 0 ? started : -1);
+            fprintf(stderr, "%s: fork: %s\n", program_name, strerror(errno));
     }
     close_door(&door);
-    return status;
+    return has_begun;
 }

@@ -70,7 +70,7 @@ int main(int argc, char **argv)
         relay_over(&table.rows, options.is_log_only) && log_open(options.log)) {
         prepare();
         hold_broken_pipes();
-        status = serve(options.socket, options.program);
+        serve(options.socket, options.program, &status);
     }
     log_close();
     relay_forget();
