@@ -33,7 +33,7 @@ EXPORT struct wl_display *wl_display_create(void)
     wl_list_init(&display->loggers);
     wl_signal_init(&display->destroy_signal);
     wl_signal_init(&display->client_created_signal);
-    table_begin(&display->table, join, &display->core);
+    display->table = (struct table){ .join = join, .session = &display->core };
     display->is_printing = print_is_asked("server");
     display->buffer = malloc(NB_MOST_WAITING);
     display->loop = wl_event_loop_create();
