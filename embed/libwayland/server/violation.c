@@ -11,7 +11,7 @@ static const char *const texts[] = {
     [NB_VIOLATION_UNKNOWN_ID] = "unknown object (%u)",
     [NB_VIOLATION_WRONG_INTERFACE] = "invalid object (%u), type (%s)",
     [NB_VIOLATION_NULL_OBJECT] = NULL_OBJECT,
-    [NB_VIOLATION_TOO_MANY_OBJECTS] = "object (%u) is above the limit of objects",
+    [NB_VIOLATION_TOO_MANY_OBJECTS] = "too many objects",
 };
 
 void end_for_violation(struct wl_client *client)
