@@ -37,7 +37,8 @@ bool client_enter(struct wl_client *client)
     client->is_inside = nb_serve_client(core, (uint64_t)(uintptr_t)client, &client->id) == NB_OK;
     client->has_error = client->has_error || !client->is_inside;
     if (display && client->is_inside)
-        nb_server_claim_object(core, &client->id, NB_INTERFACE_DISPLAY, 1, 1, (uint64_t)(uintptr_t)display, &display->core);
+        nb_server_claim_object(core, &client->id, NB_INTERFACE_DISPLAY, 1, 1, (uint64_t)(uintptr_t)display,
+                               &display->core);
     return client->is_inside;
 }
 
