@@ -81,6 +81,12 @@ struct event {
 
 /* ======== Displays */
 
+/* A number that the server has freed. */
+struct deleted {
+    uint32_t number;
+    bool is_unknown; /* it had no object */
+};
+
 struct wl_display {
     struct wl_proxy proxy; /* object 1 */
     nb_client session;
@@ -93,11 +99,12 @@ struct wl_display {
     size_t own_queue;           /* of the errors of the display itself: they are handed out first */
     size_t errors;              /* the slot that they are for */
     size_t proxy_count;         /* how many proxies there are, without the display's own */
-    int deleted;                /* how often the server has freed a number since events were dispatched */
     struct table table;
     struct wl_array input;       /* bytes that came and are no whole message yet */
     struct wl_array descriptors; /* those that came and no message has taken yet */
-    struct wl_array text;        /* of an event: its strings and arrays, in all of the room */
+    struct wl_array deleted;     /* of struct deleted, since events were dispatched */
+    uint8_t *text;               /* while something is read: the strings and arrays of an event, or an error */
+    size_t text_room;
     size_t unsent, most_unsent; /* bytes that wait to be sent, and how many may; 0 is no limit */
     size_t send_above;          /* what waits is sent by itself before it is more than this */
     uint32_t unsent_descriptors;
@@ -156,8 +163,12 @@ void print_event(const char *before, const struct event *event);
 /* Receives once, and puts the events of all whole messages into their queues. The error; EAGAIN if nothing is there. */
 int receive_locked(struct wl_display *display);
 
-/* Closes the descriptors that the session had and will not hand out. */
-void close_dropped_locked(struct wl_display *display);
+/* Logs the numbers that were freed. How many. */
+int take_deleted_locked(struct wl_display *display);
+
+/* Closes the descriptors that the session had and will not hand out, and drops its notes of objects that events have ended,
+ * which nobody needs. */
+void drop_rest_locked(struct wl_display *display);
 
 /* Closes the descriptors that came and no message has taken. */
 void close_held_locked(struct wl_display *display);

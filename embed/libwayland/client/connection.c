@@ -7,8 +7,6 @@
 #include <string.h>
 #include <wayland-client-protocol.h>
 
-enum { LIBWAYLAND_ROOM = 4096 /* what libwayland keeps before it sends by itself */ };
-
 bool is_logging;
 
 /* ======== Sending */
@@ -230,8 +228,7 @@ EXPORT struct wl_display *wl_display_connect_to_fd(int fd)
     wl_list_init(&display->made_queues);
     pthread_mutex_init(&display->lock, NULL);
     pthread_cond_init(&display->was_read, NULL);
-    table_begin(&display->table, join, &display->session);
-    display->table.is_of_client = true;
+    display->table = (struct table){ .join = join, .session = &display->session, .is_of_client = true };
     if (begin(display))
         return display;
     wl_display_disconnect(display);
@@ -267,7 +264,7 @@ EXPORT void wl_display_disconnect(struct wl_display *display)
     close_held_locked(display);
     free(display->descriptors.data);
     free(display->input.data);
-    free(display->text.data);
+    free(display->deleted.data);
     close(display->socket);
     display->is_closed = true;
     unlock(display);

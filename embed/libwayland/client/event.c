@@ -37,59 +37,71 @@ static int put_locked(struct wl_display *display, size_t slot, struct event *eve
 
 /* ======== Arguments */
 
-static int refuse(const char *why, const struct wl_message *message)
-{
-    log_line("%s, message %s(%s)\n", why, message->name, message->signature);
-    return EINVAL;
-}
+/* It answers EINVAL. */
+#define REFUSE(event, ...) (log_of_message((event)->message, __VA_ARGS__), EINVAL)
 
 /* One that the program has destroyed is NULL, whatever the message says of null. */
-static int fill_object(struct event *event, uint32_t i, const nb_argument *from, const struct wl_interface *type)
+static int fill_object(struct event *event, const nb_argument *from, const struct wl_interface *type)
 {
     struct wl_proxy *proxy = proxy_of_data(from->data);
-    if (from->object.number == 0 && !signature_is_nullable(event->message->signature, i))
-        return refuse("NULL object received on non-nullable type", event->message);
-    event->arguments[i].o = proxy ? &proxy->object : NULL;
+    event->arguments[event->count].o = proxy ? &proxy->object : NULL;
     if (!proxy || !type || proxy->object.interface == type || strcmp(proxy->object.interface->name, type->name) == 0)
         return 0;
-    log_line("invalid object (%u), type (%s), message %s(%s)\n", proxy->object.id, proxy->object.interface->name,
-             event->message->name, event->message->signature);
-    return EINVAL;
+    return REFUSE(event, "invalid object (%u), type (%s)", proxy->object.id, proxy->object.interface->name);
 }
 
-static int fill_new(struct event *event, uint32_t i, const nb_argument *from, const struct wl_interface *type)
+static int fill_new(struct event *event, const nb_argument *from, const struct wl_interface *type)
 {
     struct wl_proxy *sender = event->sender;
     if (!type)
-        return refuse("new object without an interface", event->message);
+        return REFUSE(event, "new object without an interface");
     struct wl_proxy *proxy = proxy_new_locked(sender, type, sender->version);
     if (!proxy)
         return errno;
     proxy->is_untold = true;
     set_id(proxy, &from->object);
     nb_client_set_object_data(&sender->display->session, &proxy->id, (uintptr_t)proxy);
-    event->arguments[i].o = &proxy->object;
+    event->arguments[event->count].o = &proxy->object;
     return 0;
 }
 
-/* `count` of the event is how many of its arguments are there, so that those can be given back. The text is as the
- * session wrote it, and `arrays` has a struct for each array. */
+/* The next one. The text is as the session wrote it, and `array` is the struct of an array. */
+static int fill_one(struct event *event, const nb_argument *from, bool is_nullable, uint8_t *text,
+                    struct wl_array *array)
+{
+    const struct wl_interface **types = event->message->types, *type = types ? types[event->count] : NULL;
+    const bool is_object = from->kind == NB_OBJECT;
+    event->kinds[event->count] = (uint8_t)from->kind;
+    if (!is_nullable && (from->kind == NB_NULL_STRING || (is_object && from->object.number == 0)))
+        return REFUSE(event, "%s", is_object ? NULL_OBJECT : NULL_STRING);
+    if (is_object)
+        return fill_object(event, from, type);
+    if (from->kind == NB_NEW_ID)
+        return fill_new(event, from, type);
+    unpack(&event->arguments[event->count], from, text, array);
+    return 0;
+}
+
+static int has_no_event(const struct wl_interface *interface, uint32_t opcode, const char *more)
+{
+    log_line("interface '%s' has no event %u%s\n", interface->name, opcode, more);
+    return EINVAL;
+}
+
+/* `count` of the event is how many of its arguments are there, so that those can be given back. The session knows the form of
+ * another struct, where the program has made the object with one that its factory does not name. */
 static int fill(struct event *event, const nb_argument *arguments, uint32_t count, uint8_t *text,
                 struct wl_array *arrays)
 {
-    const struct wl_interface **types = event->message->types;
-    for (uint32_t i = 0; i < count; i++) {
-        const nb_argument *from = &arguments[i];
-        int error = 0;
-        event->kinds[i] = (uint8_t)from->kind;
-        if (from->kind == NB_OBJECT)
-            error = fill_object(event, i, from, types ? types[i] : NULL);
-        else if (from->kind == NB_NEW_ID)
-            error = fill_new(event, i, from, types ? types[i] : NULL);
-        else if (from->kind == NB_NULL_STRING && !signature_is_nullable(event->message->signature, i))
-            error = refuse("NULL string received on non-nullable type", event->message);
-        else
-            unpack(&event->arguments[i], from, text, &arrays[i]);
+    static const char letters[] = "iufsonahs"; /* of the kinds, the last of a null string */
+    const char *rest = event->message->signature;
+    char letter;
+    bool is_nullable;
+    while ((rest = signature_next(rest, &letter, &is_nullable)) || event->count < count) {
+        const uint32_t i = event->count;
+        if (!rest || i == count || letters[arguments[i].kind] != letter)
+            return has_no_event(event->sender->object.interface, event->opcode, " of this form");
+        const int error = fill_one(event, &arguments[i], is_nullable, text, &arrays[i]);
         if (error != 0)
             return error;
         event->count++;
@@ -97,48 +109,24 @@ static int fill(struct event *event, const nb_argument *arguments, uint32_t coun
     return 0;
 }
 
-static bool has_form(const char *signature, const nb_argument *arguments, uint32_t count)
-{
-    static const char letters[] = "iufsonahs"; /* of the kinds, the last of a null string */
-    char letter;
-    bool is_nullable;
-    uint32_t i = 0;
-    while ((signature = signature_next(signature, &letter, &is_nullable)))
-        if (i == count || letters[arguments[i++].kind] != letter)
-            return false;
-    return i == count;
-}
-
-/* The message of the sender's own struct; NULL if it has none of this form. The session knows the form of another
- * struct, where the program has made the object with one that its factory does not name. */
-static const struct wl_message *message_of(const struct wl_proxy *sender, const nb_event *from,
-                                           const nb_argument *arguments)
-{
-    const struct wl_interface *interface = sender->object.interface;
-    const bool is_there = from->opcode < (uint32_t)interface->event_count;
-    if (is_there && has_form(interface->events[from->opcode].signature, arguments, from->arguments))
-        return &interface->events[from->opcode];
-    log_line("interface '%s' has no event %u%s\n", interface->name, from->opcode, is_there ? " of this form" : "");
-    return NULL;
-}
-
 /* A struct for each array stands behind the arguments, and the text behind those. */
 int put_event_locked(struct wl_proxy *sender, size_t slot, const nb_event *from, const nb_argument *arguments)
 {
     struct wl_display *display = sender->display;
-    const struct wl_message *message = message_of(sender, from, arguments);
+    const struct wl_interface *interface = sender->object.interface;
+    const bool is_there = from->opcode < (uint32_t)interface->event_count;
     const uint32_t count = from->arguments;
     const size_t at_arrays = sizeof(struct event) + count * sizeof(union wl_argument);
     const size_t at_text = at_arrays + count * sizeof(struct wl_array);
-    struct event *event = message ? malloc(at_text + from->bytes) : NULL;
+    struct event *event = is_there ? malloc(at_text + from->bytes) : NULL;
     if (!event) {
         close_descriptors(arguments, count);
-        return message ? ENOMEM : EINVAL;
+        return is_there ? ENOMEM : has_no_event(interface, from->opcode, "");
     }
-    *event = (struct event){ .sender = sender, .message = message, .opcode = from->opcode };
+    *event = (struct event){ .sender = sender, .message = &interface->events[from->opcode], .opcode = from->opcode };
     uint8_t *memory = (uint8_t *)event;
     if (from->bytes > 0)
-        memcpy(memory + at_text, display->text.data, from->bytes);
+        memcpy(memory + at_text, display->text, from->bytes);
     int error = fill(event, arguments, count, memory + at_text, (struct wl_array *)(void *)(memory + at_arrays));
     if (error == 0)
         error = put_locked(display, slot, event);

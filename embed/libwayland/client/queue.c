@@ -87,9 +87,8 @@ EXPORT int wl_display_dispatch_queue_pending(struct wl_display *display, struct 
 {
     const size_t number = queue->number; /* a listener may destroy the queue */
     pthread_mutex_lock(&display->lock);
-    int count = display->deleted + dispatch_all_locked(display, display->own_queue);
+    int count = take_deleted_locked(display) + dispatch_all_locked(display, display->own_queue);
     count += dispatch_all_locked(display, number);
-    display->deleted = 0;
     return answer_locked(display, count);
 }
 

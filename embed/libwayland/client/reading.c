@@ -10,17 +10,7 @@
 #include <string.h>
 #include <wayland-client-protocol.h>
 
-enum {
-    LIBWAYLAND_ROOM = 4096, /* what libwayland reads at once */
-    MOST_HELD = 1024        /* descriptors that wait for a message */
-};
-
 /* ======== Events of the session */
-
-static bool grow_text(struct wl_array *text, size_t wanted)
-{
-    return wanted <= text->size || wl_array_add(text, wanted - text->size);
-}
 
 /* Finishes the session's open event. What it made, and nobody has, is destroyed. */
 static nb_status finish(struct wl_display *display, const nb_event *event)
@@ -39,15 +29,14 @@ static int take_failure(struct wl_display *display)
 {
     nb_error error = { 0 };
     display->has_failed = true;
-    nb_client_last_error(&display->session, &error, NULL, 0);
-    if (!grow_text(&display->text, (size_t)error.message_length + error.interface_length + 1) ||
-        nb_client_last_error(&display->session, &error, display->text.data, display->text.size) != NB_OK)
+    if (nb_client_last_error(&display->session, &error, display->text, display->text_room - 1) != NB_OK)
         return ENOMEM;
-    char *text = display->text.data;
-    text[error.message_length] = 0;
+    display->text[error.message_length] = 0;
     if (error.object_number == 0) {
-        if (error.kind == NB_ERROR_OF_PROTOCOL)
-            log_line("%s\n", text);
+        if (error.kind == NB_ERROR_OF_PROTOCOL && error.code == 0)
+            log_line("%s\n", (const char *)display->text);
+        else if (error.kind == NB_ERROR_OF_PROTOCOL) /* of the server's, which names no object */
+            log_of_message(&wl_display_interface.events[0], NULL_OBJECT);
         return EINVAL;
     }
     nb_object_id id = { .number = error.object_number };
@@ -58,22 +47,15 @@ static int take_failure(struct wl_display *display)
     return put_event_locked(&display->proxy, display->errors, &event, arguments);
 }
 
-void close_dropped_locked(struct wl_display *display)
+void drop_rest_locked(struct wl_display *display)
 {
     int32_t descriptor;
+    nb_object_id gone;
+    uint64_t data;
     while (nb_client_next_dropped(&display->session, &descriptor) == NB_OK)
         close(descriptor);
-}
-
-/* The next event of the session. The display's text grows as it needs. */
-static nb_status next_event(struct wl_display *display, nb_event *event, nb_argument *arguments)
-{
-    nb_status status;
-    while ((status = nb_client_next_event(&display->session, event, arguments, MOST_ARGUMENTS, display->text.data,
-                                          display->text.size)) == NB_TOO_SMALL)
-        if (event->arguments > MOST_ARGUMENTS || !grow_text(&display->text, event->bytes))
-            return NB_OUT_OF_MEMORY;
-    return status;
+    while (nb_client_next_note(&display->session, &gone, &data) == NB_OK)
+        continue;
 }
 
 /* Takes all events out of the session. */
@@ -82,7 +64,8 @@ static int take_events(struct wl_display *display)
     nb_event event;
     nb_argument arguments[MOST_ARGUMENTS];
     nb_status status;
-    while ((status = next_event(display, &event, arguments)) == NB_OK) {
+    while ((status = nb_client_next_event(&display->session, &event, arguments, MOST_ARGUMENTS, display->text,
+                                          display->text_room)) == NB_OK) {
         struct wl_proxy *sender = proxy_of_data(event.data);
         if (!sender)
             close_descriptors(arguments, event.arguments);
@@ -99,7 +82,7 @@ void end_session_locked(struct wl_display *display)
 {
     display->has_failed = true;
     nb_client_fail(&display->session, EPIPE);
-    close_dropped_locked(display);
+    drop_rest_locked(display);
 }
 
 /* ======== What came */
@@ -136,26 +119,39 @@ static int lacks_descriptor(struct wl_display *display, const nb_run *run)
     nb_client_object_for_protocol_id(&display->session, run->sender, &id);
     const struct wl_proxy *sender = proxy_of_id_locked(display, &id);
     const struct wl_interface *interface = sender ? sender->object.interface : NULL;
-    if (interface && run->opcode < (uint32_t)interface->event_count) {
-        const struct wl_message *message = &interface->events[run->opcode];
-        log_line("file descriptor expected, object (%u), message %s(%s)\n", run->sender, message->name,
-                 message->signature);
-    } else /* a longer struct of its name has it */
+    if (interface && run->opcode < (uint32_t)interface->event_count)
+        log_of_message(&interface->events[run->opcode], "file descriptor expected, object (%u)", run->sender);
+    else /* a longer struct of its name has it */
         log_line("interface '%s' has no event %u\n", interface ? interface->name : "[unknown]", run->opcode);
     return EINVAL;
 }
 
-/* The server frees a number, whose object is this one. */
-static void note_deleted(struct wl_display *display, uint32_t number)
+/* The server frees a number. */
+static int note_deleted(struct wl_display *display, uint32_t number)
 {
-    const union wl_argument argument = { .u = number };
+    struct deleted *deleted = wl_array_add(&display->deleted, sizeof *deleted);
     nb_object_id id = nb_null();
+    if (!deleted)
+        return ENOMEM;
     nb_client_object_for_protocol_id(&display->session, number, &id);
-    if (is_logging)
-        print_message("", &display->proxy.object, &wl_display_interface.events[1], &argument, true);
-    display->deleted++;
-    if (nb_is_null(&id) || (is_of_server(number) && !proxy_of_id_locked(display, &id)))
-        log_line("error: received delete_id for unknown id (%u)\n", number);
+    deleted->number = number;
+    deleted->is_unknown = nb_is_null(&id) || (is_of_server(number) && !proxy_of_id_locked(display, &id));
+    return 0;
+}
+
+int take_deleted_locked(struct wl_display *display)
+{
+    const struct deleted *deleted = display->deleted.data;
+    const int count = (int)(display->deleted.size / sizeof *deleted);
+    for (int i = 0; i < count && display->last_error == 0; i++) {
+        const union wl_argument argument = { .u = deleted[i].number };
+        if (is_logging)
+            print_message("", &display->proxy.object, &wl_display_interface.events[1], &argument, true);
+        if (deleted[i].is_unknown)
+            log_line("error: received delete_id for unknown id (%u)\n", deleted[i].number);
+    }
+    display->deleted.size = 0;
+    return count;
 }
 
 /* A run, and what no event tells of the message at its end. If descriptors did not come, those that did belong to
@@ -164,12 +160,12 @@ static void note_deleted(struct wl_display *display, uint32_t number)
 static int take_run(struct wl_display *display, const uint8_t *bytes, const nb_run *run)
 {
     const bool is_passed_over = run->kind == NB_PASSED_OVER, lacks = run->kind == NB_LACKS_DESCRIPTORS;
-    if (run->kind == NB_DELETES_ID)
-        note_deleted(display, run->number);
+    int error = run->kind == NB_DELETES_ID ? note_deleted(display, run->number) : 0;
     if (is_passed_over && is_logging)
         print_thrown_away(run->may_bring && !is_of_server(run->sender) ? "[zombie]" : "[unknown]", run->sender,
                           run->opcode, run->needed, run->size);
-    const int error = feed(display, bytes, run);
+    if (error == 0)
+        error = feed(display, bytes, run);
     if (error == 0 && (lacks || (is_passed_over && run->skipped > 0)))
         close_held_locked(display);
     return error == 0 && lacks ? lacks_descriptor(display, run) : error;
@@ -186,15 +182,6 @@ static int keep_rest(struct wl_array *input, const uint8_t *rest, size_t size)
     return kept || size == 0 ? 0 : ENOMEM;
 }
 
-/* The session keeps a note of each object that an event has ended. Nobody needs it here. */
-static void drop_notes(struct wl_display *display)
-{
-    nb_object_id gone;
-    uint64_t data;
-    while (nb_client_next_note(&display->session, &gone, &data) == NB_OK)
-        continue;
-}
-
 /* Takes the whole messages out of what came, until the session has an error. */
 static int take_input(struct wl_display *display, const uint8_t *bytes, size_t left)
 {
@@ -208,8 +195,7 @@ static int take_input(struct wl_display *display, const uint8_t *bytes, size_t l
     }
     if (error == 0 && !display->has_failed)
         error = keep_rest(&display->input, bytes, left);
-    close_dropped_locked(display);
-    drop_notes(display);
+    drop_rest_locked(display);
     return error;
 }
 
@@ -245,15 +231,18 @@ static int receive_into(struct wl_display *display, uint8_t *bytes, size_t room)
     return held(display) > MOST_HELD ? EOVERFLOW : take_input(display, bytes, kept + (size_t)came);
 }
 
+/* The strings and arrays of an event take no more than its message. */
 int receive_locked(struct wl_display *display)
 {
-    uint8_t few[LIBWAYLAND_ROOM];
-    const size_t room = room_of(&display->input);
-    uint8_t *bytes = room > sizeof few ? malloc(room) : few;
-    if (!bytes)
+    _Alignas(8) uint8_t few[3 * LIBWAYLAND_ROOM];
+    const size_t room = room_of(&display->input), text_room = room + LIBWAYLAND_ROOM;
+    uint8_t *text = room > LIBWAYLAND_ROOM ? malloc(text_room + room) : few;
+    if (!text)
         return ENOMEM;
-    const int error = receive_into(display, bytes, room);
-    if (bytes != few)
-        free(bytes);
+    display->text = text;
+    display->text_room = text_room;
+    const int error = receive_into(display, text + text_room, room);
+    if (text != few)
+        free(text);
     return error;
 }

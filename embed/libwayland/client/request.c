@@ -6,29 +6,10 @@
 
 /* ======== Arguments */
 
-/* Puts the ids of objects in. A new object is `*made`, or the one by wl_proxy_create that the program passes. */
-static void add_ids(struct packed *packed, const union wl_argument *arguments, struct wl_proxy **made)
+/* That of a new one is null, but for its interface. */
+static nb_object_id id_of(const struct wl_object *object)
 {
-    for (uint32_t i = 0; i < packed->count; i++) {
-        nb_argument *slot = &packed->arguments[i];
-        if ((slot->kind != NB_OBJECT && slot->kind != NB_NEW_ID) || !arguments[i].o)
-            continue;
-        struct wl_proxy *proxy = proxy_of(arguments[i].o);
-        if (slot->kind == NB_NEW_ID)
-            *made = proxy;
-        else
-            slot->object = proxy->id;
-    }
-}
-
-/* Puts the proxy where the signature has a new id. */
-static void put_made(const char *signature, union wl_argument *arguments, struct wl_proxy *made)
-{
-    char letter;
-    bool is_nullable;
-    for (uint32_t i = 0; made && (signature = signature_next(signature, &letter, &is_nullable)); i++)
-        if (letter == 'n')
-            arguments[i].o = &made->object;
+    return object ? CONTAINER(object, struct wl_proxy, object)->id : nb_null();
 }
 
 /* The line of WAYLAND_DEBUG. It shows the descriptors that are sent. */
@@ -46,12 +27,12 @@ static void print_request(const struct wl_proxy *proxy, const struct wl_message 
 
 /* ======== Sending */
 
-/* Hands the request to the session. `made` gets the number of what it makes, if it makes something. */
-static int hand_over(struct wl_proxy *proxy, uint32_t opcode, struct packed *packed,
-                     const union wl_argument *arguments, struct wl_proxy *made)
+/* Hands the request to the session. The proxy of what it makes, which the program may have made by wl_proxy_create, gets
+ * its number. */
+static int hand_over(struct wl_proxy *proxy, uint32_t opcode, const struct packed *packed)
 {
+    struct wl_proxy *made = packed->made ? proxy_of(packed->made) : NULL;
     nb_object_id created;
-    add_ids(packed, arguments, &made);
     const bool is_bind = made && proxy->id.interface == NB_INTERFACE_REGISTRY;
     const nb_request request = { .sender = proxy->id,
                                  .opcode = opcode,
@@ -75,24 +56,22 @@ static void send_locked(struct wl_proxy *proxy, uint32_t opcode, union wl_argume
     struct wl_display *display = proxy->display;
     const struct wl_message *message = &proxy->object.interface->methods[opcode];
     struct packed packed;
-    put_made(message->signature, arguments, made);
-    int error = pack(&packed, message->signature, arguments, true) ? 0 : errno;
+    int error = pack(&packed, message->signature, arguments, made ? &made->object : NULL, id_of) ? 0 : errno;
     if (error == 0)
         error = packed.size > UINT16_MAX ? E2BIG : make_room_locked(display, packed.size, packed.descriptors);
     if (error == 0)
-        error = hand_over(proxy, opcode, &packed, arguments, made);
+        error = hand_over(proxy, opcode, &packed);
     packed_end(&packed, error == 0);
     if (error == 0) {
         if (display->has_failed)
-            close_dropped_locked(display);
+            drop_rest_locked(display);
         display->unsent += packed.size;
         display->unsent_descriptors += packed.descriptors;
         if (is_logging)
             print_request(proxy, message, arguments, &packed);
     } else if (display->last_error == 0) {
         if (packed.fault[0])
-            log_line("error marshalling arguments for %s (signature %s): %s\n", message->name, message->signature,
-                     packed.fault);
+            log_line("error marshalling arguments for %s%s\n", message->name, packed.fault);
         log_line("Error %s request: %s\n", packed.fault[0] ? "marshalling" : "sending", strerror(error));
         fail_locked(display, error);
     }
@@ -121,31 +100,24 @@ EXPORT struct wl_proxy *wl_proxy_marshal_array_flags(struct wl_proxy *proxy, uin
 
 /* ======== The forms of the call */
 
-#define TAKE_LIST(last)                                                                                                \
-    union wl_argument arguments[MOST_ARGUMENTS];                                                                       \
-    va_list list;                                                                                                      \
-    va_start(list, last);                                                                                              \
-    arguments_from_list(proxy->object.interface->methods[opcode].signature, list, arguments);                          \
-    va_end(list)
-
 EXPORT struct wl_proxy *wl_proxy_marshal_flags(struct wl_proxy *proxy, uint32_t opcode,
                                                const struct wl_interface *interface, uint32_t version, uint32_t flags,
                                                ...)
 {
-    TAKE_LIST(flags);
+    TAKE_LIST(flags, proxy->object.interface->methods[opcode].signature);
     return wl_proxy_marshal_array_flags(proxy, opcode, interface, version, flags, arguments);
 }
 
 EXPORT void wl_proxy_marshal(struct wl_proxy *proxy, uint32_t opcode, ...)
 {
-    TAKE_LIST(opcode);
+    TAKE_LIST(opcode, proxy->object.interface->methods[opcode].signature);
     wl_proxy_marshal_array_flags(proxy, opcode, NULL, 0, 0, arguments);
 }
 
 EXPORT struct wl_proxy *wl_proxy_marshal_constructor(struct wl_proxy *proxy, uint32_t opcode,
                                                      const struct wl_interface *interface, ...)
 {
-    TAKE_LIST(interface);
+    TAKE_LIST(interface, proxy->object.interface->methods[opcode].signature);
     return wl_proxy_marshal_array_flags(proxy, opcode, interface, proxy->version, 0, arguments);
 }
 
@@ -153,7 +125,7 @@ EXPORT struct wl_proxy *wl_proxy_marshal_constructor_versioned(struct wl_proxy *
                                                                const struct wl_interface *interface, uint32_t version,
                                                                ...)
 {
-    TAKE_LIST(version);
+    TAKE_LIST(version, proxy->object.interface->methods[opcode].signature);
     return wl_proxy_marshal_array_flags(proxy, opcode, interface, version, 0, arguments);
 }
 

@@ -77,13 +77,13 @@ static bool pack_text(struct packed *to, const void *text, size_t length, bool i
 {
     const uint32_t at = (uint32_t)to->length;
     if (length > NB_MOST_BYTES - to->length)
-        return fail(to, E2BIG, "it is longer than a message can be");
+        return fail(to, E2BIG, ": it is longer than a message can be");
     if (to->length == 0)
         to->bytes = text;
     else if (length > 0) {
         uint8_t *into = room_for(to, length);
         if (!into)
-            return fail(to, ENOMEM, "there is no memory");
+            return fail(to, ENOMEM, ": there is no memory");
         memcpy(into, text, length);
     }
     to->arguments[to->count] = is_string ? nb_string(at, (uint32_t)length) : nb_array(at, (uint32_t)length);
@@ -96,22 +96,9 @@ static bool pack_descriptor(struct packed *to, nb_argument *slot, int descriptor
 {
     int copy = fcntl(descriptor, F_DUPFD_CLOEXEC, 0);
     if (copy < 0)
-        return fail(to, errno, "dup failed: %s", strerror(errno));
+        return fail(to, errno, ": dup failed: %s", strerror(errno));
     *slot = nb_descriptor(copy);
     to->descriptors++;
-    return true;
-}
-
-/* What may be null, and is: a string, an object, an array, which is empty then, or a new id that is a number. */
-static bool pack_null(struct packed *to, nb_argument *slot, char letter)
-{
-    to->size += 4;
-    switch (letter) {
-    case 's': *slot = nb_null_string(); break;
-    case 'o': *slot = nb_object(nb_null()); break;
-    case 'a': *slot = nb_array(0, 0); break;
-    default: *slot = nb_new_id(nb_null());
-    }
     return true;
 }
 
@@ -120,16 +107,26 @@ static bool is_pointer(char letter)
     return letter == 's' || letter == 'o' || letter == 'n' || letter == 'a';
 }
 
-static bool pack_one(struct packed *to, char letter, bool may_be_null, const union wl_argument *argument)
+/* What is null may be so: an array is empty then. */
+static bool pack_one(struct packed *to, char letter, const union wl_argument *argument)
 {
     nb_argument *slot = &to->arguments[to->count];
-    if (is_pointer(letter) && !argument->o)
-        return may_be_null ? pack_null(to, slot, letter) : fail(to, EINVAL, "null value passed for arg %u", to->count);
     switch (letter) {
-    case 's': return pack_text(to, argument->s, strlen(argument->s), true);
-    case 'a': return pack_text(to, argument->a->data, argument->a->size, false);
-    case 'o':
-    case 'n': return pack_null(to, slot, letter);
+    case 's':
+        if (argument->s)
+            return pack_text(to, argument->s, strlen(argument->s), true);
+        *slot = nb_null_string();
+        break;
+    case 'a':
+        if (argument->a)
+            return pack_text(to, argument->a->data, argument->a->size, false);
+        *slot = nb_array(0, 0);
+        break;
+    case 'o': *slot = nb_object(to->id_of(argument->o)); break;
+    case 'n':
+        *slot = nb_new_id(to->id_of(argument->o));
+        to->made = argument->o;
+        break;
     case 'h': return pack_descriptor(to, slot, argument->h);
     case 'u': *slot = nb_uint(argument->u); break;
     case 'f': *slot = nb_fixed(argument->f); break;
@@ -139,18 +136,28 @@ static bool pack_one(struct packed *to, char letter, bool may_be_null, const uni
     return true;
 }
 
-bool pack(struct packed *to, const char *signature, const union wl_argument *arguments, bool new_ids_are_objects)
+bool pack(struct packed *to, const char *signature, union wl_argument *arguments, struct wl_object *made,
+          object_id *id_of)
 {
+    const char *rest = signature;
     char letter;
     bool is_nullable;
+    to->id_of = id_of;
+    to->made = NULL;
     to->count = to->descriptors = 0;
     to->bytes = NULL;
     to->length = 0;
     to->size = 8;
     to->fault[0] = 0;
     to->many = NULL;
-    for (; to->count < MOST_ARGUMENTS && (signature = signature_next(signature, &letter, &is_nullable)); to->count++)
-        if (!pack_one(to, letter, is_nullable || (letter == 'n' && !new_ids_are_objects), &arguments[to->count]))
+    for (; to->count < MOST_ARGUMENTS && (rest = signature_next(rest, &letter, &is_nullable)); to->count++) {
+        union wl_argument *argument = &arguments[to->count];
+        if (letter == 'n' && made)
+            argument->o = made;
+        if (is_pointer(letter) && !argument->o && !is_nullable)
+            return fail(to, EINVAL, " (signature %s): null value passed for arg %u", signature, to->count);
+        if (!pack_one(to, letter, argument))
             return false;
+    }
     return true;
 }

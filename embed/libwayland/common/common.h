@@ -24,7 +24,11 @@
 /* The struct that has this member. */
 #define CONTAINER(pointer, type, member) ((type *)(void *)((char *)(pointer)-offsetof(type, member)))
 
-enum { MOST_ARGUMENTS = 20 /* of a message; libwayland allows no more */ };
+enum {
+    MOST_ARGUMENTS = 20,    /* of a message; libwayland allows no more */
+    LIBWAYLAND_ROOM = 4096, /* bytes of each of its buffers */
+    MOST_HELD = 1024        /* descriptors that wait for messages, or in messages, of a connection */
+};
 
 /* Numbers of objects from here on are the server's. */
 #define FIRST_OF_SERVER 0xff000000u
@@ -47,6 +51,12 @@ static inline bool is_of_server(uint32_t id)
 extern wl_log_func_t log_handler;
 
 void log_line(const char *format, ...) WL_PRINTF(1, 2);
+
+/* What is wrong with a message that came. The line ends with its name and signature. */
+void log_of_message(const struct wl_message *message, const char *format, ...) WL_PRINTF(2, 3);
+
+#define NULL_STRING "NULL string received on non-nullable type"
+#define NULL_OBJECT "NULL object received on non-nullable type"
 
 /* For what the program did that no call can mend. */
 #define log_and_abort(...) (log_line(__VA_ARGS__), abort())
@@ -71,11 +81,10 @@ void print_thrown_away(const char *what, uint32_t sender, uint32_t opcode, uint3
  * folder is missing ends in `stop`. */
 bool find_address(struct sockaddr_un *address, const char *name, const char *stop);
 
-/* ======== signature.c: signatures of messages, a version, and a letter for each argument, with a question mark before
- * one that may be null */
+/* ======== Signatures of messages: a version, and a letter for each argument, with a question mark before one that may be
+ * null */
 
-/* The next argument's letter, and where the rest begins; NULL if there is none. It is here since each message is walked
- * through by it. */
+/* The next argument's letter, and where the rest begins; NULL if there is none. */
 static inline const char *signature_next(const char *signature, char *letter, bool *is_nullable)
 {
     *is_nullable = false;
@@ -94,11 +103,6 @@ static inline const char *signature_next(const char *signature, char *letter, bo
     return NULL;
 }
 
-uint32_t signature_count(const char *signature);
-
-/* Whether the argument at this index may be null. */
-bool signature_is_nullable(const char *signature, uint32_t index);
-
 /* ======== call.c: calls of a program's functions whose types are known only when the program runs */
 
 /* Calls the program for a message to this wl_resource or wl_proxy: its dispatcher, if there is one, or else its function
@@ -111,6 +115,14 @@ void call_program(struct wl_object *object, wl_dispatcher_func_t dispatcher, voi
 
 /* The arguments of a call like wl_resource_post_event, in the order of the signature. */
 void arguments_from_list(const char *signature, va_list list, union wl_argument *arguments);
+
+/* Takes those of the function that it stands in, behind its parameter `last`, as `arguments`. */
+#define TAKE_LIST(last, signature)                                                                                     \
+    union wl_argument arguments[MOST_ARGUMENTS];                                                                       \
+    va_list list;                                                                                                      \
+    va_start(list, last);                                                                                              \
+    arguments_from_list(signature, list, arguments);                                                                   \
+    va_end(list)
 
 /* ---- from a session to the program */
 
@@ -126,21 +138,27 @@ void close_descriptors(const nb_argument *arguments, uint32_t count);
 
 enum { FEW_BYTES = 1024 };
 
-/* Arguments as a session takes them. `fault` says in words why they cannot be sent, and is empty else; so does
- * errno. */
+/* The id of an object of the program's in the session; null of NULL. */
+typedef nb_object_id object_id(const struct wl_object *object);
+
+/* Arguments as a session takes them. `fault` says why they cannot be sent, and is empty else: it is to stand behind the
+ * name of the message. */
 struct packed {
     nb_argument arguments[MOST_ARGUMENTS];
     uint32_t count, descriptors;
     const uint8_t *bytes;
     size_t length, size; /* of the bytes; of the message, with its head */
+    object_id *id_of;
+    struct wl_object *made; /* that of the new id, or NULL */
     char fault[128];
     uint8_t *many, few[FEW_BYTES];
 };
 
-/* Packs what the program gave. Descriptors are duplicated, since the program keeps its own. An object and a new id are
- * null, with their kind: the caller puts their ids in. A new id that the program gives is an object if
- * `new_ids_are_objects`, and may not be null then. packed_end is due in any case. */
-bool pack(struct packed *to, const char *signature, const union wl_argument *arguments, bool new_ids_are_objects);
+/* Packs what the program gave. If `made` is not NULL the new id is its: so it is put among the arguments first. Descriptors
+ * are duplicated, since the program keeps its own. If it cannot be packed, errno says why, too. packed_end is due in any
+ * case. */
+bool pack(struct packed *to, const char *signature, union wl_argument *arguments, struct wl_object *made,
+          object_id *id_of);
 
 /* `is_taken` says that the session has the descriptors: else they are closed. */
 static inline void packed_end(struct packed *packed, bool is_taken)
@@ -164,14 +182,14 @@ static inline void packed_end(struct packed *packed, bool is_taken)
 /* nb_server_join or nb_client_join, for the session that `session` points to. */
 typedef nb_status table_join(void *session, const nb_table *rows, uint32_t *number, nb_extension_fault *fault);
 
+/* At first it has the first three. */
 struct table {
     table_join *join;
     void *session;
-    struct wl_array keys; /* the structs that were named, with their numbers */
     bool is_of_client;
+    struct wl_array keys; /* the structs that were named, with their numbers */
 };
 
-void table_begin(struct table *table, table_join *join, void *session);
 void table_end(struct table *table);
 
 /* The number of an interface, which is put into the session's table if it is not there. 0 if it cannot be, which is

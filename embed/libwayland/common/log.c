@@ -16,3 +16,13 @@ void log_line(const char *format, ...)
     log_handler(format, list);
     va_end(list);
 }
+
+void log_of_message(const struct wl_message *message, const char *format, ...)
+{
+    char what[256];
+    va_list list;
+    va_start(list, format);
+    vsnprintf(what, sizeof what, format, list);
+    va_end(list);
+    log_line("%s, message %s(%s)\n", what, message->name, message->signature);
+}

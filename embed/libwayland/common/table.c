@@ -17,11 +17,6 @@ struct key {
     uint32_t number;
 };
 
-void table_begin(struct table *table, table_join *join, void *session)
-{
-    *table = (struct table){ .join = join, .session = session };
-}
-
 /* All but the first, as many as have this size. */
 static void forget_keys(struct table *table, size_t size)
 {

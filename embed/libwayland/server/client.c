@@ -36,10 +36,9 @@ bool client_enter(struct wl_client *client)
     nb_server_tell_messages(core, client->is_told);
     client->is_inside = nb_serve_client(core, (uint64_t)(uintptr_t)client, &client->id) == NB_OK;
     client->has_error = client->has_error || !client->is_inside;
-    if (display && client->is_inside) {
-        nb_server_object_for_protocol_id(core, &client->id, NB_INTERFACE_DISPLAY, 1, &display->core);
-        nb_server_set_object_data(core, &display->core, (uint64_t)(uintptr_t)display);
-    }
+    if (display && client->is_inside)
+        nb_server_claim_object(core, &client->id, NB_INTERFACE_DISPLAY, 1, 1, (uint64_t)(uintptr_t)display,
+                               &display->core);
     return client->is_inside;
 }
 
@@ -89,7 +88,7 @@ EXPORT struct wl_client *wl_client_create(struct wl_display *display, int fd)
     wl_signal_init(&client->destroy_late_signal);
     wl_signal_init(&client->resource_created_signal);
     wl_list_init(&client->displaced);
-    client->display_resource = resource_of_session(client, &wl_display_interface, 1);
+    client->display_resource = resource_of_display(client);
     if (client->display_resource && getsockopt(fd, SOL_SOCKET, SO_PEERCRED, &client->peer, &size) == 0)
         client->source = wl_event_loop_add_fd(display->loop, fd, WL_EVENT_READABLE, is_ready, client);
     if (!client->source) {

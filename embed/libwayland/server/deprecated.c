@@ -1,6 +1,6 @@
 /* What wayland-server.h keeps for programs from before 1.2. It touches structs of the program's own: a wl_resource whose
- * memory is the program's, and shorter than the library's. What else belongs to it stands in a `lent` of its client, from
- * wl_client_add_resource until it is destroyed. */
+ * memory is the program's, and shorter than the library's. Its client has it in `lent`, from wl_client_add_resource until it
+ * is destroyed. */
 #include "server.h"
 
 /* Ends what is the library's; the struct stays, and is the program's. */
@@ -8,7 +8,7 @@ void lent_end(struct wl_resource *resource)
 {
     wl_signal_emit_mutable(&resource->old_destroy_signal, resource);
     resource_leave(resource);
-    lent_of(resource->client, resource)->resource = NULL;
+    *lent_of(resource->client, resource) = NULL;
     if (resource->destroy) /* it may free the struct */
         resource->destroy(resource);
 }
@@ -17,15 +17,16 @@ void lent_end(struct wl_resource *resource)
 EXPORT uint32_t wl_client_add_resource(struct wl_client *client, struct wl_resource *resource)
 {
     const uint32_t id = resource->object.id;
-    struct lent *lent = lent_of(client, NULL);
+    nb_object_id core = nb_null();
+    struct wl_resource **lent = lent_of(client, NULL);
     if (!lent)
         lent = wl_array_add(&client->lent, sizeof *lent);
     resource->client = client;
     if (lent)
-        *lent = (struct lent){ resource, nb_null() };
-    if (!lent || !resource_join(resource, 0, id, &lent->core)) {
+        *lent = resource;
+    if (!lent || !resource_join(resource, 0, id, &core)) {
         if (lent)
-            lent->resource = NULL;
+            *lent = NULL;
         wl_resource_post_error(client->display_resource, WL_DISPLAY_ERROR_INVALID_OBJECT, "invalid new id %d", (int)id);
         return 0;
     }

@@ -5,10 +5,10 @@
 #include "server.h"
 
 /* Looks at what the session does not: whether there is a resource, whether its own struct has the request, of which the
- * table may have more, and whether no argument is null that may not be, and each object has a resource. If the request is
- * refused its client is told. */
+ * table may have more, and whether no argument is null that may not be, and each object has a resource: `missing` is the
+ * number of the first that has none, or 0. If the request is refused its client is told. */
 static bool is_refused(struct wl_client *client, const struct wl_resource *resource, const nb_action *action,
-                       bool is_complete)
+                       uint32_t missing)
 {
     const struct wl_interface *interface = resource ? resource->object.interface : NULL;
     if (!resource)
@@ -17,23 +17,27 @@ static bool is_refused(struct wl_client *client, const struct wl_resource *resou
     else if (action->opcode >= (uint32_t)interface->method_count)
         wl_resource_post_error(client->display_resource, WL_DISPLAY_ERROR_INVALID_METHOD,
                                "invalid method %u, object %s@%u", action->opcode, interface->name, resource->object.id);
-    else if (!is_complete)
+    else if (action->forbidden_null || missing) {
+        const struct wl_message *request = &interface->methods[action->opcode];
+        log_of_message(request, action->forbidden_null ? NULL_STRING : "unknown object (%u)", missing);
         wl_resource_post_error(client->display_resource, WL_DISPLAY_ERROR_INVALID_METHOD,
-                               "invalid arguments for %s@%u.%s", interface->name, resource->object.id,
-                               interface->methods[action->opcode].name);
-    else
+                               "invalid arguments for %s@%u.%s", interface->name, resource->object.id, request->name);
+    } else
         return false;
     return true;
 }
 
+/* The session does not say by which registry a client binds: an error names the one that it made last. */
 static void bind_global(struct wl_client *client, const nb_action *action)
 {
     struct wl_global *global = (struct wl_global *)(uintptr_t)action->data;
-    if (global_is_visible(global, client))
+    if (global_is_visible(global, client)) {
         global->bind(client, global->data, action->version, action->created.number);
-    else
-        wl_resource_post_error(client->display_resource, WL_DISPLAY_ERROR_INVALID_OBJECT, "invalid global %s (%u)",
-                               global->interface->name, global->id.name);
+        return;
+    }
+    struct wl_resource *registry = wl_resource_find_for_client(&client->display->registries, client);
+    wl_resource_post_error(registry ? registry : client->display_resource, WL_DISPLAY_ERROR_INVALID_OBJECT,
+                           "invalid global %s (%u)", global->interface->name, global->id.name);
 }
 
 /* Descriptors among the arguments are the handler's, if it is called. A new id is a number. */
@@ -43,14 +47,15 @@ void dispatch(struct wl_client *client, const nb_action *action, const nb_argume
     struct wl_resource *resource = action->kind == NB_REQUEST ? resource_of(action->data) : NULL;
     union wl_argument values[MOST_ARGUMENTS];
     struct wl_array arrays[MOST_ARGUMENTS];
-    bool is_complete = !action->forbidden_null;
+    uint32_t missing = 0;
     for (uint32_t i = 0; i < count; i++) {
         values[i].o = NULL; /* all of its word */
         unpack(&values[i], &arguments[i], text, &arrays[i]);
         if (arguments[i].kind == NB_OBJECT && !nb_is_null(&arguments[i].object)) {
             struct wl_resource *named = resource_of(arguments[i].data);
             values[i].o = named ? &named->object : NULL;
-            is_complete = is_complete && named;
+            if (!named && missing == 0)
+                missing = arguments[i].object.number;
         }
     }
     if (nb_server_finish_action(&client->display->core, &client->id, action) != NB_OK) {
@@ -61,7 +66,7 @@ void dispatch(struct wl_client *client, const nb_action *action, const nb_argume
         registry_begin(client, &action->created);
     else if (action->kind == NB_BIND)
         bind_global(client, action);
-    else if (is_refused(client, resource, action, is_complete))
+    else if (is_refused(client, resource, action, missing))
         close_descriptors(arguments, count);
     else {
         trace_message(resource, false, action->opcode, values);

@@ -30,14 +30,11 @@ static void announce(struct wl_resource *registry, const struct wl_global *globa
 void registry_begin(struct wl_client *client, const nb_object_id *object)
 {
     const struct wl_global *global;
-    struct wl_resource *registry = resource_of_session(client, &wl_registry_interface, object->number);
+    struct wl_resource *registry = wl_resource_create(client, &wl_registry_interface, 1, object->number);
     if (!registry) {
         wl_client_post_no_memory(client);
         return;
     }
-    registry->core = *object;
-    nb_server_set_object_data(&client->display->core, object, (uint64_t)(uintptr_t)registry);
-    wl_signal_emit_mutable(&client->resource_created_signal, registry);
     /* Another resource at the number may have the memory of this one. */
     if (wl_client_get_object(client, object->number) != registry || !nb_same_object(&registry->core, object))
         return;

@@ -61,14 +61,19 @@ static bool find_object(struct wl_resource *resource, int version, uint32_t id, 
                                             (uint64_t)(uintptr_t)resource, object) == NB_OK;
 }
 
-/* Without memory the object stays: then it points to nothing, and its client, which is not told, ends. So does the
- * display's, but the client goes on. */
+enum { SIZE_OF_DELETE_ID = 12 };
+
+/* The client is told that its number is free, once something is posted. After an error the object stays, since the client is
+ * told nothing more; so it does without memory, and its client ends. Then it points to nothing. So does the display's, but
+ * the client goes on. */
 static void forget_object(struct wl_client *client, const nb_object_id *object)
 {
     nb_server *core = &client->display->core;
-    nb_status status = nb_server_destroy_object(core, object);
+    nb_status status = client->has_error ? NB_CLOSED : nb_server_destroy_object(core, object);
     if (status != NB_OK)
         nb_server_set_object_data(core, object, 0);
+    else if (!is_of_server(object->number))
+        client->queued += SIZE_OF_DELETE_ID;
     if (status == NB_OUT_OF_MEMORY) {
         nb_server_kill_client(core, &client->id);
         client->has_error = true;
@@ -90,10 +95,10 @@ static struct wl_resource *resource_new(struct wl_client *client, const struct w
     return resource;
 }
 
-struct wl_resource *resource_of_session(struct wl_client *client, const struct wl_interface *interface, uint32_t id)
+struct wl_resource *resource_of_display(struct wl_client *client)
 {
-    struct wl_resource *resource = resource_new(client, interface, 1);
-    if (resource && !put(resource, id)) {
+    struct wl_resource *resource = resource_new(client, &wl_display_interface, 1);
+    if (resource && !put(resource, 1)) {
         free(resource);
         return NULL;
     }
@@ -120,7 +125,7 @@ bool resource_join(struct wl_resource *resource, int version, uint32_t id, nb_ob
 void resource_leave(struct wl_resource *resource)
 {
     struct wl_client *client = resource->client;
-    const nb_object_id object = *core_of(resource);
+    const nb_object_id object = core_of(resource);
     struct wl_resource **place = place_of(client, resource->object.id, false);
     if (place && *place == resource)
         *place = NULL;

@@ -17,6 +17,15 @@ static void watch_for(struct wl_client *client, bool is_full)
     wl_event_source_fd_update(client->source, WL_EVENT_READABLE | (is_full ? WL_EVENT_WRITABLE : 0u));
 }
 
+/* Whether there is only what the program has queued, and that numbers are free: that does not wake the client. */
+static bool may_wait(const struct wl_client *client)
+{
+    nb_waiting waiting;
+    return client->queued > 0 && client->queued < LIBWAYLAND_ROOM &&
+           nb_server_waiting(&client->display->core, &client->id, &waiting) == NB_OK &&
+           waiting.to_send.bytes <= client->queued;
+}
+
 /* Sends what is ready, until nothing is or the socket takes no more. Whether all that was ready is sent. A socket that
  * fails is cut off: that is no error of the client, and what its resources say at their end is logged. */
 static bool client_send(struct wl_client *client)
@@ -25,6 +34,9 @@ static bool client_send(struct wl_client *client)
     uint8_t *bytes = client->display->buffer;
     int32_t descriptors[NB_MOST_DESCRIPTORS];
     nb_counts counts;
+    if (may_wait(client))
+        return false;
+    client->queued = 0;
     while (client->is_inside && !client->is_cut) {
         nb_status status = nb_server_to_send(core, &client->id, bytes, NB_MOST_WAITING, descriptors,
                                              NB_MOST_DESCRIPTORS, &counts);
@@ -106,8 +118,6 @@ void display_settle(struct wl_display *display)
 
 /* ======== Receiving */
 
-enum { MOST_HELD = 1024 /* descriptors of a client that are in no request yet */ };
-
 /* Whether the session has what came, with its descriptors. What comes after an error is thrown away. */
 static bool take_in(struct wl_client *client, size_t length, const int32_t *descriptors, size_t count)
 {
@@ -139,13 +149,11 @@ const char *client_read(struct wl_client *client)
     while (status == NB_OK && !client->has_error && !client->is_condemned) {
         status = nb_server_next_action(&display->core, &client->id, &action, arguments, MOST_ARGUMENTS, text,
                                        sizeof text);
-        if (status != NB_OK && status != NB_WOULD_BLOCK)
-            log_violation(client);
         trace_read(client, true);
         if (status == NB_OK)
             dispatch(client, &action, arguments, text);
         else if (status != NB_WOULD_BLOCK)
-            client->has_error = true;
+            end_for_violation(client);
     }
     return NULL;
 }

@@ -58,12 +58,6 @@ struct wl_resource {
     struct wl_list displaced; /* in its client's list, if its number names another one now */
 };
 
-/* A wl_resource that is the program's own struct, or NULL, and its object of the session. */
-struct lent {
-    struct wl_resource *resource;
-    nb_object_id core;
-};
-
 struct wl_client {
     struct wl_display *display;
     struct wl_list link; /* in the display's list of clients; of those that leave, once it is destroyed */
@@ -81,7 +75,7 @@ struct wl_client {
     struct wl_resource *display_resource; /* NULL once the resources are destroyed */
     struct wl_array resources[2];         /* pointers by number: of the client's range, and of the server's */
     struct wl_list displaced;             /* resources */
-    struct wl_array lent;                 /* of struct lent */
+    struct wl_array lent;                 /* pointers to resources that are the program's own structs, or NULL */
 
     unsigned depth;    /* how many calls look at it */
     bool has_error;    /* it is told nothing more, and is destroyed when its socket can be read */
@@ -89,7 +83,8 @@ struct wl_client {
     bool is_condemned; /* wl_client_destroy was called while `depth` was not 0 */
     bool is_ending;    /* its resources are destroyed: what they send goes nowhere */
     bool is_destroyed;
-    bool is_full; /* the socket took no more */
+    bool is_full;  /* the socket took no more */
+    size_t queued; /* how many bytes wait that no flush sends until something is posted */
     bool is_told; /* the session tells its messages */
 };
 
@@ -147,8 +142,8 @@ const char *client_read(struct wl_client *client);
 void display_settle(struct wl_display *display);
 
 /* resource.c */
-/* A resource of what the session makes by itself, the display or a registry. NULL without memory. */
-struct wl_resource *resource_of_session(struct wl_client *client, const struct wl_interface *interface, uint32_t id);
+/* The resource of a client's display, whose object the session makes by itself. NULL without memory. */
+struct wl_resource *resource_of_display(struct wl_client *client);
 /* Gives a resource its number and its object of the session. A client that the session has no more gets one by number
  * alone. False if it cannot be. */
 bool resource_join(struct wl_resource *resource, int version, uint32_t id, nb_object_id *object);
@@ -159,11 +154,11 @@ void resources_end(struct wl_client *client);
 void lent_end(struct wl_resource *resource);
 
 /* NULL if the resource is the library's. The array is empty in each program of today. */
-static inline struct lent *lent_of(const struct wl_client *client, const struct wl_resource *resource)
+static inline struct wl_resource **lent_of(const struct wl_client *client, const struct wl_resource *resource)
 {
-    struct lent *lent = client->lent.data;
+    struct wl_resource **lent = client->lent.data;
     for (size_t i = 0; i < client->lent.size / sizeof *lent; i++)
-        if (lent[i].resource == resource)
+        if (lent[i] == resource)
             return &lent[i];
     return NULL;
 }
@@ -176,15 +171,19 @@ static inline struct wl_resource *resource_of(uint64_t data)
     return resource && !lent_of(resource->client, resource) && resource->is_ending ? NULL : resource;
 }
 
-/* The session's object of a resource; null if it has none. */
-static inline const nb_object_id *core_of(const struct wl_resource *resource)
+/* The session's object of a resource; null if it has none. That of a struct of the program's has the struct as its data. */
+static inline nb_object_id core_of(const struct wl_resource *resource)
 {
-    const struct lent *lent = lent_of(resource->client, resource);
-    return lent ? &lent->core : &resource->core;
+    const struct wl_client *client = resource->client;
+    nb_held_object held = { .data = 0 };
+    if (!lent_of(client, resource))
+        return resource->core;
+    nb_server_object_by_number(&client->display->core, &client->id, resource->object.id, &held);
+    return held.data == (uintptr_t)resource ? held.object : nb_null();
 }
 
-/* violation.c: what libwayland logs of the message for which the session has ended the client, if it was one. */
-void log_violation(struct wl_client *client);
+/* violation.c: the session has ended the client. The log says once what libwayland logs of the message that it was for. */
+void end_for_violation(struct wl_client *client);
 
 /* dispatch.c */
 void dispatch(struct wl_client *client, const nb_action *action, const nb_argument *arguments, uint8_t *text);
@@ -199,7 +198,7 @@ static inline bool trace_is_on(const struct wl_display *display)
 void trace_message(struct wl_resource *resource, bool is_event, uint32_t opcode, union wl_argument *arguments);
 void trace_event(struct wl_resource *resource, uint32_t opcode, ...);
 /* Takes what the session tells of a client's messages. What it has asked of the display and of registries is told on, if
- * it `is_told`. */
+ * it `is_told`; and so is the error for which the session has ended it. */
 void trace_read(struct wl_client *client, bool is_told);
 void trace_delete_id(struct wl_client *client, uint32_t id);
 

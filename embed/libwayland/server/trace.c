@@ -32,6 +32,16 @@ EXPORT void wl_protocol_logger_destroy(struct wl_protocol_logger *logger)
 
 /* ======== Telling */
 
+static int argument_count(const char *signature)
+{
+    int count = 0;
+    char letter;
+    bool is_nullable;
+    while ((signature = signature_next(signature, &letter, &is_nullable)))
+        count++;
+    return count;
+}
+
 void trace_message(struct wl_resource *resource, bool is_event, uint32_t opcode, union wl_argument *arguments)
 {
     struct wl_display *display = resource->client->display;
@@ -42,7 +52,7 @@ void trace_message(struct wl_resource *resource, bool is_event, uint32_t opcode,
     const struct wl_protocol_logger_message told = { .resource = resource,
                                                      .message_opcode = (int)opcode,
                                                      .message = message,
-                                                     .arguments_count = (int)signature_count(message->signature),
+                                                     .arguments_count = argument_count(message->signature),
                                                      .arguments = arguments };
     struct wl_protocol_logger *logger;
     wl_list_for_each(logger, &display->loggers, link)
@@ -55,11 +65,7 @@ void trace_message(struct wl_resource *resource, bool is_event, uint32_t opcode,
 
 void trace_event(struct wl_resource *resource, uint32_t opcode, ...)
 {
-    union wl_argument arguments[MOST_ARGUMENTS];
-    va_list list;
-    va_start(list, opcode);
-    arguments_from_list(resource->object.interface->events[opcode].signature, list, arguments);
-    va_end(list);
+    TAKE_LIST(opcode, resource->object.interface->events[opcode].signature);
     trace_message(resource, true, opcode, arguments);
 }
 
@@ -127,6 +133,9 @@ void trace_read(struct wl_client *client, bool is_told)
         nb_server_flush_client(core, &client->id); /* the error, too */
     while (client->is_told && nb_server_next_told(core, &client->id, &told, arguments, MOST_ARGUMENTS, text,
                                                   sizeof text) == NB_OK)
-        if (is_told && is_news(&told, arguments, &wrong))
+        if (is_told && is_news(&told, arguments, &wrong)) {
+            if (told.is_event)
+                end_for_violation(client);
             tell(client, &told, arguments, text);
+        }
 }

@@ -1,5 +1,5 @@
 /* The names of libwayland-server 1.22 to 1.24, which the library of 1.21 does not have: each by what its documentation
- * says. It is linked with this library alone. The last line is `N passed, M failed`. */
+ * says; and the setting of this library alone. It is linked with it alone. The last line is `N passed, M failed`. */
 #include "../server/world.h"
 
 /* Newer headers declare these, too. */
@@ -257,6 +257,42 @@ static void fixed(void)
     check(recv(peer, came, sizeof came, MSG_DONTWAIT) > 0 && came[0] == 2, "its number can be used again");
 }
 
+/* ======== How many objects a client may have */
+
+static bool is_told_of_too_many(void)
+{
+    const ssize_t length = recv(peer, came, sizeof came, MSG_DONTWAIT);
+    return length > 20 && came[0] == 1 && (came[1] & 0xffff) == 0 && came[2] == 1 && came[3] == WL_DISPLAY_ERROR_NO_MEMORY;
+}
+
+/* The client has the display, a registry and a thing; and a part, or a callback, is one more. */
+static void object_limit(const char *limit, bool is_sync, bool is_refused)
+{
+    setenv("NUMBYROGA_OBJECT_LIMIT", limit, 1);
+    begin_with_thing();
+    part = NULL;
+    request(is_sync ? 1 : 3, is_sync ? 0 : THING_MAKE, "w", 4);
+    dispatch_all();
+    check(is_told_of_too_many() == is_refused, "an object beyond the limit, and no other, is answered by an error");
+    check(is_sync || (part == NULL) == is_refused, "and not made");
+    check(wl_list_empty(wl_display_get_client_list(display)) == is_refused, "and the client ends");
+}
+
+static void object_limits(void)
+{
+    static const char *const wrong[] = { "", "many", "12x", "-1", "4294967296", "99999999999999999999" };
+    object_limit("4", false, false);
+    object_limit("4", true, false);
+    object_limit("3", false, true);
+    object_limit("3", true, true);
+    object_limit("0", false, false);
+    for (size_t i = 0; i < sizeof wrong / sizeof *wrong; i++) {
+        setenv("NUMBYROGA_OBJECT_LIMIT", wrong[i], 1);
+        check(!wl_display_create(), "a limit that is no number is refused");
+    }
+    unsetenv("NUMBYROGA_OBJECT_LIMIT");
+}
+
 int main(void)
 {
     signal(SIGPIPE, SIG_IGN);
@@ -271,6 +307,7 @@ int main(void)
     buffer_sizes();
     kept_buffers();
     fixed();
+    object_limits();
     fprintf(out, "%d passed, %d failed\n", passed, failed);
     fclose(out);
     return failed > 0;

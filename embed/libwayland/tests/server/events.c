@@ -41,6 +41,20 @@ static void forms(int which)
     show();
 }
 
+/* So many that a buffer of libwayland is full are sent, though nothing is posted. */
+static void queued(int which)
+{
+    static char came[100000];
+    begin_with_thing();
+    for (int i = 0; i < which; i++)
+        wl_resource_queue_event(thing, THING_TOLD_NUMBERS, i, 2, 3);
+    wl_display_flush_clients(display);
+    printf("  %s\n", recv(peer, came, sizeof came, MSG_DONTWAIT) > 0 ? "some came" : "none came");
+    request(1, 0, "w", 4);
+    dispatch_all();
+    printf("  %s\n", recv(peer, came, sizeof came, MSG_DONTWAIT) > 0 ? "the rest came" : "none came");
+}
+
 static void made_by_the_server(int which)
 {
     (void)which;
@@ -253,6 +267,8 @@ static void error_in_a_handler(int which)
 
 const struct test event_tests[] = { { "event-kinds", kinds, 0 },
                                     { "event-forms", forms, 0 },
+                                    { "queued-events", queued, 10 },
+                                    { "queued-events", queued, 300 },
                                     { "made-by-the-server", made_by_the_server, 0 },
                                     { "impossible-event", impossible, 0 },
                                     { "impossible-event", impossible, 1 },

@@ -244,6 +244,20 @@ static void filtered(int which)
     show();
 }
 
+/* The registry by which the client binds what it may not see. */
+static void filtered_by_registry(int which)
+{
+    begin();
+    wl_display_set_global_filter(display, filter, NULL);
+    is_allowed = false;
+    wl_global_create(display, &part_interface, 2, "parts", bind_part);
+    get_registry(2);
+    get_registry(3);
+    turn();
+    bind_global((uint32_t)which, 2, "part", 1, 4);
+    turn();
+}
+
 static void tell(void *data, enum wl_protocol_logger_type type, const struct wl_protocol_logger_message *message)
 {
     (void)data;
@@ -327,7 +341,8 @@ const struct test global_tests[] = {
     { "longer-struct", longer_struct, 0 }, { "longer-struct", longer_struct, 1 },
     { "laxer-struct", laxer_struct, 0 }, { "laxer-struct", laxer_struct, 1 },
     { "filter", filtered, 0 },          { "filter", filtered, 1 },         { "filter", filtered, 2 },
-    { "filter", filtered, 3 },          { "filter-changed", filter_changed, 0 },
+    { "filter", filtered, 3 },          { "filter-by-registry", filtered_by_registry, 2 },
+    { "filter-by-registry", filtered_by_registry, 3 }, { "filter-changed", filter_changed, 0 },
     { "filter-changed", filter_changed, 1 }, { "filter-changed", filter_changed, 2 },
     { "filter-changed", filter_changed, 3 },
     { "filter-for-one", filtered_for_one, 0 },
