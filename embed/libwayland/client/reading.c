@@ -231,18 +231,14 @@ static int receive_into(struct wl_display *display, uint8_t *bytes, size_t room)
     return held(display) > MOST_HELD ? EOVERFLOW : take_input(display, bytes, kept + (size_t)came);
 }
 
-/* The strings and arrays of an event take no more than its message. */
+/* The strings and arrays of an event take no more than its message. The stack of a thread may be small, so both are in
+ * memory of their own. */
 int receive_locked(struct wl_display *display)
 {
-    _Alignas(8) uint8_t few[3 * LIBWAYLAND_ROOM];
-    const size_t room = room_of(&display->input), text_room = room + LIBWAYLAND_ROOM;
-    uint8_t *text = room > LIBWAYLAND_ROOM ? malloc(text_room + room) : few;
-    if (!text)
-        return ENOMEM;
-    display->text = text;
-    display->text_room = text_room;
-    const int error = receive_into(display, text + text_room, room);
-    if (text != few)
-        free(text);
+    const size_t room = room_of(&display->input);
+    display->text_room = room + LIBWAYLAND_ROOM;
+    display->text = malloc(display->text_room + room);
+    const int error = display->text ? receive_into(display, display->text + display->text_room, room) : ENOMEM;
+    free(display->text);
     return error;
 }
