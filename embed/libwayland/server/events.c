@@ -52,6 +52,8 @@ static void send_event(struct wl_resource *resource, uint32_t opcode, union wl_a
     packed_end(&packed, status == NB_OK);
     if (status == NB_OK && is_queued)
         client->queued += packed.size;
+    if (status == NB_OK && is_queued && sender.interface == NB_INTERFACE_CALLBACK && !is_of_server(sender.number))
+        client->queued += SIZE_OF_DELETE_ID; /* which the session sends with its end */
     client->has_error = client->has_error || (status != NB_OK && status != NB_CLOSED);
     if (status == NB_FOREIGN_OBJECT)
         log_line("compositor bug: The compositor tried to use an object from one client in a '%s.%s' for a different "
