@@ -143,7 +143,7 @@ const char *client_read(struct wl_client *client);
 void display_settle(struct wl_display *display);
 
 /* resource.c */
-enum { SIZE_OF_DELETE_ID = 12 };
+enum { SIZE_OF_DELETE_ID = 12 }; /* bytes */
 /* The resource of a client's display, whose object the session makes by itself. NULL without memory. */
 struct wl_resource *resource_of_display(struct wl_client *client);
 /* Gives a resource its number and its object of the session. A client that the session has no more gets one by number
