@@ -104,7 +104,6 @@ struct wl_display {
     struct wl_array descriptors; /* those that came and no message has taken yet */
     struct wl_array deleted;     /* of struct deleted, since events were dispatched */
     uint8_t *text;               /* while something is read: the strings and arrays of an event, or an error */
-    size_t text_room;
     size_t unsent, most_unsent; /* bytes that wait to be sent, and how many may; 0 is no limit */
     size_t send_above;          /* what waits is sent by itself before it is more than this */
     uint32_t unsent_descriptors;

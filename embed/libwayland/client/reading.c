@@ -24,12 +24,13 @@ static nb_status finish(struct wl_display *display, const nb_event *event)
     return nb_client_finish_event_with(&display->session, (uintptr_t)made, &is_kept);
 }
 
-/* The session has an error. One that the server sent waits in the display's queue, as its events do. */
-static int take_failure(struct wl_display *display)
+/* The session has an error. One that the server sent waits in the display's queue, as its events do. Its text takes no more
+ * than its message; the session's own words fit into FEW_BYTES, with an interface's name of up to 900 bytes. */
+static int take_failure(struct wl_display *display, size_t room)
 {
     nb_error error = { 0 };
     display->has_failed = true;
-    if (nb_client_last_error(&display->session, &error, display->text, display->text_room - 1) != NB_OK)
+    if (nb_client_last_error(&display->session, &error, display->text, room + FEW_BYTES - 1) != NB_OK)
         return ENOMEM;
     display->text[error.message_length] = 0;
     if (error.object_number == 0) {
@@ -58,14 +59,14 @@ void drop_rest_locked(struct wl_display *display)
         continue;
 }
 
-/* Takes all events out of the session. */
-static int take_events(struct wl_display *display)
+/* Takes all events out of the session. Their strings and arrays take no more than this, their messages. */
+static int take_events(struct wl_display *display, size_t room)
 {
     nb_event event;
     nb_argument arguments[MOST_ARGUMENTS];
     nb_status status;
     while ((status = nb_client_next_event(&display->session, &event, arguments, MOST_ARGUMENTS, display->text,
-                                          display->text_room)) == NB_OK) {
+                                          room)) == NB_OK) {
         struct wl_proxy *sender = proxy_of_data(event.data);
         if (!sender)
             close_descriptors(arguments, event.arguments);
@@ -75,7 +76,7 @@ static int take_events(struct wl_display *display)
     }
     if (status == NB_WOULD_BLOCK)
         return 0;
-    return status == NB_FAILED ? take_failure(display) : ENOMEM;
+    return status == NB_FAILED ? take_failure(display, room) : ENOMEM;
 }
 
 void end_session_locked(struct wl_display *display)
@@ -98,8 +99,9 @@ void close_held_locked(struct wl_display *display)
     display->descriptors.size = 0;
 }
 
-/* Hands the run to the session, and takes its events out. */
-static int feed(struct wl_display *display, const uint8_t *bytes, const nb_run *run)
+/* Hands the run to the session, and takes its events out. The session has a copy, so texts are written over the run; and
+ * that of an error over what follows, which nobody reads then. */
+static int feed(struct wl_display *display, uint8_t *bytes, const nb_run *run)
 {
     struct wl_array *descriptors = &display->descriptors;
     if (run->bytes == 0)
@@ -110,7 +112,8 @@ static int feed(struct wl_display *display, const uint8_t *bytes, const nb_run *
         descriptors->size -= run->descriptors * sizeof(int32_t);
         memmove(descriptors->data, (int32_t *)descriptors->data + run->descriptors, descriptors->size);
     }
-    return take_events(display);
+    display->text = bytes;
+    return take_events(display, run->bytes);
 }
 
 static int lacks_descriptor(struct wl_display *display, const nb_run *run)
@@ -157,7 +160,7 @@ int take_deleted_locked(struct wl_display *display)
 /* A run, and what no event tells of the message at its end. If descriptors did not come, those that did belong to
  * nothing that is known. The log calls a destroyed object as libwayland does, which remembers those of the client's whose
  * events may have descriptors. */
-static int take_run(struct wl_display *display, const uint8_t *bytes, const nb_run *run)
+static int take_run(struct wl_display *display, uint8_t *bytes, const nb_run *run)
 {
     const bool is_passed_over = run->kind == NB_PASSED_OVER, lacks = run->kind == NB_LACKS_DESCRIPTORS;
     int error = run->kind == NB_DELETES_ID ? note_deleted(display, run->number) : 0;
@@ -183,7 +186,7 @@ static int keep_rest(struct wl_array *input, const uint8_t *rest, size_t size)
 }
 
 /* Takes the whole messages out of what came, until the session has an error. */
-static int take_input(struct wl_display *display, const uint8_t *bytes, size_t left)
+static int take_input(struct wl_display *display, uint8_t *bytes, size_t left)
 {
     nb_run run = { .bytes = 1 };
     int error = 0;
@@ -209,8 +212,8 @@ static size_t room_of(const struct wl_array *input)
     return word >> 16;
 }
 
-/* Receives behind what was kept, into memory of this size. Descriptors wait for the messages that take them: a server
- * that sends many more than that is broken. */
+/* Receives behind what was kept, into memory of this size and FEW_BYTES more. Descriptors wait for the messages that take
+ * them: a server that sends many more than that is broken. */
 static int receive_into(struct wl_display *display, uint8_t *bytes, size_t room)
 {
     const size_t kept = display->input.size;
@@ -231,18 +234,13 @@ static int receive_into(struct wl_display *display, uint8_t *bytes, size_t room)
     return held(display) > MOST_HELD ? EOVERFLOW : take_input(display, bytes, kept + (size_t)came);
 }
 
-/* The strings and arrays of an event take no more than its message. */
+/* The stack of a thread may be small: so no more than this is there. */
 int receive_locked(struct wl_display *display)
 {
-    _Alignas(8) uint8_t few[3 * LIBWAYLAND_ROOM];
-    const size_t room = room_of(&display->input), text_room = room + LIBWAYLAND_ROOM;
-    uint8_t *text = room > LIBWAYLAND_ROOM ? malloc(text_room + room) : few;
-    if (!text)
-        return ENOMEM;
-    display->text = text;
-    display->text_room = text_room;
-    const int error = receive_into(display, text + text_room, room);
-    if (text != few)
-        free(text);
+    uint8_t few[LIBWAYLAND_ROOM + FEW_BYTES];
+    const size_t room = room_of(&display->input);
+    uint8_t *bytes = room > LIBWAYLAND_ROOM ? malloc(room + FEW_BYTES) : few;
+    const int error = bytes ? receive_into(display, bytes, room) : ENOMEM;
+    free(bytes == few ? NULL : bytes);
     return error;
 }

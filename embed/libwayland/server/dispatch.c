@@ -19,9 +19,10 @@ static bool is_refused(struct wl_client *client, const struct wl_resource *resou
                                "invalid method %u, object %s@%u", action->opcode, interface->name, resource->object.id);
     else if (action->forbidden_null || missing) {
         const struct wl_message *request = &interface->methods[action->opcode];
+        /* The log's handler may destroy the resource. */
         log_of_message(request, action->forbidden_null ? NULL_STRING : "unknown object (%u)", missing);
         wl_resource_post_error(client->display_resource, WL_DISPLAY_ERROR_INVALID_METHOD,
-                               "invalid arguments for %s@%u.%s", interface->name, resource->object.id, request->name);
+                               "invalid arguments for %s@%u.%s", interface->name, action->sender.number, request->name);
     } else
         return false;
     return true;

@@ -18,14 +18,14 @@ static nb_status join(void *session, const nb_table *rows, uint32_t *number, nb_
     return nb_server_join(session, rows, number, fault);
 }
 
-/* How many objects each client may have, as the environment says. 0 is no limit. False if it says no number. */
+/* How many objects each client may have, as the environment says in digits. 0 is no limit. False if it says no number. */
 static bool read_object_limit(uint32_t *limit)
 {
     const char *text = getenv("NUMBYROGA_OBJECT_LIMIT");
     char *end = NULL;
     const unsigned long number = text ? strtoul(text, &end, 10) : 0;
     *limit = (uint32_t)number;
-    if (!text || (end != text && *end == 0 && number <= UINT32_MAX))
+    if (!text || (*text >= '0' && *text <= '9' && *end == 0 && number <= UINT32_MAX))
         return true;
     log_line("NUMBYROGA_OBJECT_LIMIT: '%s' is no number of objects\n", text);
     return false;
@@ -33,7 +33,6 @@ static bool read_object_limit(uint32_t *limit)
 
 EXPORT struct wl_display *wl_display_create(void)
 {
-    uint32_t object_limit;
     const nb_table nothing = { NULL, 0, NULL, 0, NULL, 0, NULL, 0 };
     nb_table_fault fault;
     struct wl_display *display = calloc(1, sizeof *display);
@@ -55,9 +54,9 @@ EXPORT struct wl_display *wl_display_create(void)
     if (display->loop && display->wakeup >= 0)
         display->wakeup_source =
             wl_event_loop_add_fd(display->loop, display->wakeup, WL_EVENT_READABLE, wakes_up, NULL);
-    if (display->buffer && display->wakeup_source && read_object_limit(&object_limit) &&
+    if (display->buffer && display->wakeup_source && read_object_limit(&display->object_limit) &&
         nb_server_start(&display->core, &nothing, &fault) == NB_OK &&
-        nb_server_set_object_limit(&display->core, object_limit) == NB_OK &&
+        nb_server_set_object_limit(&display->core, display->object_limit) == NB_OK &&
         nb_server_keep_global_names(&display->core, 1) == NB_OK &&
         nb_server_keep_notes(&display->core, 0) == NB_OK && /* the program ends resources, not notes */
         nb_server_hand_out_registries(&display->core, 1) == NB_OK)

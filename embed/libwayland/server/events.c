@@ -18,21 +18,18 @@ static const struct wl_message *event_of(const struct wl_resource *resource, uin
 }
 
 /* Hands an event to the session. */
-static nb_status hand_over(const struct wl_resource *resource, uint32_t opcode, const struct packed *packed)
+static nb_status hand_over(nb_server *core, const nb_object_id *sender, uint32_t opcode, const struct packed *packed)
 {
-    const struct wl_client *client = resource->client;
-    nb_server *core = &client->display->core;
     nb_waiting waiting = { { 0, 0 }, { 0, 0 } };
     if (packed->descriptors > 0)
-        nb_server_waiting(core, &client->id, &waiting);
+        nb_server_waiting(core, &sender->client, &waiting);
     if (waiting.to_send.descriptors + packed->descriptors > MOST_HELD)
         return NB_TOO_MANY_DESCRIPTORS;
-    const nb_object_id sender = core_of(resource);
-    return nb_server_send_event(core, &sender, opcode, packed->arguments, packed->count, packed->bytes, packed->length);
+    return nb_server_send_event(core, sender, opcode, packed->arguments, packed->count, packed->bytes, packed->length);
 }
 
 /* An event that cannot be sent is the program's fault; but the client lacks it, and ends. One that the session has no more
- * is told nothing. What `is_queued` waits until something is posted. */
+ * is told nothing. What `is_queued` waits until something is posted. A logger may end the resource, and the client. */
 static void send_event(struct wl_resource *resource, uint32_t opcode, union wl_argument *arguments, bool is_queued)
 {
     struct wl_client *client = resource->client;
@@ -41,22 +38,31 @@ static void send_event(struct wl_resource *resource, uint32_t opcode, union wl_a
     client_enter(client);
     if (client->has_error)
         return;
-    nb_status status = NB_INVALID_INPUT;
-    if (pack(&packed, message->signature, arguments, NULL, id_of))
-        status = client->is_inside ? hand_over(resource, opcode, &packed) : NB_CLOSED;
+    client->depth++;
+    const nb_object_id sender = core_of(resource);
+    nb_status status = pack(&packed, message->signature, arguments, NULL, id_of) ? NB_OK : NB_INVALID_INPUT;
+    for (uint32_t i = 0; i < packed.count && status == NB_OK; i++) /* ids of two displays may be the same */
+        if ((packed.arguments[i].kind == NB_OBJECT || packed.arguments[i].kind == NB_NEW_ID) && arguments[i].o &&
+            CONTAINER(arguments[i].o, struct wl_resource, object)->client != client)
+            status = NB_FOREIGN_OBJECT;
+    if (status == NB_OK) {
+        trace_message(resource, true, opcode, arguments);
+        status = client->is_inside ? hand_over(&client->display->core, &sender, opcode, &packed) : NB_CLOSED;
+    }
     packed_end(&packed, status == NB_OK);
     if (status == NB_OK && is_queued)
         client->queued += packed.size;
-    client->has_error = status != NB_OK && status != NB_CLOSED;
-    if (!client->has_error)
-        trace_message(resource, true, opcode, arguments);
-    else if (status == NB_FOREIGN_OBJECT)
+    if (status == NB_OK && is_queued && sender.interface == NB_INTERFACE_CALLBACK && !is_of_server(sender.number))
+        client->queued += SIZE_OF_DELETE_ID; /* which the session sends with its end */
+    client->has_error = client->has_error || (status != NB_OK && status != NB_CLOSED);
+    if (status == NB_FOREIGN_OBJECT)
         log_line("compositor bug: The compositor tried to use an object from one client in a '%s.%s' for a different "
                  "client.\n",
                  resource->object.interface->name, message->name);
-    else
+    else if (status != NB_OK && status != NB_CLOSED)
         log_line("error marshalling arguments for %s%s%s\n", message->name, packed.fault[0] ? packed.fault : ": ",
                  packed.fault[0] ? "" : nb_status_text(status));
+    client_let_go(client);
 }
 
 EXPORT void wl_resource_post_event_array(struct wl_resource *resource, uint32_t opcode, union wl_argument *args)

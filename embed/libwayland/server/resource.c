@@ -61,8 +61,6 @@ static bool find_object(struct wl_resource *resource, int version, uint32_t id, 
                                             (uint64_t)(uintptr_t)resource, object) == NB_OK;
 }
 
-enum { SIZE_OF_DELETE_ID = 12 };
-
 /* The client is told that its number is free, once something is posted. After an error the object stays, since the client is
  * told nothing more; so it does without memory, and its client ends. Then it points to nothing. So does the display's, but
  * the client goes on. */

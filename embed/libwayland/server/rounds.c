@@ -17,11 +17,12 @@ static void watch_for(struct wl_client *client, bool is_full)
     wl_event_source_fd_update(client->source, WL_EVENT_READABLE | (is_full ? WL_EVENT_WRITABLE : 0u));
 }
 
-/* Whether there is only what the program has queued, and that numbers are free: that does not wake the client. */
+/* Whether there is only what the program has queued, and that numbers are free: that does not wake the client. But where it
+ * may have few objects it needs the numbers. */
 static bool may_wait(const struct wl_client *client)
 {
     nb_waiting waiting;
-    return client->queued > 0 && client->queued < LIBWAYLAND_ROOM &&
+    return client->display->object_limit == 0 && client->queued > 0 && client->queued < LIBWAYLAND_ROOM &&
            nb_server_waiting(&client->display->core, &client->id, &waiting) == NB_OK &&
            waiting.to_send.bytes <= client->queued;
 }

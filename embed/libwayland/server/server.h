@@ -108,6 +108,7 @@ struct wl_display {
     int wakeup; /* an eventfd, by which wl_display_terminate ends a wait */
     struct wl_event_source *wakeup_source;
     uint32_t serial;
+    uint32_t object_limit; /* of each client; 0 is none */
     struct wl_list clients, leaving, globals, sockets, loggers;
     struct wl_list registries; /* of all clients, the newest first */
     struct wl_signal destroy_signal, client_created_signal;
@@ -142,6 +143,7 @@ const char *client_read(struct wl_client *client);
 void display_settle(struct wl_display *display);
 
 /* resource.c */
+enum { SIZE_OF_DELETE_ID = 12 }; /* bytes */
 /* The resource of a client's display, whose object the session makes by itself. NULL without memory. */
 struct wl_resource *resource_of_display(struct wl_client *client);
 /* Gives a resource its number and its object of the session. A client that the session has no more gets one by number

@@ -1,6 +1,7 @@
 /* The names of libwayland-server 1.22 to 1.24, which the library of 1.21 does not have: each by what its documentation
  * says; and the setting of this library alone. It is linked with it alone. The last line is `N passed, M failed`. */
 #include "../server/world.h"
+#include <sys/resource.h>
 
 /* Newer headers declare these, too. */
 void wl_client_add_destroy_late_listener(struct wl_client *of, struct wl_listener *listener);
@@ -257,6 +258,67 @@ static void fixed(void)
     check(recv(peer, came, sizeof came, MSG_DONTWAIT) > 0 && came[0] == 2, "its number can be used again");
 }
 
+/* ======== What the log's handler and a logger may do, and hear */
+
+static bool is_to_end;
+static void end_thing(const char *format, va_list list)
+{
+    (void)format;
+    (void)list;
+    if (is_to_end)
+        wl_resource_destroy(thing);
+    is_to_end = false;
+}
+
+/* A request with a null that may not be, whose object the log's handler destroys: delete_id, then the error. */
+static void destroyed_by_the_log(void)
+{
+    begin_with_thing();
+    wl_log_set_handler_server(end_thing);
+    is_to_end = true;
+    request(3, THING_STRINGS, "ss", NULL, NULL);
+    dispatch_all();
+    check(recv(peer, came, sizeof came, MSG_DONTWAIT) > 32 && came[2] == 3 && came[3] == 1 && came[5] == 1 &&
+              strcmp((char *)(came + 8), "invalid arguments for thing@3.strings") == 0,
+          "the error names an object that the log's handler has destroyed");
+}
+
+static int events_heard;
+static void hear(void *data, enum wl_protocol_logger_type type, const struct wl_protocol_logger_message *message)
+{
+    (void)message;
+    if (type == WL_PROTOCOL_LOGGER_EVENT && ++events_heard == *(int *)data)
+        wl_client_destroy(client);
+}
+
+/* 1,024 descriptors wait for a client. The event with one more is heard of, too. */
+static void heard_of_the_refused(void)
+{
+    struct rlimit files = { 4096, 4096 };
+    int never = 0;
+    if (setrlimit(RLIMIT_NOFILE, &files) < 0)
+        exit(9);
+    begin_with_thing();
+    struct wl_protocol_logger *logger = wl_display_add_protocol_logger(display, hear, &never);
+    for (int i = 0; i < 1026; i++)
+        wl_resource_post_event(thing, THING_TOLD_DESCRIPTOR, peer);
+    check(events_heard == 1025, "a logger hears of an event that is refused for its descriptors, and of none after it");
+    wl_protocol_logger_destroy(logger);
+    wl_client_destroy(client);
+}
+
+static void ended_by_a_logger(void)
+{
+    int first = 1;
+    begin_with_thing();
+    events_heard = 0;
+    struct wl_protocol_logger *logger = wl_display_add_protocol_logger(display, hear, &first);
+    wl_resource_post_event(thing, THING_TOLD_NUMBERS, 1, 2, 3);
+    check(events_heard == 1 && wl_list_empty(wl_display_get_client_list(display)),
+          "a logger may end the client of the event that it hears of");
+    wl_protocol_logger_destroy(logger);
+}
+
 /* ======== How many objects a client may have */
 
 static bool is_told_of_too_many(void)
@@ -278,9 +340,25 @@ static void object_limit(const char *limit, bool is_sync, bool is_refused)
     check(wl_list_empty(wl_display_get_client_list(display)) == is_refused, "and the client ends");
 }
 
+/* Whether a client is told that a number is free though nothing is posted. */
+static bool is_told_at_once(void)
+{
+    begin_with_thing();
+    recv(peer, came, sizeof came, MSG_DONTWAIT);
+    request(3, THING_MAKE, "w", 4);
+    request(4, PART_DESTROY, "");
+    dispatch_all();
+    return recv(peer, came, sizeof came, MSG_DONTWAIT) == 12 && came[0] == 1 && (came[1] & 0xffff) == 1 && came[2] == 4;
+}
+
 static void object_limits(void)
 {
-    static const char *const wrong[] = { "", "many", "12x", "-1", "4294967296", "99999999999999999999" };
+    static const char *const wrong[] = { "",           "many",                 "12x", "-1", "4294967296",
+                                         " 5",         "+5",                   "5 ",  "0x5", "-18446744073709551615",
+                                         "4294967301", "99999999999999999999" };
+    check(!is_told_at_once(), "that a number is free waits until something is posted");
+    setenv("NUMBYROGA_OBJECT_LIMIT", "300", 1);
+    check(is_told_at_once(), "but not while there is a limit of objects");
     object_limit("4", false, false);
     object_limit("4", true, false);
     object_limit("3", false, true);
@@ -307,6 +385,9 @@ int main(void)
     buffer_sizes();
     kept_buffers();
     fixed();
+    destroyed_by_the_log();
+    heard_of_the_refused();
+    ended_by_a_logger();
     object_limits();
     fprintf(out, "%d passed, %d failed\n", passed, failed);
     fclose(out);

@@ -55,6 +55,20 @@ static void queued(int which)
     printf("  %s\n", recv(peer, came, sizeof came, MSG_DONTWAIT) > 0 ? "the rest came" : "none came");
 }
 
+/* A callback that ends with what is queued, of the client's numbers or of the server's. */
+static void queued_done(int which)
+{
+    begin_with_thing();
+    struct wl_resource *done = wl_resource_create(client, &wl_callback_interface, 1, which);
+    wl_resource_queue_event(done, 0, 7);
+    turn();
+    if (which != 0)
+        wl_resource_destroy(done);
+    turn();
+    wl_resource_post_event(thing, THING_NOTHING);
+    turn();
+}
+
 static void made_by_the_server(int which)
 {
     (void)which;
@@ -98,6 +112,21 @@ static void impossible(int which)
     request(3, THING_NUMBERS, "www", 1, 2, 3);
     turn();
     show();
+}
+
+/* An object of another display's client, of the same number; and one of a client that has asked for nothing yet. */
+static void foreign(int which)
+{
+    int theirs;
+    begin_with_thing();
+    struct wl_resource *other = thing;
+    if (which == 0)
+        begin_with_thing();
+    else
+        other = wl_client_get_object(connect_client(&theirs), 1);
+    wl_resource_post_event(thing, THING_TOLD_ANY, other);
+    wl_resource_post_event(thing, THING_NOTHING);
+    turn();
 }
 
 /* Two clients have objects of one number. */
@@ -249,6 +278,19 @@ static void long_error(int which)
     printf("  %zd bytes, a text of %u\n", length, came[4]);
 }
 
+/* The program makes an object of the number of one that it destroys after the error. */
+static void number_after_an_error(int which)
+{
+    begin_with_thing();
+    request(3, THING_MAKE, "w", 4);
+    turn();
+    wl_resource_post_error(thing, 1, "an error");
+    wl_resource_destroy(part);
+    struct wl_resource *made = wl_resource_create(client, which == 0 ? &part_interface : &thing_interface, 1, 4);
+    printf("  %s\n", made ? "made" : "not made");
+    turn();
+}
+
 static void post_error(struct wl_resource *resource)
 {
     wl_resource_post_error(resource, 7, "in the handler");
@@ -269,6 +311,8 @@ const struct test event_tests[] = { { "event-kinds", kinds, 0 },
                                     { "event-forms", forms, 0 },
                                     { "queued-events", queued, 10 },
                                     { "queued-events", queued, 300 },
+                                    { "queued-done", queued_done, 0 },
+                                    { "queued-done", queued_done, 4 },
                                     { "made-by-the-server", made_by_the_server, 0 },
                                     { "impossible-event", impossible, 0 },
                                     { "impossible-event", impossible, 1 },
@@ -276,6 +320,8 @@ const struct test event_tests[] = { { "event-kinds", kinds, 0 },
                                     { "impossible-event", impossible, 3 },
                                     { "impossible-event", impossible, 4 },
                                     { "impossible-event", impossible, 5 },
+                                    { "foreign-object", foreign, 0 },
+                                    { "foreign-object", foreign, 1 },
                                     { "two-clients", two_clients, 0 },
                                     { "big-event", big_event, 4000 },
                                     { "big-event", big_event, 5000 },
@@ -294,5 +340,7 @@ const struct test event_tests[] = { { "event-kinds", kinds, 0 },
                                     { "error-before-another-end", error_before_another_end, 1 },
                                     { "long-error", long_error, 100 },
                                     { "long-error", long_error, 1500 },
+                                    { "number-after-an-error", number_after_an_error, 0 },
+                                    { "number-after-an-error", number_after_an_error, 1 },
                                     { "error-in-a-handler", error_in_a_handler, 0 },
                                     { 0 } };

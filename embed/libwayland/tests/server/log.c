@@ -54,6 +54,24 @@ static void logger(int which)
     wl_display_destroy(display);
 }
 
+static void say_more(void *data, enum wl_protocol_logger_type type, const struct wl_protocol_logger_message *message)
+{
+    tell(data, type, message);
+    if (type == WL_PROTOCOL_LOGGER_EVENT && message->message_opcode == THING_TOLD_NUMBERS)
+        wl_resource_post_event(thing, THING_NOTHING);
+}
+
+/* A logger that hears of an event posts another one. */
+static void told_before_it_is_sent(int which)
+{
+    (void)which;
+    begin_with_thing();
+    struct wl_protocol_logger *one = wl_display_add_protocol_logger(display, say_more, "one");
+    wl_resource_post_event(thing, THING_TOLD_NUMBERS, 1, 2, 3);
+    turn();
+    wl_protocol_logger_destroy(one);
+}
+
 /* Objects that the program ends: one of the client's numbers, and one of the server's. */
 static void told_of_ends(int which)
 {
@@ -126,6 +144,7 @@ static void handler(int which)
 const struct test log_tests[] = {
     { "logger", logger, 0 },
     { "logger", logger, 1 },
+    { "told-before-it-is-sent", told_before_it_is_sent, 0 },
     { "told-of-ends", told_of_ends, 0 },
     { "told-of-ends", told_of_ends, 1 },
     { "told-of-refused", told_of_refused, 0 },
