@@ -1,7 +1,6 @@
 """What a program says with WAYLAND_DEBUG, to be compared line by line with what it says behind the guard: without the lines of globals that a
-policy hides, and without what differs from run to run. For that it has the code of embed/libwayland/tests/client/programs."""
+policy hides, and without what differs from run to run. For that it has the code of embed/libwayland/tests/logs.py."""
 
-import importlib.machinery
 import importlib.util
 import os
 import re
@@ -9,23 +8,22 @@ import sys
 
 from traffic import opened, rows
 
-PROGRAMS = f"{os.path.dirname(os.path.realpath(__file__))}/../../libwayland/tests/client/programs"
+LOGS = f"{os.path.dirname(os.path.realpath(__file__))}/../../libwayland/tests/logs.py"
 
 LINE = re.compile(r"\[ *\d+\.\d+\] (?:discarded )?(?: -> )?([^\s@]+)@\d+\.(\w+)\(")
 GLOBAL = re.compile(r'(\.(?:global|bind)\()(\d+)(, "([^"]*)", )(\d+)')
 
 
 def module(path):
-    """A script as a module."""
-    loader = importlib.machinery.SourceFileLoader("programs", os.path.realpath(path))
-    loaded = importlib.util.module_from_spec(importlib.util.spec_from_loader("programs", loader))
+    spec = importlib.util.spec_from_file_location("logs_of_libwayland", os.path.realpath(path))
+    loaded = importlib.util.module_from_spec(spec)
     written, sys.dont_write_bytecode = sys.dont_write_bytecode, True
-    loader.exec_module(loaded)
+    spec.loader.exec_module(loaded)
     sys.dont_write_bytecode = written
     return loaded
 
 
-programs = module(PROGRAMS)
+messages = module(LOGS).messages
 
 
 def through_policy(lines, policy, files):
@@ -54,7 +52,7 @@ def through_policy(lines, policy, files):
 def lines_of(text, policy=None, files=()):
     """The lines of a log, as they are to be compared. Without a policy none is taken out."""
     lines = [it for it in text.splitlines() if LINE.match(it)]
-    return [programs.hidden(it) for it in programs.counted(through_policy(lines, policy, files) if policy else lines)]
+    return messages(through_policy(lines, policy, files) if policy else lines)
 
 
 def difference(theirs, ours, runs_on):
