@@ -100,8 +100,8 @@ extern "C" {
 
 /* The version of this header. */
 #define NB_VERSION_MAJOR 0
-#define NB_VERSION_MINOR 9
-#define NB_VERSION_PATCH 1
+#define NB_VERSION_MINOR 10
+#define NB_VERSION_PATCH 0
 
 /* The same as one number, which grows with each version: `#if NB_VERSION >= 0x000200`. */
 #define NB_VERSION (NB_VERSION_MAJOR << 16 | NB_VERSION_MINOR << 8 | NB_VERSION_PATCH)

@@ -4,9 +4,9 @@ ghost use Rattle.std.specs.Prelude.{◌≡◌};
 
 const MAJOR: u32 = 0;
 
-const MINOR: u32 = 9;
+const MINOR: u32 = 10;
 
-const PATCH: u32 = 1;
+const PATCH: u32 = 0;
 /// The greatest bit of the version of a library that was built without a proof, for those who develop it.
 const UNPROVED: u32 = 0;
 
@@ -14,7 +14,7 @@ const UNPROVED: u32 = 0;
 /// number, and the patch.
 #[unsafe(no_mangle)]
 pub extern "C" fn nb_version() -> u32
-    ensures { result ≡ 0x000901 }
+    ensures { result ≡ 0x000a00 }
 {
     UNPROVED + MAJOR * 0x10000 + MINOR * 0x100 + PATCH
 }
