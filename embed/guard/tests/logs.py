@@ -10,6 +10,7 @@ from traffic import opened, rows
 
 LOGS = f"{os.path.dirname(os.path.realpath(__file__))}/../../libwayland/tests/logs.py"
 
+TIME = re.compile(r"^\[ *\d+\.\d+\] ")
 LINE = re.compile(r"\[ *\d+\.\d+\] (?:discarded )?(?: -> )?([^\s@]+)@\d+\.(\w+)\(")
 GLOBAL = re.compile(r'(\.(?:global|bind)\()(\d+)(, "([^"]*)", )(\d+)')
 
@@ -52,7 +53,7 @@ def through_policy(lines, policy, files):
 def lines_of(text, policy=None, files=()):
     """The lines of a log, as they are to be compared. Without a policy none is taken out."""
     lines = [it for it in text.splitlines() if LINE.match(it)]
-    return messages(through_policy(lines, policy, files) if policy else lines)
+    return messages(TIME.sub("", it) for it in (through_policy(lines, policy, files) if policy else lines))
 
 
 def difference(theirs, ours, runs_on):
