@@ -109,14 +109,15 @@ EXPORT void wl_display_run(struct wl_display *display)
     }
 }
 
-/* It may be called from a handler of signals: `errno` stays what it was. */
+/* It may be called from a handler of signals: `errno` stays what it was. Where nothing can be woken there is no display: a
+ * program that hands in another pointer would run on for ever. */
 EXPORT void wl_display_terminate(struct wl_display *display)
 {
     const uint64_t one = 1;
     int before = errno;
     display->is_running = false;
-    ssize_t written = write(display->wakeup, &one, sizeof one);
-    (void)written; /* if it is full, the wait ends as well */
+    if (write(display->wakeup, &one, sizeof one) < 0 && errno != EAGAIN) /* if it is full, the wait ends as well */
+        log_and_abort("wl_display_terminate: the display cannot be woken\n");
     errno = before;
 }
 

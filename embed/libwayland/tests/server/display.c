@@ -151,6 +151,10 @@ static void run_until(int which)
         wl_display_run(display);
         wl_display_run(display) /* the wakeup is still there? */;
         wl_event_source_remove(timer);
+    } else if (which == 2) {
+        for (int it = 2; it < 20; it++) /* so that the text of the error is not seen, either */
+            close(it);
+        wl_display_terminate(display);
     } else {
         wl_display_terminate(display);
         printf("  it was told before: %d\n", wl_event_loop_dispatch(loop, 1000));
@@ -196,6 +200,7 @@ const struct test display_tests[] = { { "serials", serials, 0 },
                                       { "connections", connections, 0 },
                                       { "connections", connections, 1 },
                                       { "run", run_until, 1 },
+                                      { "run", run_until, 2 },
                                       { "display-end", end, 0 },
                                       { "display-end", end, 1 },
                                       { "bad-client", bad_client, 0 },
