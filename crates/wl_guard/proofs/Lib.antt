@@ -15,4 +15,5 @@ mod Sound
 mod Spelled
 mod Tokens
 mod Waiting
+mod Within
 mod Worked

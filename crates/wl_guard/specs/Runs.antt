@@ -1,10 +1,12 @@
 -- Calls of a guard, one after another.
-use Rattle.std.specs.Prelude.{◌≡◌, ℕ, ◌+◌, List, [], ◌∷◌, ◌++◌, length, max, Some}
+use Rattle.std.specs.Prelude.{◌≡◌, ℕ, ◌+◌, Bool, List, [], ◌∷◌, ◌++◌, length, max, Some}
 use Rattle.std.specs.List.{sum_by}
 use Rattle.wl_wire.specs.declared.argument.Token.{Token}
+use Rattle.wl_wire.specs.declared.interface.InterfaceId.{InterfaceId}
 use Rattle.wl_link.specs.Exchange.{Queue, joined, nothing}
 use Rattle.wl_follow.specs.declared.side.Side.{Side}
 use Rattle.wl_follow.specs.declared.side.Side.TheVariants.{Client, Server}
+use Rattle.wl_guard.specs.Closure.{AreWithin}
 use Rattle.wl_guard.specs.Ends.{told_end}
 use Rattle.wl_guard.specs.Guard.{Arrives, GivesBack, GuardState, HangsUp, Sent, to_send}
 use Rattle.wl_guard.specs.Known.{Known}
@@ -75,6 +77,19 @@ abbrev pub AllPassUnder : PolicyState → Known → List Call → Known → Type
 AllPassUnder p k [] k' = k' ≡ k
 AllPassUnder p k (Came side came passages ∷ calls) k' = (mid : Known) × PassesUnder p side k passages mid × AllPassUnder p mid calls k'
 AllPassUnder p k (_ ∷ calls) k' = AllPassUnder p k calls k'
+
+-- Before each of these messages, and after the last, each object was of an interface of the set.
+abbrev pub WithinEach : (set : InterfaceId → Bool) (p : PolicyState) (side : Side) (k : Known) (xs : List Passage) (k' : Known) → PassesUnder p side k xs k' → Type 0
+WithinEach set p side k [] k' passed = AreWithin set k'.objects
+WithinEach set p side k (x ∷ xs) k' passed = AreWithin set k.objects × WithinEach set p side passed.0 xs k' passed.2
+
+-- so it was with those of all calls
+abbrev pub AllWithin : (set : InterfaceId → Bool) (p : PolicyState) (k : Known) (calls : List Call) (k' : Known) → AllPassUnder p k calls k' → Type 0
+AllWithin set p k [] k' passed = AreWithin set k'.objects
+AllWithin set p k (Came side came passages ∷ calls) k' passed = WithinEach set p side k passages passed.0 passed.1 × AllWithin set p passed.0 calls k' passed.2
+AllWithin set p k (WasSent side out ∷ calls) k' passed = AllWithin set p k calls k' passed
+AllWithin set p k (GaveBack token ∷ calls) k' passed = AllWithin set p k calls k' passed
+AllWithin set p k (HungUp ∷ calls) k' passed = AllWithin set p k calls k' passed
 
 -- the tokens that were given back
 abbrev pub back_in : Call → List Token

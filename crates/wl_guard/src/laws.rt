@@ -19,7 +19,7 @@ ghost use Rattle.wl_guard.specs.Known.{Known, nothing_known};
 ghost use Rattle.wl_guard.specs.Passages.{all_pieces, all_sent};
 ghost use Rattle.wl_guard.specs.Policy.{Given, GivesAll, IsSound, LetsNoneChoose, PolicyState, new_policy};
 ghost use Rattle.wl_guard.specs.Requests.{BindsTold};
-ghost use Rattle.wl_guard.specs.Runs.{AllPassUnder, Call, Leads, all_came, all_out, all_passed, error_to, kept_weight, most_came, weight_in, weight_out};
+ghost use Rattle.wl_guard.specs.Runs.{AllPassUnder, AllWithin, Call, Leads, all_came, all_out, all_passed, error_to, kept_weight, most_came, weight_in, weight_out};
 ghost use Rattle.wl_guard.specs.declared.policy.Limits.{Limits};
 ghost use Rattle.wl_guard.specs.declared.session.Told.{Told};
 
@@ -79,6 +79,13 @@ pub fn only_globals_are_hidden()
 pub fn objects_stay_within_the_policy()
     ensures { (p : PolicyState) (set : InterfaceId → Bool) (calls : List Call) (after : GuardState) → IsClosed p set → Leads p new_guard calls after
         → after.end ≡ None → AreWithin set after.known.objects }
+{}
+
+/// And so is each object from first to last: before and after each message that was passed, also where several came at once, and whether
+/// the connection has ended or not.
+pub fn each_object_was_within_the_policy()
+    ensures { (p : PolicyState) (set : InterfaceId → Bool) (calls : List Call) (last : Known) → IsClosed p set
+        → (passed : AllPassUnder p nothing_known calls last) → AllWithin set p nothing_known calls last passed }
 {}
 
 /// As long as the connection has not ended, nothing is kept beyond the limits, and the numbers that the client has ended are those of
