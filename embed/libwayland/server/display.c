@@ -109,8 +109,8 @@ EXPORT void wl_display_run(struct wl_display *display)
     }
 }
 
-/* It may be called from a handler of signals: `errno` stays what it was. Where nothing can be woken there is no display: a
- * program that hands in another pointer would run on for ever. */
+/* It may be called from a handler of signals: `errno` stays what it was. Where nothing can be woken there is no
+ * display: a program that hands in another pointer would run on for ever. */
 EXPORT void wl_display_terminate(struct wl_display *display)
 {
     const uint64_t one = 1;

@@ -136,7 +136,8 @@ class Column:
 
     def number(self):
         """That of the compositor's process, which may be another's child."""
-        return next(it for it in running.inhabitants(self.folder) if running.name_of(it) == self.compositor.words[0][:15])
+        name = self.compositor.words[0][:15]
+        return next((it for it in running.inhabitants(self.folder) if running.name_of(it) == name), self.process.pid)
 
     def ended(self):
         """Asks the compositor to end. Returns its status. Cage 0.1.4 ends with its first client: when it gets a signal, it hands another
@@ -186,12 +187,9 @@ def read(path):
         return file.read()
 
 
-def run(column, program):
-    """Runs a program to its end, or until it has come to rest, or its time is up."""
-    home, library, words = column.home(), column.library, program.words
-    more = running.told_by_loader(home)
-    if program.is_pictured and column.compositor.picture and not column.empty:
-        column.empty = column.picture()
+def begun(column, program, home):
+    """Starts a program. Returns its process, and the folder with the libraries that it has to have."""
+    library, words, more = column.library, program.words, running.told_by_loader(home)
     if program.is_of_x:
         more["DISPLAY"] = column.display()
     if library and program.by_runner:
@@ -199,11 +197,20 @@ def run(column, program):
         shutil.copytree(column.library, library)
         more["LD_LIBRARY_PATH"] = ""
         words = [shutil.copy(f"{HERE}/../numbyroga-run", home), *words]
-    column.log.taken()
-    paths = lambda: [f"{home}/{it}" for it in sorted(os.listdir(home)) if it.endswith(".log")]
     with open(f"{home}/output", "wb") as out, open(f"{home}/program.log", "wb") as err:
-        process = subprocess.Popen(words, env={**column.environment(home), **more}, cwd=home, stdout=out, stderr=err, stdin=subprocess.DEVNULL,
-                                   start_new_session=True, **column.user)
+        return subprocess.Popen(words, env={**column.environment(home), **more}, cwd=home, stdout=out, stderr=err, stdin=subprocess.DEVNULL,
+                                start_new_session=True, **column.user), library
+
+
+def run(column, program):
+    """Runs a program to its end, or until it has come to rest, or its time is up. Of one that runs on, the logs are those until then: what
+    comes later, and for the pictures, is left out."""
+    home = column.home()
+    if program.is_pictured and column.compositor.picture and not column.empty:
+        column.empty = column.picture()
+    column.log.taken()
+    process, library = begun(column, program, home)
+    paths = lambda: [f"{home}/{it}" for it in sorted(os.listdir(home)) if it.endswith(".log")]
     rests = column.come_to_rest(math.inf if program.ends else QUIET, program.seconds, process, paths)
     status = RUNS_ON if process.poll() is None else process.returncode
     if status != RUNS_ON:
@@ -213,10 +220,10 @@ def run(column, program):
     picture = column.settled(process) if column.empty and program.is_pictured else None
     running.end(process, home)
     column.come_to_rest(0.1)
-    errors = [f"{name}: {line}" for name, (_, lines) in texts.items() for line in lines]
     hide = lambda text: re.sub(r"\d+", "N", text.replace(home, "HOME").replace(column.folder, "FOLDER"))
+    errors = sorted(hide(f"{name}: {line}") for name, (_, lines) in texts.items() for line in lines)
     output = read(f"{home}/output")
-    return Run(status, hide(output) if status == RUNS_ON else output, sorted(map(hide, errors)), told, picture, rests,
+    return Run(status, hide(output) if status == RUNS_ON else output, errors, told, picture, rests,
                faults_of(running.loaded(home), library, None if program.is_of_x else "client"))
 
 
